@@ -1,5 +1,5 @@
 pub mod Rows
 pub mod Worlds
 pub mod Commits
-pub mod Stepping
+pub mod Steps
 pub mod Signatures

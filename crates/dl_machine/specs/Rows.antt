@@ -15,11 +15,11 @@ pub record Cores : Type 0 where
   pub held : List (Option Occupant)
 
 -- the cores are alike
-pub record IsAlike (words lines depth : ℕ) (c : Core) : Type 0 where
+pub record IsAlike (words lines chunks : ℕ) (c : Core) : Type 0 where
   pub most : c.most ≡ 4096
   pub capacity : c.capacity ≡ words
   pub bits : c.bits ≡ lines
-  pub depth : c.depth ≡ depth
+  pub depth : c.depth ≡ chunks
 
 pub record AreCores (capacity bits depth : ℕ) (row : List Core) : Type 0 where
   pub some_core : 1 ≤ length row

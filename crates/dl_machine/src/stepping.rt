@@ -19,7 +19,7 @@ use spec_protocol::Reply;
 impl<G: Sig> State<G> {
     // The core runs one instruction.
     #[inline(always)]
-    #[tactic(auto, using(crate::proofs::Stepping::step_waits), unfolding(spec_protocol::specs::machine::Stepping::stepping))]
+    #[tactic(auto, using(crate::proofs::Steps::step_waits), unfolding(spec_protocol::specs::machine::Stepping::stepping))]
     pub(crate) fn step(&mut self, core: u8) -> Reply
         requires core { core < length self.old.cores }
         requires ready { IsReady self.old }

@@ -118,7 +118,7 @@ some_in_all b capacity How.Overflow ch closes some is whole = let r = closes.roo
 some_in_all b capacity How.Cut ch closes some is whole = let c = closes.cut is in omega arith
 
 part_in : (role : Role) (z s n capacity : ℕ) (ts : List Parts) (k : ℕ) (how : How) (ch : Chunk) → IsSoundRole z n ts role → IsTurnOf k role → slice_get ts k ≡ Some ch.start → ch.done.thread.commits ≡ ch.start.commits
-    → LimitFits s role k ch.start ch.limit → Closes capacity ch → 0 < capacity → ch.closed ≡ Some how → asks_serial ch role ≡ false → IsPartIn role k how ch
+    → LimitFits role (limit_of s role k ch.start) ch.limit → Closes capacity ch → 0 < capacity → ch.closed ≡ Some how → asks_serial ch role ≡ false → IsPartIn role k how ch
 part_in Plain z s n capacity ts k how ch sound turn there commits fits closes some closed whole = tt
 part_in (Record recording) z s n capacity ts k how ch sound turn there commits fits closes some closed whole = tt
 part_in (Replay b) z s n capacity ts k how ch sound turn there commits fits closes some closed whole =

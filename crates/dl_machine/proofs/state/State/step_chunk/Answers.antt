@@ -4,13 +4,12 @@ use Rattle.spec_engine.specs.Flights.{at}
 use Rattle.spec_protocol.specs.machine.Spheres.{is_stopped}
 use Rattle.spec_protocol.specs.machine.Stepping.{reply_of_step, stepping}
 use Rattle.spec_protocol.specs.machine.World.{World, sphere_at}
-use Rattle.dl_chunk.specs.Pairs.{pair_step}
 use Rattle.dl_sphere.specs.SizedSpheres.{SizedSphere}
-use Rattle.dl_machine.specs.Cores.{pair_in, seen}
+use Rattle.dl_machine.specs.Cores.{seen}
 use Rattle.dl_machine.specs.Ready.{HasRoom, IsReady}
 use Rattle.dl_machine.specs.Requests.{Runs}
 use Rattle.dl_machine.specs.States.{left, world_in}
-use Rattle.dl_machine.proofs.Stepping.{HasLimit, can_step_held, core_here, named, reply_done, step_of_pair, world_done}
+use Rattle.dl_machine.proofs.Steps.{HasLimit, can_step_held, named, reply_done, step_of_pair, stepped_pair, world_done}
 use Rattle.dl_machine.proofs.state.State.step_chunk.Goals as goal
 
 pub step-stepped-requires-clause-runs : goal.step-stepped-requires-clause-runs
@@ -40,11 +39,10 @@ returns-clause-reply g c =
     let has : HasLimit w c.args.held limit = subst (λ (u : World). HasLimit u c.args.held limit) (sym view) c.younger_limit-limit.ensures.value in
     let m = c.memory-memory.result.now in
     let memory : m ≡ (sphere_at w c.args.held.sphere).memory = c.memory-memory.ensures ∙ ap (λ (p : SizedSphere). p.sphere.memory) c.get.ensures in
-    let step = λ h. pair_step m w.slots core limit (pair_in (core_here w core) h) in
     let after = step_of_pair w core (at w.cores core) c.args.held limit m ready refl held going runs has memory in
-    let reply = named reply_of_step (λ h. (step h).reply) (at w.cores core) c.step-stepped.result c.step-stepped.ensures.reply in
+    let reply = named reply_of_step (λ h. (stepped_pair w core limit m h).reply) (at w.cores core) c.step-stepped.result c.step-stepped.ensures.reply in
     c.reply_of_step.ensures
-    ∙ reply_done w core (λ h. reply_of_step (step h).reply) (λ h. (step h).pair) (at w.cores core) _ _ reply after
+    ∙ reply_done w core (λ h. reply_of_step (stepped_pair w core limit m h).reply) (λ h. (stepped_pair w core limit m h).pair) (at w.cores core) _ _ reply after
     ∙ ap (λ (u : World). (stepping u core).reply) view
 
 pub returns-clause-world : goal.returns-clause-world
@@ -61,7 +59,6 @@ returns-clause-world g c =
     let has : HasLimit w c.args.held limit = subst (λ (u : World). HasLimit u c.args.held limit) (sym view) c.younger_limit-limit.ensures.value in
     let m = c.memory-memory.result.now in
     let memory : m ≡ (sphere_at w c.args.held.sphere).memory = c.memory-memory.ensures ∙ ap (λ (p : SizedSphere). p.sphere.memory) c.get.ensures in
-    let step = λ h. pair_step m w.slots core limit (pair_in (core_here w core) h) in
     let after = step_of_pair w core (at w.cores core) c.args.held limit m ready refl held going runs has memory in
-    world_done x.cores x.spheres x.flights x.devices x.counts x.points.items core (λ h. reply_of_step (step h).reply) (λ h. (step h).pair) (at w.cores core) c.step-stepped.new.self _ c.step-stepped.ensures.core after
+    world_done x.cores x.spheres x.flights x.devices x.counts x.points.items core (λ h. reply_of_step (stepped_pair w core limit m h).reply) (λ h. (stepped_pair w core limit m h).pair) (at w.cores core) c.step-stepped.new.self _ c.step-stepped.ensures.core after
     ∙ ap (λ (u : World). left (stepping u core)) view

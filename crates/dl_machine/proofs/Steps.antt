@@ -18,7 +18,7 @@ use Rattle.spec_protocol.specs.machine.Placing.{replays}
 use Rattle.spec_protocol.specs.machine.Spheres.{Role, halves, is_stopped, limit_after, limit_after_in}
 use Rattle.spec_protocol.specs.machine.Stepping.{cut_held, cut_in, cutting, may_follow, reply_of_cut, reply_of_step, step_held, step_younger, stepping, younger_afresh, younger_for}
 use Rattle.spec_protocol.specs.machine.World.{After, Occupant, World, answered, sphere_at, with_core}
-use Rattle.dl_chunk.specs.Pairs.{Pair, begins_younger, can_step, following, can_be_followed, pair_cut, pair_cut_of, pair_step, runs_younger, younger_or}
+use Rattle.dl_chunk.specs.Pairs.{Pair, PairCutting, PairStepping, begins_younger, can_step, following, can_be_followed, pair_cut, pair_cut_of, pair_step, runs_younger, younger_or}
 use Rattle.dl_machine.specs.Cores.{CanStep, CanStepHeld, Core, pair_in, seen, waits, waits_for, with_pair}
 use Rattle.dl_machine.specs.declared.one_core.Held.{Held as Seen}
 use Rattle.dl_machine.specs.Ready.{HasRoom, IsReady}
@@ -86,11 +86,13 @@ follows_as w c h limit ready is le =
 abbrev pub done_to : World → (core : ℕ) → (Occupant → Reply) → (Occupant → Pair) → Occupant → After
 done_to w c r f h = answered (with_core w c (Some (with_pair h (f h)))) (r h)
 
--- what the step of a pair leaves, over this memory
+-- the step of what a core holds, over this memory
+abbrev pub stepped_pair : World → (core limit : ℕ) → List ℕ → Occupant → PairStepping
+stepped_pair w c limit m h = pair_step m w.slots c limit (pair_in (core_here w c) h)
+
+-- what it leaves
 abbrev pub pair_stepped : World → (core limit : ℕ) → List ℕ → Occupant → After
-pair_stepped w c limit m h =
-    let s = λ h. pair_step m w.slots c limit (pair_in (core_here w c) h) in
-    done_to w c (λ h. reply_of_step (s h).reply) (λ h. (s h).pair) h
+pair_stepped w c limit m = done_to w c (λ h. reply_of_step (stepped_pair w c limit m h).reply) (λ h. (stepped_pair w c limit m h).pair)
 
 younger_runs : (w : World) (c : ℕ) (h : Occupant) (limit : ℕ) (y : Option Chunk) → let p = sphere_at w h.chunk.sphere in waits_for w.numbers.depth (replays p.role) h y ≡ false → younger_afresh w.numbers p.role h ≡ following limit h.chunk
     → step_younger w c h (younger_for w.numbers p.role h y)
@@ -187,11 +189,13 @@ step_of_pair w c (Some h) held limit m ready is eh going runs has em =
 
 -- ---- Cut
 
--- what the cut of a pair leaves
+-- the cut of what a core holds
+abbrev pub cut_pair : World → (core : ℕ) → Occupant → PairCutting
+cut_pair w c h = pair_cut (pair_in (core_here w c) h)
+
+-- what it leaves
 abbrev pub pair_cut_off : World → (core : ℕ) → Occupant → After
-pair_cut_off w c h =
-    let d = λ h. pair_cut (pair_in (core_here w c) h) in
-    done_to w c (λ h. reply_of_cut (d h).reply) (λ h. (d h).pair) h
+pair_cut_off w c = done_to w c (λ h. reply_of_cut (cut_pair w c h).reply) (λ h. (cut_pair w c h).pair)
 
 cut_by : (w : World) (c : ℕ) (h : Occupant) (y : Option Chunk) → cut_in w c h y ≡ (let d = pair_cut_of (pair_in (core_here w c) h) y in answered (with_core w c (Some (with_pair h d.pair))) (reply_of_cut d.reply))
 cut_by w c h None = refl
