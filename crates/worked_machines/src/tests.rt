@@ -19,6 +19,7 @@ use std::test::Fail;
 mod programs;
 mod recordings;
 mod replays;
+mod two_chunks;
 
 /// A machine with signatures of 64 bits: its events and those that then finish it, with their replies, and what it then
 /// holds.
@@ -26,6 +27,7 @@ mod replays;
 struct Row {
     name: &'static str,
     cores: u8,
+    depth: u8,
     window: u8,
     s: u32,
     capacity: u32,
@@ -77,6 +79,14 @@ fn recordings_go_as_they_were_worked(rt: HostRuntime) -> Result<(), Fail> {
 #[test]
 fn replays_go_as_they_were_worked(rt: HostRuntime) -> Result<(), Fail> {
     for row in replays::ROWS {
+        goes_as_worked(&rt, rt.alloc(), row)?;
+    }
+    Ok(())
+}
+
+#[test]
+fn two_chunks_of_a_core_go_as_they_were_worked(rt: HostRuntime) -> Result<(), Fail> {
+    for row in two_chunks::ROWS {
         goes_as_worked(&rt, rt.alloc(), row)?;
     }
     Ok(())
@@ -188,6 +198,7 @@ fn is_within(setup: &Setup) -> bool
         && (16..=4096).contains(&setup.s)
         && (1..=4096).contains(&setup.capacity)
         && setup.bits == 64
+        && (1..=2).contains(&setup.depth)
 }
 
 fn are_few(count: usize) -> bool
@@ -210,6 +221,7 @@ fn setup_of(alloc: Global, row: &Row) -> Result<Setup, Fail> {
         s: row.s,
         capacity: row.capacity,
         bits: 64,
+        depth: row.depth,
         seed: 0,
         input: Bytes::from_slice(alloc, row.input)?,
         spheres,
