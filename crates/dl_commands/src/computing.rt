@@ -50,7 +50,7 @@ fn setup_of(plan: &Plan, input: Vec<u8>, spheres: Vec<SphereSetup>) -> Setup
         s: plan.sizes.chunk,
         capacity: plan.sizes.buffer,
         bits: plan.sizes.signature,
-        depth: 1,
+        depth: plan.sizes.depth,
         seed: plan.sizes.seed,
         input: Bytes::from_vec(input),
         spheres: Sequence::from_vec(spheres),

@@ -60,7 +60,8 @@ sizes_least en s e =
     let chunk = then_some (limited 16 4096 en.top.chunk) _ s cores.2 in
     let buffer = then_some (limited 1 4096 en.top.buffer) _ s chunk.2 in
     let window = then_some (limited 1 8 en.top.window) _ s buffer.2 in
-    let signature = then_some (signature_of en.top.signature) _ s window.2 in
+    let depth = then_some (limited 1 2 (unwrap_or en.top.depth (pos 1))) _ s window.2 in
+    let signature = then_some (signature_of en.top.signature) _ s depth.2 in
     let seed = then_some (limited 0 9223372036854775807 (unwrap_or en.top.seed (pos 0))) _ s signature.2 in
     subst AreLeast (same_Some _ s seed.2) (record {
       cores = limited_low 1 8 en.top.cores cores.0 cores.1;

@@ -66,7 +66,7 @@ events_of seed (EventsDrawn n) = Ok (schedule n (seeded seed))
 -- ---- the machine's setup
 
 abbrev pub numbers_of : Sizes → Numbers
-numbers_of s = record { s = s.chunk; capacity = s.buffer; bits = s.signature; depth = 1 }
+numbers_of s = record { s = s.chunk; capacity = s.buffer; bits = s.signature; depth = s.depth }
 
 abbrev pub setup_of : PlanValues → (input : List ℕ) → List SphereSetup → Setup
 setup_of p input spheres =

@@ -16,10 +16,10 @@ use std::alloc::{AllocError, Global};
 use std::process::Abort;
 use std::test::Fail;
 
-mod depths;
 mod programs;
 mod recordings;
 mod replays;
+mod two_chunks;
 
 /// A machine with signatures of 64 bits: its events and those that then finish it, with their replies, and what it then
 /// holds.
@@ -27,6 +27,7 @@ mod replays;
 struct Row {
     name: &'static str,
     cores: u8,
+    depth: u8,
     window: u8,
     s: u32,
     capacity: u32,
@@ -70,7 +71,7 @@ const T1: Actor = Actor::Thread(1);
 #[test]
 fn recordings_go_as_they_were_worked(rt: HostRuntime) -> Result<(), Fail> {
     for row in recordings::ROWS {
-        goes_as_worked(&rt, rt.alloc(), row, 1)?;
+        goes_as_worked(&rt, rt.alloc(), row)?;
     }
     Ok(())
 }
@@ -78,22 +79,22 @@ fn recordings_go_as_they_were_worked(rt: HostRuntime) -> Result<(), Fail> {
 #[test]
 fn replays_go_as_they_were_worked(rt: HostRuntime) -> Result<(), Fail> {
     for row in replays::ROWS {
-        goes_as_worked(&rt, rt.alloc(), row, 1)?;
+        goes_as_worked(&rt, rt.alloc(), row)?;
     }
     Ok(())
 }
 
 #[test]
-fn machines_of_two_chunks_go_as_they_were_worked(rt: HostRuntime) -> Result<(), Fail> {
-    for row in depths::ROWS {
-        goes_as_worked(&rt, rt.alloc(), row, 2)?;
+fn two_chunks_of_a_core_go_as_they_were_worked(rt: HostRuntime) -> Result<(), Fail> {
+    for row in two_chunks::ROWS {
+        goes_as_worked(&rt, rt.alloc(), row)?;
     }
     Ok(())
 }
 
-// Once by the events that are told, and once more by `finish`, which comes to as many.
-fn goes_as_worked(rt: &impl Abort, alloc: Global, row: &Row, depth: u8) -> Result<(), Fail> {
-    let mut stepped = machine_of(alloc, row, depth)?;
+// Once by the events that are listed, and once more by `finish`, which takes as many events.
+fn goes_as_worked(rt: &impl Abort, alloc: Global, row: &Row) -> Result<(), Fail> {
+    let mut stepped = machine_of(alloc, row)?;
     for &(event, reply) in row.events {
         let answered = take(&mut stepped, event)?;
         assert!(rt; answered == Some(reply), "{}: {event:?}", row.name);
@@ -108,14 +109,14 @@ fn goes_as_worked(rt: &impl Abort, alloc: Global, row: &Row, depth: u8) -> Resul
         assert!(rt; answered == Some(reply), "{}: {event:?}", row.name);
     }
     assert!(rt; next_event(&stepped).is_none(), "{}", row.name);
-    let finished = finished(alloc, row, depth)?;
+    let finished = finished(alloc, row)?;
     assert!(rt; finished.counts() == stepped.counts(), "{}", row.name);
     have_lived(rt, alloc, &stepped, row)
 }
 
 // The machine once its events are taken and it is finished.
-fn finished(alloc: Global, row: &Row, depth: u8) -> Result<Machine<Banked>, Fail> {
-    let mut machine = machine_of(alloc, row, depth)?;
+fn finished(alloc: Global, row: &Row) -> Result<Machine<Banked>, Fail> {
+    let mut machine = machine_of(alloc, row)?;
     for &(event, _) in row.events {
         take(&mut machine, event)?;
     }
@@ -180,8 +181,8 @@ fn has_done(alloc: Global, commits: &[Commit], life: &Life) -> Result<bool, Allo
     Ok(done.as_slice() == life.commits && loads.as_slice() == life.loads)
 }
 
-fn machine_of(alloc: Global, row: &Row, depth: u8) -> Result<Machine<Banked>, Fail> {
-    let setup = setup_of(alloc, row, depth)?;
+fn machine_of(alloc: Global, row: &Row) -> Result<Machine<Banked>, Fail> {
+    let setup = setup_of(alloc, row)?;
     if !is_within(&setup) {
         return Err("a number is out of its limits".into());
     }
@@ -206,7 +207,7 @@ fn are_few(count: usize) -> bool
     1 <= count && count <= 8
 }
 
-fn setup_of(alloc: Global, row: &Row, depth: u8) -> Result<Setup, Fail> {
+fn setup_of(alloc: Global, row: &Row) -> Result<Setup, Fail> {
     let mut spheres = Sequence::new(alloc);
     for life in row.spheres {
         spheres.push(SphereSetup {
@@ -220,7 +221,7 @@ fn setup_of(alloc: Global, row: &Row, depth: u8) -> Result<Setup, Fail> {
         s: row.s,
         capacity: row.capacity,
         bits: 64,
-        depth,
+        depth: row.depth,
         seed: 0,
         input: Bytes::from_slice(alloc, row.input)?,
         spheres,

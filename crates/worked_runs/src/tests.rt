@@ -8,6 +8,7 @@ use std::fs;
 use std::process::Abort;
 use std::test::Fail;
 
+mod depths;
 mod instructions;
 mod narrow;
 mod pieces;

@@ -129,3 +129,101 @@ pub(crate) const LOADS_AND_STORES: &[u32] = &[
     0x10A0_2023,
     0xFFDF_F06F,
 ];
+
+// It spawns a thread at 36, and after one instruction loads a word over and over; that thread stores to the word over and
+// over.
+pub(crate) const LOADS_LATER_AND_STORES: &[u32] = &[
+    0x0010_0893,
+    0x0240_0513,
+    0x0000_0613,
+    0x0000_0073,
+    0x0000_0013,
+    0x1000_2283,
+    0xFFDF_F06F,
+    0x0000_0013,
+    0x0000_0013,
+    0x10A0_2023,
+    0xFFDF_F06F,
+];
+
+// It stores to the last word of the line after its first, goes there, and exits.
+pub(crate) const STORES_AHEAD: &[u32] = &[
+    0x0200_2E23,
+    0x0010_0293,
+    0x0180_006F,
+    0x0000_0013,
+    0x0000_0013,
+    0x0000_0013,
+    0x0000_0013,
+    0x0000_0013,
+    0x0020_0313,
+    0x0000_0893,
+    0x0000_0073,
+];
+
+// It stores a word, a byte of it and then a halfword, loads the word before and after the halfword, and exits.
+pub(crate) const STORES_IN_PARTS: &[u32] = &[
+    0x0010_0293,
+    0x1050_2023,
+    0x0AB0_0313,
+    0x1060_00A3,
+    0x1000_2383,
+    0x1060_1123,
+    0x1000_2403,
+    0x0000_0893,
+    0x0000_0073,
+];
+
+// It stores 0 to three words, and exits.
+pub(crate) const STORES_THREE_WORDS: &[u32] = &[
+    0x1000_2023,
+    0x1000_2223,
+    0x1000_2423,
+    0x0000_0893,
+    0x0000_0073,
+];
+
+// It sets a handler at 32, sets three registers, and does nothing more; the handler returns.
+pub(crate) const HANDLES_AND_RETURNS: &[u32] = &[
+    0x0060_0893,
+    0x0200_0513,
+    0x0000_0073,
+    0x0010_0293,
+    0x0020_0313,
+    0x0030_0393,
+    0x0000_006F,
+    0x0000_0013,
+    0x0070_0893,
+    0x0000_0073,
+];
+
+// It sets three registers, and exits.
+pub(crate) const SETS_REGISTERS: &[u32] = &[
+    0x0010_0293,
+    0x0020_0313,
+    0x0030_0393,
+    0x0000_0893,
+    0x0000_0073,
+];
+
+// It spawns a thread at 44, stores to a word and to one of another line, loads the first and stores it beside the second,
+// loads the other thread's word, and exits; that thread stores 9 to two words beside these, loads the first thread's, and
+// exits.
+pub(crate) const SHARES_WORDS: &[u32] = &[
+    0x0010_0893,
+    0x02C0_0513,
+    0x0000_0613,
+    0x0000_0073,
+    0x1110_2023,
+    0x14A0_2023,
+    0x1000_2283,
+    0x1450_2223,
+    0x1040_2303,
+    0x0000_0893,
+    0x0000_0073,
+    0x0090_0393,
+    0x1070_2223,
+    0x1470_2223,
+    0x1000_2403,
+    0xFE9F_F06F,
+];

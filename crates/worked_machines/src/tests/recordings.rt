@@ -39,6 +39,7 @@ pub(crate) const ROWS: &[Row] = &[
 const SPAWN_AND_RACE: Row = Row {
     name: "spawn and race",
     cores: 2,
+    depth: 1,
     window: 2,
     s: 100,
     capacity: 16,
@@ -97,6 +98,7 @@ const SPAWN_AND_RACE: Row = Row {
 const FALSE_HIT: Row = Row {
     name: "false hit",
     cores: 2,
+    depth: 1,
     window: 2,
     s: 100,
     capacity: 16,
@@ -155,6 +157,7 @@ const FALSE_HIT: Row = Row {
 const TURNS: Row = Row {
     name: "turns",
     cores: 2,
+    depth: 1,
     window: 2,
     s: 100,
     capacity: 16,
@@ -212,6 +215,7 @@ const TURNS: Row = Row {
 const TURNS_IN_A_FULL_WINDOW: Row = Row {
     name: "turns in a full window",
     cores: 2,
+    depth: 1,
     window: 1,
     s: 100,
     capacity: 16,
@@ -269,6 +273,7 @@ const TURNS_IN_A_FULL_WINDOW: Row = Row {
 const TWO_THREADS_ON_ONE_CORE: Row = Row {
     name: "two threads on one core",
     cores: 1,
+    depth: 1,
     window: 2,
     s: 100,
     capacity: 16,
@@ -324,6 +329,7 @@ const TWO_THREADS_ON_ONE_CORE: Row = Row {
 const RESERVATION_LOST: Row = Row {
     name: "reservation lost",
     cores: 1,
+    depth: 1,
     window: 2,
     s: 100,
     capacity: 1,
@@ -366,6 +372,7 @@ const RESERVATION_LOST: Row = Row {
 const RESERVATION_KEPT: Row = Row {
     name: "reservation kept",
     cores: 1,
+    depth: 1,
     window: 2,
     s: 100,
     capacity: 16,
@@ -406,6 +413,7 @@ const RESERVATION_KEPT: Row = Row {
 const BUSY_SPHERE: Row = Row {
     name: "busy sphere",
     cores: 1,
+    depth: 1,
     window: 2,
     s: 100,
     capacity: 1,
@@ -448,6 +456,7 @@ const BUSY_SPHERE: Row = Row {
 const HALVED_LIMIT: Row = Row {
     name: "halved limit",
     cores: 2,
+    depth: 1,
     window: 2,
     s: 16,
     capacity: 16,
@@ -549,6 +558,7 @@ const HALVED_LIMIT: Row = Row {
 const PIPE: Row = Row {
     name: "pipe",
     cores: 2,
+    depth: 1,
     window: 2,
     s: 100,
     capacity: 16,
@@ -608,6 +618,7 @@ const PIPE: Row = Row {
 const DMA: Row = Row {
     name: "dma",
     cores: 1,
+    depth: 1,
     window: 2,
     s: 100,
     capacity: 16,
@@ -656,6 +667,7 @@ const DMA: Row = Row {
 const INTERRUPT: Row = Row {
     name: "interrupt",
     cores: 1,
+    depth: 1,
     window: 2,
     s: 100,
     capacity: 16,
@@ -690,6 +702,7 @@ const INTERRUPT: Row = Row {
 const SMALL_ANSWERS: Row = Row {
     name: "small answers",
     cores: 1,
+    depth: 1,
     window: 2,
     s: 100,
     capacity: 16,
@@ -728,6 +741,7 @@ const SMALL_ANSWERS: Row = Row {
 const DEVICE_WORDS: Row = Row {
     name: "device words",
     cores: 1,
+    depth: 1,
     window: 2,
     s: 100,
     capacity: 16,
@@ -774,6 +788,7 @@ const DEVICE_WORDS: Row = Row {
 const NEXT_INSTRUCTION: Row = Row {
     name: "next instruction",
     cores: 1,
+    depth: 1,
     window: 2,
     s: 100,
     capacity: 16,
@@ -811,6 +826,7 @@ const NEXT_INSTRUCTION: Row = Row {
 const STORE_BESIDE: Row = Row {
     name: "store beside",
     cores: 1,
+    depth: 1,
     window: 2,
     s: 100,
     capacity: 16,
@@ -866,6 +882,7 @@ const STORE_BESIDE: Row = Row {
 const FLIGHT_LEFT: Row = Row {
     name: "flight left",
     cores: 1,
+    depth: 1,
     window: 2,
     s: 100,
     capacity: 1,

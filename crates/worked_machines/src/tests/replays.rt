@@ -40,6 +40,7 @@ pub(crate) const ROWS: &[Row] = &[
 const RACE_REPLAYED: Row = Row {
     name: "race replayed",
     cores: 1,
+    depth: 1,
     window: 2,
     s: 100,
     capacity: 16,
@@ -91,6 +92,7 @@ const RACE_REPLAYED: Row = Row {
 const PIECES: Row = Row {
     name: "pieces",
     cores: 1,
+    depth: 1,
     window: 2,
     s: 100,
     capacity: 1,
@@ -134,6 +136,7 @@ const PIECES: Row = Row {
 const PIECES_FINISHED: Row = Row {
     name: "pieces finished",
     cores: 1,
+    depth: 1,
     window: 2,
     s: 100,
     capacity: 1,
@@ -177,6 +180,7 @@ const PIECES_FINISHED: Row = Row {
 const EMPTY_LAST_PART: Row = Row {
     name: "empty last part",
     cores: 1,
+    depth: 1,
     window: 2,
     s: 100,
     capacity: 16,
@@ -210,6 +214,7 @@ const EMPTY_LAST_PART: Row = Row {
 const STORE_BESIDE_REPLAYED: Row = Row {
     name: "store beside replayed",
     cores: 1,
+    depth: 1,
     window: 1,
     s: 100,
     capacity: 16,
@@ -258,6 +263,7 @@ const STORE_BESIDE_REPLAYED: Row = Row {
 const DMA_TOO_LONG: Row = Row {
     name: "dma too long",
     cores: 1,
+    depth: 1,
     window: 2,
     s: 100,
     capacity: 16,
@@ -294,6 +300,7 @@ const DMA_TOO_LONG: Row = Row {
 const DMA_REPLAYED: Row = Row {
     name: "dma replayed",
     cores: 1,
+    depth: 1,
     window: 2,
     s: 100,
     capacity: 16,
@@ -340,6 +347,7 @@ const DMA_REPLAYED: Row = Row {
 const PIPE_REPLAYED: Row = Row {
     name: "pipe replayed",
     cores: 1,
+    depth: 1,
     window: 2,
     s: 100,
     capacity: 16,
@@ -382,6 +390,7 @@ const PIPE_REPLAYED: Row = Row {
 const WRONG_RECORD: Row = Row {
     name: "wrong record",
     cores: 1,
+    depth: 1,
     window: 2,
     s: 100,
     capacity: 16,
@@ -414,6 +423,7 @@ const WRONG_RECORD: Row = Row {
 const TOO_SHORT: Row = Row {
     name: "too short",
     cores: 1,
+    depth: 1,
     window: 2,
     s: 100,
     capacity: 16,
@@ -444,6 +454,7 @@ const TOO_SHORT: Row = Row {
 const NOT_SERIAL: Row = Row {
     name: "not serial",
     cores: 1,
+    depth: 1,
     window: 2,
     s: 100,
     capacity: 16,
@@ -471,6 +482,7 @@ const NOT_SERIAL: Row = Row {
 const SIZE_OF_A_SERIAL_STEP: Row = Row {
     name: "size of a serial step",
     cores: 1,
+    depth: 1,
     window: 2,
     s: 100,
     capacity: 16,
@@ -501,6 +513,7 @@ const SIZE_OF_A_SERIAL_STEP: Row = Row {
 const NO_HANDLER_TO_ENTER: Row = Row {
     name: "no handler to enter",
     cores: 1,
+    depth: 1,
     window: 2,
     s: 100,
     capacity: 16,
@@ -530,6 +543,7 @@ const NO_HANDLER_TO_ENTER: Row = Row {
 const NO_SUCH_THREAD: Row = Row {
     name: "no such thread",
     cores: 1,
+    depth: 1,
     window: 2,
     s: 100,
     capacity: 16,
@@ -554,6 +568,7 @@ const NO_SUCH_THREAD: Row = Row {
 const RECORD_LEFT_OVER: Row = Row {
     name: "record left over",
     cores: 1,
+    depth: 1,
     window: 2,
     s: 100,
     capacity: 16,
@@ -584,6 +599,7 @@ const RECORD_LEFT_OVER: Row = Row {
 const EMPTY_LOG: Row = Row {
     name: "empty log",
     cores: 1,
+    depth: 1,
     window: 2,
     s: 100,
     capacity: 16,
@@ -613,6 +629,7 @@ const EMPTY_LOG: Row = Row {
 const INTERRUPT_REPLAYED: Row = Row {
     name: "interrupt replayed",
     cores: 1,
+    depth: 1,
     window: 2,
     s: 100,
     capacity: 16,
@@ -644,6 +661,7 @@ const INTERRUPT_REPLAYED: Row = Row {
 const DEVICE_WORDS_REPLAYED: Row = Row {
     name: "device words replayed",
     cores: 1,
+    depth: 1,
     window: 2,
     s: 100,
     capacity: 16,
@@ -689,6 +707,7 @@ const DEVICE_WORDS_REPLAYED: Row = Row {
 const NEXT_INSTRUCTION_REPLAYED: Row = Row {
     name: "next instruction replayed",
     cores: 1,
+    depth: 1,
     window: 2,
     s: 100,
     capacity: 1,
@@ -724,6 +743,7 @@ const NEXT_INSTRUCTION_REPLAYED: Row = Row {
 const FLIGHT_AND_REPLAY: Row = Row {
     name: "flight and replay",
     cores: 2,
+    depth: 1,
     window: 2,
     s: 100,
     capacity: 1,

@@ -29,6 +29,7 @@ const OTHER: &str = "cores = 8\n\
       chunk = 64\n\
       buffer = 8\n\
       window = 1\n\
+      depth = 2\n\
       signature = 128\n\
       seed = 9\n\
       events = 20000\n\
@@ -82,14 +83,14 @@ fn reads_each_key(rt: HostRuntime) -> Result<(), Fail> {
 }
 
 const PLAN_SHOWN: &str = concat!(
-    "Plan { sizes: Sizes { cores: 1, chunk: 100, buffer: 16, window: 2, signature: 64, seed: 0 }, schedule: Script(\"s.txt\"), ",
+    "Plan { sizes: Sizes { cores: 1, chunk: 100, buffer: 16, window: 2, depth: 1, signature: 64, seed: 0 }, schedule: Script(\"s.txt\"), ",
     "input: None, console: None, report: Some(\"r.txt\"), spheres: [",
     "Sphere { image: \"a.elf\", memory: 4096, role: Record { mode: OrderSize, log: \"a.log\" }, account: Some(\"a.txt\") }",
     "] }"
 );
 
 const OTHER_SHOWN: &str = concat!(
-    "Plan { sizes: Sizes { cores: 8, chunk: 64, buffer: 8, window: 1, signature: 128, seed: 9 }, schedule: Seeded { events: 20000 }, ",
+    "Plan { sizes: Sizes { cores: 8, chunk: 64, buffer: 8, window: 1, depth: 2, signature: 128, seed: 9 }, schedule: Seeded { events: 20000 }, ",
     "input: Some(\"i.bin\"), console: Some(\"c.bin\"), report: None, spheres: [",
     "Sphere { image: \"a.elf\", memory: 4096, role: Plain, account: None }, ",
     "Sphere { image: \"b.elf\", memory: 8192, role: Record { mode: Picolog, log: \"b.log\" }, account: None }, ",
@@ -120,6 +121,7 @@ const SPELLINGS: &[(&str, &str)] = &[
     ),
     ("cores = 1\n", "\u{FEFF}cores = 1\n"),
     ("buffer", "seed = 0\nbuffer"),
+    ("window", "depth = 1\nwindow"),
     ("\"s.txt\"", "'s.txt'"),
     ("\"s.txt\"", "\"\"\"s.txt\"\"\""),
     ("\"s.txt\"", "'''\ns.txt'''"),
@@ -152,6 +154,7 @@ const LIMITS: &[(&str, &str)] = &[
     ("buffer = 16", "buffer = 4096"),
     ("window = 2", "window = 1"),
     ("window = 2", "window = 8"),
+    ("window", "depth = 2\nwindow"),
     ("signature = 64", "signature = 2048"),
     ("memory = 4096", "memory = 16777216"),
     ("cores", "seed = 9223372036854775807\ncores"),
@@ -185,6 +188,7 @@ const NO_DOCUMENT_OR_OTHER_KEYS: &[(&str, &str, u8)] = &[
     ("cores = 1", "Cores = 1\ncores = 1", 2),
     ("cores = 1", "mode = \"order-size\"\ncores = 1", 2),
     ("account", "more", 2),
+    ("account", "depth = 2\naccount", 2),
     ("\"a.txt\"\n", "\"a.txt\"\ncores = 1\n", 2),
     (
         SPHERE,
@@ -205,6 +209,8 @@ const MISSING_KEYS_AND_OTHER_KINDS: &[(&str, &str, u8)] = &[
     ("cores = 1", "cores = \"1\"", 3),
     ("chunk = 100", "chunk = 100.0", 3),
     ("cores", "seed = \"0\"\ncores", 3),
+    ("cores", "depth = \"2\"\ncores", 3),
+    ("cores", "depth = 2.0\ncores", 3),
     ("cores", "events = true\ncores", 3),
     ("cores", "input = 1979-05-27\ncores", 3),
     ("4096", "\"4096\"", 3),
@@ -237,6 +243,9 @@ const OUTSIDE_LIMITS: &[(&str, &str, u8)] = &[
     ("buffer = 16", "buffer = 0", 4),
     ("window = 2", "window = 9", 4),
     ("window = 2", "window = -2", 4),
+    ("window", "depth = 0\nwindow", 4),
+    ("window", "depth = 3\nwindow", 4),
+    ("window", "depth = -1\nwindow", 4),
     ("signature = 64", "signature = 32", 4),
     ("signature = 64", "signature = 96", 4),
     ("cores", "seed = -1\ncores", 4),
@@ -336,6 +345,7 @@ fn refuses_by_the_first_of_two_rules(rt: HostRuntime) -> Result<(), Fail> {
 const TWO_RULES: &[(&str, &str, u8)] = &[
     ("account = \"a.txt\"\n", "account = \"\"\nmore = 1\n", 2),
     ("cores = 1", "cores = 9\nchunks = 1", 2),
+    ("cores = 1", "cores = 9\ndepth = true", 3),
     ("cores = 1", "cores = \"9\"\nevents = -1", 3),
     ("cores = 1", "cores = 9\nevents = 1", 4),
     (
