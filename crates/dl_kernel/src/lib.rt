@@ -4,6 +4,7 @@
 
 mod answering;
 mod calls;
+mod commits;
 mod copying;
 mod inside;
 mod need;
@@ -16,6 +17,7 @@ mod serving;
 mod state;
 mod threads;
 
+pub use commits::{chunk_commit, dma_commit, serial_commit};
 pub use copying::{copied, dma_words};
 pub use dl_dev::Devices;
 pub use dl_entry::{Input, OutOfMemory, Request};

@@ -12,10 +12,9 @@ ghost use Rattle.dl_serial.specs.Chunks.{chunk_of};
 ghost use Rattle.dl_serial.specs.Playing.{IsPlaying, StandsAt, judged_as, played_in, progress_in};
 
 use crate::chunk::Chunk;
-use crate::commits::{chunk_commit, dma_commit, serial_commit};
 use crate::sphere::Sphere;
 use dl_entry::OutOfMemory;
-use dl_kernel::thread_at;
+use dl_kernel::{chunk_commit, dma_commit, serial_commit, thread_at};
 use dl_mode::Mode;
 use dl_replay::{Replayer, Verdict};
 use std::alloc::Global;
@@ -45,9 +44,10 @@ pub fn commit_chunk<M: Mode>(
     match judge(replayer, sphere, number, &chunk) {
         Verdict::Went => {
             sphere.store.commit();
+            let Chunk { loads, n, .. } = chunk;
             sphere
                 .commits
-                .push_reserved(chunk_commit(alloc, number, chunk));
+                .push_reserved(chunk_commit(alloc, number, n, loads));
             Ok(())
         }
         Verdict::Diverged(_) => Ok(()),

@@ -2,7 +2,6 @@
 #![tactic(auto)]
 
 mod chunk;
-mod commits;
 mod committing;
 mod overlay;
 mod player;

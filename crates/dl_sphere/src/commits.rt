@@ -1,13 +1,13 @@
-//! Commits as accounts tell them.
+//! The commits of chunks as accounts tell them, and what is asked of a chunk before.
 ghost use Rattle.std.specs.Prelude.{◌≡◌, ◌+◌, ◌^◌, ◌<◌, ◌++◌, IfOk, OnOk, length, map, Some};
 ghost use Rattle.spec_engine.specs.declared.answers.How.{How};
-ghost use Rattle.spec_play.specs.Effects.{chunk_commit, serial_commit, dma_commit, entry_of};
+ghost use Rattle.spec_play.specs.Effects.{chunk_commit, entry_of};
 ghost use Rattle.spec_protocol.specs.machine.Commits.{is_piece, joined};
 ghost use Rattle.spec_protocol.specs.machine.Spheres.{Cursor};
 ghost use Rattle.spec_protocol.specs.machine.Asking.{is_short};
 
 use dl_chunk::Chunk;
-use dl_entry::{Actor, Commit, CommitKind, Load, Loads, OutOfMemory, Outputs};
+use dl_entry::{Commit, Load, Loads, OutOfMemory};
 use dl_sig::Sig;
 use spec_engine::answers::How;
 use std::alloc::Global;
@@ -20,13 +20,8 @@ pub(crate) fn chunk_commit<G: Sig>(
 ) -> Result<Commit, OutOfMemory>
     ensures { IfOk result (λ c. c ≡ chunk_commit thread chunk.now.chunk.done) }
 {
-    Ok(Commit {
-        actor: Actor::Thread(thread),
-        kind: CommitKind::Chunk,
-        size: chunk.n(),
-        loads: entries(alloc, chunk.loads())?,
-        outputs: Outputs::new(alloc),
-    })
+    let loads = entries(alloc, chunk.loads())?;
+    Ok(dl_kernel::chunk_commit(alloc, thread, chunk.n(), loads))
 }
 
 // The commit of a thread's chunk in pieces, of which the loads of the earlier ones are given.
@@ -42,39 +37,7 @@ pub(crate) fn joined_commit<G: Sig>(
 {
     let mut loads = entries(alloc, earlier)?;
     add_entries(&mut loads, last.loads())?;
-    Ok(Commit {
-        actor: Actor::Thread(thread),
-        kind: CommitKind::Chunk,
-        size,
-        loads,
-        outputs: Outputs::new(alloc),
-    })
-}
-
-// The commit of a thread's serial step.
-pub(crate) fn serial_commit(thread: u8, loads: Loads, outputs: Outputs) -> Commit
-    ensures { result ≡ serial_commit thread loads outputs }
-{
-    Commit {
-        actor: Actor::Thread(thread),
-        kind: CommitKind::Serial,
-        size: 0,
-        loads,
-        outputs,
-    }
-}
-
-// A DMA, which has no size.
-pub(crate) fn dma_commit(alloc: Global) -> Commit
-    ensures { result ≡ dma_commit }
-{
-    Commit {
-        actor: Actor::Dma,
-        kind: CommitKind::Dma,
-        size: 0,
-        loads: Loads::new(alloc),
-        outputs: Outputs::new(alloc),
-    }
+    Ok(dl_kernel::chunk_commit(alloc, thread, size, loads))
 }
 
 fn entries(alloc: Global, loads: &[dl_thread::Load]) -> Result<Loads, OutOfMemory>

@@ -15,13 +15,13 @@ ghost use Rattle.dl_sphere.specs.Inside.{cursor_in, replayed_at, IsAt, IsSphereA
 ghost use Rattle.dl_sphere.specs.Judging.{judged_as};
 ghost use Rattle.dl_sphere.specs.Moving.{came, CanCommit};
 
-use crate::commits::{count, dma_commit, is_piece, joined_commit, serial_commit};
+use crate::commits::{count, is_piece, joined_commit};
 use crate::moved::Moved;
 use crate::part::Replay;
 use crate::words;
 use dl_chunk::Chunk;
 use dl_entry::{Commit, OutOfMemory, Why};
-use dl_kernel::{Past, thread_at};
+use dl_kernel::{Past, dma_commit, serial_commit, thread_at};
 use dl_replay::Verdict;
 use dl_sig::Sig;
 use dl_thread::Thread;

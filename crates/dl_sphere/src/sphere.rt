@@ -15,7 +15,7 @@ ghost use Rattle.spec_protocol.specs.promises.Sound.{HaveByteInput, IsSoundReque
 ghost use Rattle.dl_sphere.specs.Moving.{came, CanCommit, IsTurnOf, IsTurnOfDma};
 ghost use Rattle.dl_sphere.specs.Setups.{setup_of};
 
-use crate::commits::{chunk_commit, dma_commit, is_short};
+use crate::commits::{chunk_commit, is_short};
 use crate::moved::Moved;
 use crate::part::{Part, note, note_interrupt};
 use crate::replaying::{commit_part, serve_dma, serve_step};
@@ -25,7 +25,7 @@ use crate::words;
 use dl_chunk::Chunk;
 use dl_dev::Devices;
 use dl_entry::OutOfMemory;
-use dl_kernel::{Past, Step, counted, interrupted, settle, thread_at};
+use dl_kernel::{Past, Step, counted, dma_commit, interrupted, settle, thread_at};
 use dl_sig::Sig;
 use std::marker::Model;
 

@@ -9,11 +9,10 @@ ghost use Rattle.dl_kernel.specs.Calls.{spawned_list};
 ghost use Rattle.dl_sphere.specs.Roles.{keeping_of, with_noted, CanNote};
 ghost use Rattle.dl_sphere.specs.Stepping.{taken_by, served_by, commit_by};
 
-use crate::commits::serial_commit;
 use crate::part::{Part, note_reserved, reserve};
 use dl_dev::Devices;
 use dl_entry::{Commit, Input, OutOfMemory, Request};
-use dl_kernel::{Step, StepResult, outside_record, outside_take, serve};
+use dl_kernel::{Step, StepResult, outside_record, outside_take, serial_commit, serve};
 use dl_thread::Thread;
 use dl_wbuf::Buffer;
 use std::alloc::Global;

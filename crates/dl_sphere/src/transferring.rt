@@ -6,11 +6,10 @@ ghost use Rattle.spec_play.specs.Effects.{dma_commit};
 ghost use Rattle.spec_protocol.specs.promises.Sound.{HaveByteInput, IsSoundRequest};
 ghost use Rattle.dl_sphere.specs.Roles.{keeping_of, with_noted, CanNote};
 
-use crate::commits::dma_commit;
 use crate::part::{Part, note};
 use dl_dev::Devices;
 use dl_entry::{OutOfMemory, Request};
-use dl_kernel::dma_words;
+use dl_kernel::{dma_commit, dma_words};
 use dl_wbuf::Buffer;
 use std::alloc::Global;
 

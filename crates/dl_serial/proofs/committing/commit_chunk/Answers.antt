@@ -6,6 +6,7 @@ use Rattle.spec_play.specs.Plays.{Played, settled}
 use Rattle.spec_play.specs.Verdicts.{chunk_verdict}
 use Rattle.dl_serial.specs.Overlays.{Overlaid}
 use Rattle.dl_serial.specs.Playing.{StandsAt, progress_in}
+use Rattle.dl_serial.specs.declared.chunk.Chunk.{Chunk}
 use Rattle.dl_serial.specs.declared.sphere.Sphere.{Sphere}
 use Rattle.dl_serial.proofs.Judging.{chunk-gone, chunk-fell}
 use Rattle.dl_serial.proofs.Settling.{chunk-stands, fell-stands, reserved-played, reserved-playing}
@@ -29,7 +30,7 @@ returns-in-Went-clause-came g c r e w =
     ap (λ (o : Overlaid). o.memory) c.commit.ensures ∙ ap (λ (o : Overlaid). lays o.memory o.words) c.judge.ensures.store ∙ ap (lays s0.store.memory) w
     in
     let commits =
-    c.push_reserved.ensures.items ∙ ap (λ cs. cs.items ++ c.chunk_commit.result ∷ []) c.judge.ensures.commits ∙ ap (λ (x : Commit). s1.commits.items ++ x ∷ []) (c.chunk_commit.ensures r e)
+    c.push_reserved.ensures.items ∙ ap (λ cs. cs.items ++ c.chunk_commit.result ∷ []) c.judge.ensures.commits ∙ ap (λ (x : Commit). s1.commits.items ++ x ∷ []) (c.chunk_commit.ensures r (ap (λ (x : Chunk). x.n) e) (ap (λ (x : Chunk). x.loads) e))
     in
     subst (λ (y : Played). StandsAt r0.log (settled r0.log y k (chunk_verdict r0.log y.progress y.used k r)) new n)
     (reserved-played r0 s0 s1 refl refl refl same)

@@ -1,22 +1,20 @@
 //! Commits as accounts tell them.
-ghost use Rattle.std.specs.Prelude.{◌≡◌};
+ghost use Rattle.std.specs.Prelude.{◌≡◌, map};
 ghost use Rattle.spec_isa.specs.Runs.{Run};
-ghost use Rattle.spec_play.specs.Effects.{chunk_commit, serial_commit, dma_commit};
-ghost use Rattle.dl_serial.specs.Chunks.{chunk_of};
+ghost use Rattle.spec_play.specs.Effects.{chunk_commit, serial_commit, dma_commit, entry_of};
 
-use crate::chunk::Chunk;
 use dl_entry::{Actor, Commit, CommitKind, Loads, Outputs};
 use std::alloc::Global;
 
-/// The commit of a thread's chunk.
-pub fn chunk_commit(alloc: Global, thread: u8, chunk: Chunk) -> Commit
-    ensures { (r : Run) → chunk ≡ chunk_of r → result ≡ chunk_commit thread r }
+/// The commit of a thread's chunk of so many instructions.
+pub fn chunk_commit(alloc: Global, thread: u8, size: u32, loads: Loads) -> Commit
+    ensures { (r : Run) → size ≡ r.n → loads ≡ map entry_of r.loads → result ≡ chunk_commit thread r }
 {
     Commit {
         actor: Actor::Thread(thread),
         kind: CommitKind::Chunk,
-        size: chunk.n,
-        loads: chunk.loads,
+        size,
+        loads,
         outputs: Outputs::new(alloc),
     }
 }
