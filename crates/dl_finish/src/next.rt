@@ -145,6 +145,7 @@ fn on_core<G: Sig>(machine: &Machine<G>, core: u8, sphere: u8, thread: u8) -> Op
     if held.sphere != sphere || held.thread != thread {
         return None;
     }
+    // This is its older chunk, so no younger one begins.
     if held.closed {
         return Some(Event::Ask(core));
     }

@@ -17,4 +17,6 @@ returns-clause-within c =
       least = omega arith;
       most = omega arith;
       signature = refl;
+      depth = omega arith;
+      most_depth = omega arith;
     }
