@@ -9,6 +9,7 @@ mod ending;
 mod inspecting;
 mod job;
 mod making;
+mod plans;
 mod preparing;
 mod roles;
 mod running;

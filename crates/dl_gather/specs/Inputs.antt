@@ -11,6 +11,8 @@ use Rattle.dl_gather.specs.declared.inputs.ScheduleInputs.{ScheduleInputs}
 use Rattle.dl_gather.specs.declared.inputs.RoleInputs.{RoleInputs}
 use Rattle.dl_gather.specs.declared.inputs.SphereInputs.{SphereInputs}
 use Rattle.dl_gather.specs.declared.inputs.Inputs.{Inputs}
+use Rattle.dl_gather.specs.declared.inputs.PairRead.{PairRead}
+use Rattle.spec_program.specs.Operands as operands
 
 abbrev pub schedule_view : ScheduleInputs → ScheduleRead
 schedule_view (ScheduleInputs.Script script) = ScriptRead (script_view script)
@@ -26,6 +28,10 @@ sphere_view s = record { image = s.image.items; memory = s.memory; role = role_v
 
 abbrev pub inputs_view : Inputs → PlanRead
 inputs_view r = record { schedule = schedule_view r.schedule; input = r.input.items; spheres = map sphere_view r.spheres.items }
+
+-- an image and a log
+abbrev pub pair_view : PairRead → operands.PairRead
+pair_view p = record { image = p.image; log = p.log }
 
 -- the image of a sphere before it starts
 abbrev pub image_in : SphereSetup → Image

@@ -39,10 +39,10 @@ AreOfBytes (s ∷ ss) = IsOfBytes s.role × AreOfBytes ss
 
 role_of_bytes : (m : Contents) (role : RoleValues) (r : RoleRead) → role_read m role ≡ Ok r → IsOfBytes r
 role_of_bytes m Plain r e = subst IsOfBytes (same_Ok PlainRead r e) tt
-role_of_bytes m (Record mode log) r e = subst IsOfBytes (same_Ok (RecordRead (record { mode = mode })) r e) tt
-role_of_bytes m (Replay log) r e =
-    let read = then_ok (log_at m log) _ r e in
-    let file = then_ok (read_at m log) _ read.0 read.1 in
+role_of_bytes m (Record values) r e = subst IsOfBytes (same_Ok (RecordRead (record { mode = values.mode })) r e) tt
+role_of_bytes m (Replay values) r e =
+    let read = then_ok (log_at m values.log) _ r e in
+    let file = then_ok (read_at m values.log) _ read.0 read.1 in
     subst IsOfBytes (same_Ok (ReplayRead (record { log = read.0 })) r read.2) (file.0, same_Ok (read_of file.0) read.0 file.2)
 
 spheres_of_bytes : (m : Contents) (ss : List SphereValues) (rs : List SphereRead) → spheres_read m ss ≡ Ok rs → AreOfBytes rs

@@ -4,7 +4,7 @@ use Rattle.spec_program.specs.Files.{plan_read}
 use Rattle.spec_program.specs.Tasks.{task_planned}
 use Rattle.dl_gather.specs.Halts.{Halts}
 use Rattle.dl_gather.proofs.Stopping.{file_refused, halt_carried, unread_halts}
-use Rattle.dl_commands.proofs.preparing.run_plan.Goals as goal
+use Rattle.dl_commands.proofs.plans.run_loaded.Goals as goal
 
 pub returns-in_err-inputs-clause-halt : goal.returns-in_err-inputs-clause-halt
 returns-in_err-inputs-clause-halt g c =
