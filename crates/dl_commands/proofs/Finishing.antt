@@ -23,8 +23,15 @@ use Rattle.spec_program.proofs.Doing.{done_at, finished}
 use Rattle.spec_program.proofs.Finishing.{outcome_is}
 use Rattle.dl_gather.specs.declared.halt.Halt.{Halt}
 use Rattle.dl_commands.specs.declared.job.Job.{Job}
-use Rattle.dl_commands.specs.Jobs.{finish_of, writes_of, IsJobOf, IsTaskJob}
+use Rattle.dl_commands.specs.Jobs.{finish_of, writes_of, IsJobOf, IsRunOf, IsTaskJob}
+use Rattle.dl_gather.specs.declared.task.Task as gather
 use Rattle.dl_gather.specs.Halts.{Halts, IsFault}
+use Rattle.dl_gather.specs.Tasks.{IsTaskOf}
+use Rattle.dl_machine.specs.Setups.{setup_in as machine_of}
+use Rattle.dl_plan.specs.Values.{PlanValues}
+use Rattle.dl_run.specs.Schedules.{events_in}
+use Rattle.spec_protocol.specs.declared.event.Event.{Event}
+use Rattle.spec_protocol.specs.machine.Machine as protocol
 use Rattle.dl_commands.specs.Ended.{IsRefusalSaid, Said, Stopped}
 use Rattle.dl_commands.specs.Performed.{IsCut, IsPerformed}
 
@@ -108,6 +115,15 @@ performed_unrefused d ws text before after s (inr (inl (name, b))) e = elim b.sa
   | inr memory ↦ true≢false (sym e ∙ ap is_refusal memory.0)
 ]
 performed_unrefused d ws text before after s (inr (inr u)) e = true≢false (sym e ∙ ap is_refusal u.status)
+
+-- a run of a task's machine over its schedule is the task's
+pub task_run : (p : PlanValues) (asked : Result Task Refused) (task : gather.Task) (job : Job) → IsTaskOf p asked task → IsRunOf p (machine_of task.setup) (events_in task.schedule) job → IsTaskJob asked job
+task_run p asked task job of run = (
+  of.is,
+  of.asks,
+  subst (λ (x : PlanValues). IsRunOf x (setup_in of.is) of.is.events job) (sym of.plan)
+      (subst (λ (x : protocol.Setup). IsRunOf p x of.is.events job) (sym of.setup) (subst (λ (x : List Event). IsRunOf p (machine_of task.setup) x job) (sym of.events) run)),
+)
 
 -- a run comes to what its task is to come to
 pub run_is : (task : Result Task Refused) (job : Job) → IsTaskJob task job → IsJobOf (task >> λ t. ran t.plan (setup_in t) t.events) job

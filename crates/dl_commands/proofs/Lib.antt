@@ -1,5 +1,4 @@
 pub mod Assembled
-pub mod Building
 pub mod Finishing
 pub mod Growing
 pub mod Planned

@@ -3,7 +3,6 @@
 #![tactic(auto)]
 
 mod assembling;
-mod computing;
 mod drilling;
 mod ending;
 mod inspecting;
@@ -11,7 +10,6 @@ mod job;
 mod making;
 mod plans;
 mod preparing;
-mod roles;
 mod running;
 mod telling;
 mod top;

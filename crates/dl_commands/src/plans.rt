@@ -8,10 +8,10 @@ ghost use Rattle.spec_program.specs.Tasks.{task_named, task_planned};
 ghost use Rattle.dl_gather.specs.Halts.{Halts, IsNotUsage};
 ghost use Rattle.dl_commands.specs.Jobs.{IsJobOf, IsTaskJob};
 
-use crate::computing::compute;
 use crate::job::Job;
+use crate::running::run;
 use dl_files::Files;
-use dl_gather::{Halt, load_plan, read_inputs};
+use dl_gather::{Halt, load_plan, load_task};
 use dl_plan::Plan;
 use std::alloc::Global;
 
@@ -51,6 +51,6 @@ fn run_loaded<F: Files>(alloc: Global, files: &mut F, plan: &Plan) -> Result<Job
     ensures usage { IfErr result IsNotUsage }
     ensures same { OnOk result (F.seen files.new ≡ F.seen files.old) }
 {
-    let inputs = read_inputs(alloc, files, plan)?;
-    compute(alloc, plan, inputs)
+    let task = load_task(alloc, files, plan)?;
+    Ok(run(alloc, plan, task.setup, &task.schedule)?)
 }

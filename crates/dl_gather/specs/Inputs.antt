@@ -1,11 +1,9 @@
 -- What a plan has read, as the definitions see it, and what is true of it.
 use Rattle.std.specs.Prelude.{◌≡◌, ◌≤◌, ◌^◌, List, map, length, IfOk}
 use Rattle.std.specs.List.{AllByRecursion}
-use Rattle.dl_elf.specs.Images.{Image}
 use Rattle.dl_logio.specs.Files.{read_view}
 use Rattle.dl_scriptio.specs.Files.{read_view as script_view}
 use Rattle.dl_plan.specs.Values.{PlanValues, IsMemory}
-use Rattle.dl_sphere.specs.declared.setup.SphereSetup.{SphereSetup}
 use Rattle.spec_program.specs.Files.{ScheduleRead, ScriptRead, EventsDrawn, RoleRead, PlainRead, RecordRead, ReplayRead, SphereRead, PlanRead}
 use Rattle.dl_gather.specs.declared.inputs.ScheduleInputs.{ScheduleInputs}
 use Rattle.dl_gather.specs.declared.inputs.RoleInputs.{RoleInputs}
@@ -32,10 +30,6 @@ inputs_view r = record { schedule = schedule_view r.schedule; input = r.input.it
 -- an image and a log
 abbrev pub pair_view : PairRead → operands.PairRead
 pair_view p = record { image = p.image; log = p.log }
-
--- the image of a sphere before it starts
-abbrev pub image_in : SphereSetup → Image
-image_in s = s.image
 
 -- ---- what is true of them
 
