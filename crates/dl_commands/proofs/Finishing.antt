@@ -12,10 +12,10 @@ use Rattle.spec_program.specs.Lines.{absent_line, fault_line}
 use Rattle.spec_program.specs.Outside.{Outside, outside}
 use Rattle.spec_program.specs.Writes.{Write, written}
 use Rattle.spec_program.specs.Stages.{Refused, ◌>>◌}
-use Rattle.spec_program.specs.Tasks.{Task, IsTask, setup_in, task_named}
+use Rattle.spec_program.specs.Tasks.{Task, setup_in, task_named}
 use Rattle.spec_program.specs.commands.Drill as drill
 use Rattle.spec_program.specs.commands.Run.{HasLimits}
-use Rattle.spec_program.specs.Outcomes.{Finish, Outcome, status_in, writes_in}
+use Rattle.spec_program.specs.Outcomes.{Finish, Outcome, status_in}
 use Rattle.spec_program.specs.Asked.{IsDone, outcome_of, reads_of}
 use Rattle.spec_program.specs.Ends.{Took, TookAll, Partly, Stands, IsFaulted, IsFinished, IsShort, is_done, is_refusal}
 use Rattle.spec_program.specs.Runs.{ran}

@@ -1,5 +1,5 @@
 -- The images that are loaded one after another are those of the plan's spheres.
-use Rattle.std.proofs.Common.{◌≡◌, ℕ, suc, ◌+◌, ◌<◌, List, [], ◌∷◌, ◌++◌, length, map, drop, get_or, Ok, arith, sym, ◌∙◌, ap, subst}
+use Rattle.std.proofs.Common.{◌≡◌, ℕ, suc, ◌+◌, ◌<◌, List, [], ◌∷◌, ◌++◌, length, map, drop, get_or, Ok, arith, ◌∙◌, ap, subst}
 use Rattle.std.proofs.lemmas.List.{drop_more}
 use Rattle.dl_elf.specs.Images.{Image}
 use Rattle.spec_program.specs.Built.{image_read, images_of}

@@ -1,5 +1,5 @@
 -- What is made of the files that a plan has read is its task.
-use Rattle.std.proofs.Common.{◌≡◌, List, map, Ok, refl, sym, ◌∙◌}
+use Rattle.std.proofs.Common.{◌≡◌, List, Ok, refl, sym, ◌∙◌}
 use Rattle.dl_elf.specs.Images.{Image}
 use Rattle.dl_machine.specs.Setups.{setup_in as machine_of}
 use Rattle.dl_plan.specs.Values.{PlanValues}

@@ -1,4 +1,4 @@
-use Rattle.spec_program.specs.commands.Inspect.{finish, outcome, reads}
+use Rattle.spec_program.specs.commands.Inspect.{outcome, reads}
 use Rattle.spec_program.specs.Operands.{good_log_at}
 use Rattle.dl_gather.specs.Halts.{Halts}
 use Rattle.dl_gather.proofs.Stopping.{halt_carried, stage_halts}
