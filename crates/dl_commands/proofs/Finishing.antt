@@ -1,10 +1,10 @@
 -- However a command is done or stops, what it leaves is what its status says.
-use Rattle.std.proofs.Common.{◌≡◌, ◌⊎◌, ℕ, Bool, true, false, true≢false, if◌then◌else◌, List, [], slice_get, Option, Some, None, Result, Ok, inl, inr, refl, sym, ◌∙◌, ap, subst, arith, append-nil}
+use Rattle.std.proofs.Common.{◌≡◌, ◌⊎◌, ℕ, Bool, true, false, true≢false, if◌then◌else◌, List, [], slice_get, Option, Some, None, Result, Ok, Err, inl, inr, refl, sym, ◌∙◌, ap, subst, arith, append-nil}
 use Rattle.std.proofs.lemmas.Option.{none-some}
 use Rattle.dl_files.specs.Contents.{Contents, IsLast}
 use Rattle.dl_files.specs.Count.{Rose}
 use Rattle.dl_files.specs.Seen.{Seen, IsKept}
-use Rattle.dl_words.specs.Commands.{CommandValues, command_of}
+use Rattle.dl_words.specs.Commands.{CommandValues, Run, command_of}
 use Rattle.spec_program.specs.declared.status.Status.{Status}
 use Rattle.spec_program.specs.declared.status.Refusal.{Refusal}
 use Rattle.spec_program.specs.Statuses.{code_of, status_of}
@@ -12,17 +12,26 @@ use Rattle.spec_program.specs.Lines.{absent_line, fault_line}
 use Rattle.spec_program.specs.Outside.{Outside, outside}
 use Rattle.spec_program.specs.Writes.{Write, written}
 use Rattle.spec_program.specs.Stages.{Refused, ◌>>◌}
-use Rattle.spec_program.specs.Tasks.{Task}
-use Rattle.spec_program.specs.Works.{Work, Drilling, Running, work_of}
-use Rattle.spec_program.specs.Outcomes.{Outcome, Refuses, Finishes, outcome_in, outcome_of}
-use Rattle.spec_program.specs.Done.{IsDone}
-use Rattle.spec_program.specs.Ends.{Took, TookAll, Partly, Stands, IsFaulted, IsFinished, IsShort, is_done, is_refusal, reads_of, status_in, writes_in}
+use Rattle.spec_program.specs.Tasks.{Task, IsTask, setup_in, task_named}
+use Rattle.spec_program.specs.commands.Drill as drill
+use Rattle.spec_program.specs.commands.Run.{HasLimits}
+use Rattle.spec_program.specs.Outcomes.{Finish, Outcome, status_in, writes_in}
+use Rattle.spec_program.specs.Asked.{IsDone, outcome_of, reads_of}
+use Rattle.spec_program.specs.Ends.{Took, TookAll, Partly, Stands, IsFaulted, IsFinished, IsShort, is_done, is_refusal}
+use Rattle.spec_program.specs.Runs.{ran}
 use Rattle.spec_program.proofs.Doing.{done_at, finished}
-use Rattle.spec_program.proofs.Finishing.{work_is}
+use Rattle.spec_program.proofs.Finishing.{outcome_is}
 use Rattle.dl_gather.specs.declared.halt.Halt.{Halt}
 use Rattle.dl_commands.specs.declared.job.Job.{Job}
-use Rattle.dl_commands.specs.Jobs.{writes_of, IsJob, IsJobOf, IsTaskJob}
+use Rattle.dl_commands.specs.Jobs.{finish_of, writes_of, IsJobOf, IsRunOf, IsTaskJob}
+use Rattle.dl_gather.specs.declared.task.Task as gather
 use Rattle.dl_gather.specs.Halts.{Halts, IsFault}
+use Rattle.dl_gather.specs.Tasks.{IsTaskOf}
+use Rattle.dl_machine.specs.Setups.{setup_in as machine_of}
+use Rattle.dl_plan.specs.Values.{PlanValues}
+use Rattle.dl_run.specs.Schedules.{events_in}
+use Rattle.spec_protocol.specs.declared.event.Event.{Event}
+use Rattle.spec_protocol.specs.machine.Machine as protocol
 use Rattle.dl_commands.specs.Ended.{IsRefusalSaid, Said, Stopped}
 use Rattle.dl_commands.specs.Performed.{IsCut, IsPerformed}
 
@@ -32,11 +41,15 @@ memory_stands o reads m before after s e short = subst (Stands o reads m before 
 fault_stands : (o : Outcome) (reads : List (List ℕ)) (m : Contents) (before after : Outside) (s : Status) (name : List ℕ) → s ≡ Status.Fault → IsFaulted o reads m before after name → Stands o reads m before after s
 fault_stands o reads m before after s name e faulted = subst (Stands o reads m before after) (sym e) (name, faulted)
 
+-- what is written and said in the end
+abbrev finishes : (diverged : Bool) → List Write → (text : List ℕ) → Outcome
+finishes d ws text = Ok (record { diverged = d; writes = ws; text = text })
+
 -- ---- a command that is done
 
 said_stands : (d : Bool) (ws : List Write) (text : List ℕ) (reads : List (List ℕ)) (m : Contents) (before after : Outside) (s : Status)
     → after.known ≡ Some (written ws m) → after.faults ≡ before.faults → Said d text before.taken after.taken before.sink_faults after.sink_faults s
-    → Stands (Finishes d ws text) reads m before after s
+    → Stands (finishes d ws text) reads m before after s
 said_stands d ws text reads m before after Status.Done e n said =
     record { status = ap (λ (b : Bool). if b then Status.Diverged else Status.Done) (sym said.0); files = e; counted = n; output = said.1 }
 said_stands d ws text reads m before after Status.Diverged e n said =
@@ -52,27 +65,27 @@ said_stands d ws text reads m before after Status.Source e n said = absurd said
 said_stands d ws text reads m before after Status.Absent e n said = absurd said
 
 cut_stands : (d : Bool) (ws : List Write) (text : List ℕ) (reads : List (List ℕ)) (m : Contents) (before after : Outside) (s : Status) (name : List ℕ)
-    → before.known ≡ Some m → IsCut ws name before after s → Stands (Finishes d ws text) reads m before after s
+    → before.known ≡ Some m → IsCut ws name before after s → Stands (finishes d ws text) reads m before after s
 cut_stands d ws text reads m before after s name e b =
-    let faulted : IsFaulted (Finishes d ws text) reads m before after name =
+    let faulted : IsFaulted (finishes d ws text) reads m before after name =
     record { counted = b.counted; named = b.named; files = inr (b.files m e); output = b.said.1 } in
     elim b.said.0 [
-      | inl due ↦ fault_stands (Finishes d ws text) reads m before after s name due.0 faulted
-      | inr memory ↦ memory_stands (Finishes d ws text) reads m before after s memory.0 (inr (inr (name, faulted)))
+      | inl due ↦ fault_stands (finishes d ws text) reads m before after s name due.0 faulted
+      | inr memory ↦ memory_stands (finishes d ws text) reads m before after s memory.0 (inr (inr (name, faulted)))
     ]
 
 finishing_stands : (d : Bool) (ws : List Write) (text : List ℕ) (reads : List (List ℕ)) (m : Contents) (before after : Outside) (s : Status)
-    → before.known ≡ Some m → IsPerformed d ws text before after s → Stands (Finishes d ws text) reads m before after s
+    → before.known ≡ Some m → IsPerformed d ws text before after s → Stands (finishes d ws text) reads m before after s
 finishing_stands d ws text reads m before after s e (inl w) = said_stands d ws text reads m before after s (w.files m e) w.counted w.said
 finishing_stands d ws text reads m before after s e (inr (inl (name, b))) = cut_stands d ws text reads m before after s name e b
 finishing_stands d ws text reads m before after s e (inr (inr u)) =
-    memory_stands (Finishes d ws text) reads m before after s u.status (inl (record { files = u.files m e; counted = u.counted; output = u.output }))
+    memory_stands (finishes d ws text) reads m before after s u.status (inl (record { files = u.files m e; counted = u.counted; output = u.output }))
 
 -- what a command that is computed, and then done, leaves outside is what its status says
-pub performed_stands : (work : Result Work Refused) (job : Job) (reads : List (List ℕ)) (m : Contents) (before after : Outside) (s : Status)
-    → IsJobOf work job → before.known ≡ Some m → IsPerformed job.diverged (writes_of job.writes.items) job.text.items before after s → Stands (outcome_in work) reads m before after s
-performed_stands work job reads m before after s (w, is, made) e performed =
-    subst (λ (x : Outcome). Stands x reads m before after s) (sym (ap outcome_in is ∙ made.outcome))
+pub performed_stands : (outcome : Outcome) (job : Job) (reads : List (List ℕ)) (m : Contents) (before after : Outside) (s : Status)
+    → IsJobOf outcome job → before.known ≡ Some m → IsPerformed job.diverged (writes_of job.writes.items) job.text.items before after s → Stands outcome reads m before after s
+performed_stands outcome job reads m before after s is e performed =
+    subst (λ (x : Outcome). Stands x reads m before after s) (sym is)
     (finishing_stands job.diverged (writes_of job.writes.items) job.text.items reads m before after s e performed)
 
 -- no read failed
@@ -103,33 +116,34 @@ performed_unrefused d ws text before after s (inr (inl (name, b))) e = elim b.sa
 ]
 performed_unrefused d ws text before after s (inr (inr u)) e = true≢false (sym e ∙ ap is_refusal u.status)
 
--- a run comes to what its task is to come to
-pub run_is : (task : Result Task Refused) (job : Job) → IsTaskJob task job → IsJobOf (task >> λ t. Ok (Running t)) job
-run_is task job (t, is, run) = (
-  Running t,
-  ap (λ (o : Result Task Refused). o >> λ x. Ok (Running x)) is,
-  record { within = run.limits; outcome = λ i. Finishes (sym run.diverged i) (sym run.writes i) (sym run.text i) },
+-- a run of a task's machine over its schedule is the task's
+pub task_run : (p : PlanValues) (asked : Result Task Refused) (task : gather.Task) (job : Job) → IsTaskOf p asked task → IsRunOf p (machine_of task.setup) (events_in task.schedule) job → IsTaskJob asked job
+task_run p asked task job of run = (
+  of.is,
+  of.asks,
+  subst (λ (x : PlanValues). IsRunOf x (setup_in of.is) of.is.events job) (sym of.plan)
+      (subst (λ (x : protocol.Setup). IsRunOf p x of.is.events job) (sym of.setup) (subst (λ (x : List Event). IsRunOf p (machine_of task.setup) x job) (sym of.events) run)),
 )
 
--- where the task of a run can't be had, the run can't either
-pub run_halts : (task : Contents → Result Task Refused) (reads : Contents → List (List ℕ)) (old new : Seen) (h : Halt) → Halts task reads old new h → Halts (λ m. task m >> λ t. Ok (Running t)) reads old new h
-run_halts task reads old new (Halt.Refused why text) halts = record {
-  known = λ m e. (ap (λ (o : Result Task Refused). o >> λ t. Ok (Running t)) (halts.known m e).0, (halts.known m e).1);
-  unknown = halts.unknown;
-  other = halts.other;
-  kept = halts.kept;
-  form = halts.form;
-}
-run_halts task reads old new (Halt.Fault text) halts = halts
-run_halts task reads old new Halt.OutOfMemory halts = halts
+-- a run comes to what its task is to come to
+pub run_is : (task : Result Task Refused) (job : Job) → IsTaskJob task job → IsJobOf (task >> λ t. ran t.plan (setup_in t) t.events) job
+run_is task job (t, is, run) =
+    ap (λ (o : Result Task Refused). o >> λ x. ran x.plan (setup_in x) x.events) is
+    ∙ (λ i. Ok (record { diverged = sym run.diverged i; writes = sym run.writes i; text = sym run.text i }))
+
+-- and its machine is within its limits
+pub run_limited : (plan : List ℕ) (m : Contents) (job : Job) → IsTaskJob (task_named m plan) job → HasLimits plan m
+run_limited plan m job (t, is, run) = (t, is, run.limits)
 
 -- what a command that is done says
 pub done_is : (words : List (List ℕ)) (m : Contents) (before after : Outside) (s : Status) (command : CommandValues) (job : Job)
-    → command_of words ≡ Some command → IsJobOf (work_of words m) job → Stands (outcome_of words m) (reads_of words m) m before after s → is_done s ≡ true
+    → command_of words ≡ Some command → ((plan : List ℕ) → command_of words ≡ Some (Run plan) → HasLimits plan m) → IsJobOf (outcome_of words m) job
+    → Stands (outcome_of words m) (reads_of words m) m before after s → is_done s ≡ true
     → IsDone command m after.known before.taken after.taken s
-done_is words m before after s command job asks (w, is, made) stands done =
-    done_at m before after s command w (sym (work_is words m command asks) ∙ is) made.within
-    (subst (λ (o : Outcome). IsFinished o m before after s) (ap outcome_in is) (finished (outcome_of words m) (reads_of words m) m before after s stands done))
+done_is words m before after s command job asks limits is stands done =
+    done_at m before after s command (finish_of job) (sym (outcome_is words m command asks) ∙ is)
+    (λ plan same. limits plan (asks ∙ ap Some same))
+    (subst (λ (o : Outcome). IsFinished o m before after s) is (finished (outcome_of words m) (reads_of words m) m before after s stands done))
 
 -- ---- a drill
 
@@ -157,11 +171,11 @@ none_due : (ws : List Write) (i : ℕ) (w : Write) → [] ≡ ws → slice_get w
 none_due ws i w none at = none-some w (ap (λ (xs : List Write). slice_get xs i) none ∙ at)
 
 -- a drill that is computed writes nothing: it ends well, or by the sink, or since memory ran out, and no file failed
-pub drill_performed : (number : ℕ) (job : Job) (before after : Outside) (s : Status) → IsJob (Drilling number) job → IsPerformed job.diverged (writes_of job.writes.items) job.text.items before after s
+pub drill_performed : (number : ℕ) (job : Job) (before after : Outside) (s : Status) → finish_of job ≡ drill.finish number → IsPerformed job.diverged (writes_of job.writes.items) job.text.items before after s
     → IsDrillEnd s × (after.faults ≡ before.faults)
 drill_performed number job before after s made (inl w) =
-    (drill_said job.diverged job.text.items before.taken after.taken before.sink_faults after.sink_faults s (ap status_in made.outcome) w.said, w.counted)
-drill_performed number job before after s made (inr (inl (name, b))) = absurd (none_due (writes_of job.writes.items) b.due.0 b.due.1 (ap writes_in made.outcome) b.due.2)
+    (drill_said job.diverged job.text.items before.taken after.taken before.sink_faults after.sink_faults s (ap (λ (f : Finish). status_in (Ok f)) (sym made)) w.said, w.counted)
+drill_performed number job before after s made (inr (inl (name, b))) = absurd (none_due (writes_of job.writes.items) b.due.0 b.due.1 (ap (λ (f : Finish). f.writes) (sym made)) b.due.2)
 drill_performed number job before after s made (inr (inr u)) = (inr (inr u.status), u.counted)
 
 -- a drill that isn't computed ends since memory ran out
@@ -170,9 +184,12 @@ drill_halted h old new from to s is stopped = let memory : Stopped Halt.OutOfMem
 
 -- ---- a command that stops
 
+abbrev refuses : Refusal → (text : List ℕ) → Outcome
+refuses why text = Err (record { why = why; line = text })
+
 -- a refusal's status stands by its line
 refused_stands : (why : Refusal) (text : List ℕ) (reads : List (List ℕ)) (m : Contents) (before after : Outside) → after.known ≡ Some m → after.faults ≡ before.faults → Took text before.taken after.taken
-    → Stands (Refuses why text) reads m before after (status_of why)
+    → Stands (refuses why text) reads m before after (status_of why)
 refused_stands Refusal.Usage text reads m before after e n took = record { status = refl; files = e; counted = n; output = took }
 refused_stands Refusal.Plan text reads m before after e n took = record { status = refl; files = e; counted = n; output = took }
 refused_stands Refusal.Image text reads m before after e n took = record { status = refl; files = e; counted = n; output = took }
@@ -210,21 +227,21 @@ module _ (old new : Seen) (before after : Option (List ℕ)) (from to : ℕ) whe
   fault_is o reads m name e f took = record { counted = f.unread.counted; named = f.unread.named; files = inl (f.unread.kept.known ∙ e, f.next m e); output = took }
 
   -- what it leaves outside is what its status says
-  pub halted_stands : (task : Contents → Result Work Refused) (reads : Contents → List (List ℕ)) (m : Contents) (h : Halt) (s : Status) → old.known ≡ Some m → Halts task reads old new h
-      → Stopped h before after from to s → Stands (outcome_in (task m)) (reads m) m (outside old before from) (outside new after to) s
+  pub halted_stands : (task : Contents → Outcome) (reads : Contents → List (List ℕ)) (m : Contents) (h : Halt) (s : Status) → old.known ≡ Some m → Halts task reads old new h
+      → Stopped h before after from to s → Stands (task m) (reads m) m (outside old before from) (outside new after to) s
   halted_stands task reads m (Halt.Refused why text) s e halts stopped =
       let was = outside old before from in
       let is = outside new after to in
-      let o : outcome_in (task m) ≡ Refuses why text.items = ap outcome_in (halts.known m e).0 in
+      let o : task m ≡ refuses why text.items = (halts.known m e).0 in
       let same = (halts.known m e).1 in
       let known = ap (λ (x : Seen). x.known) same ∙ e in
       let n = ap (λ (x : Seen). x.faults) same in
       elim stopped.0 [
         | inl due ↦
-            subst (Stands (outcome_in (task m)) (reads m) m was is) (sym due.0)
+            subst (Stands (task m) (reads m) m was is) (sym due.0)
             (subst (λ (x : Outcome). Stands x (reads m) m was is (status_of why)) (sym o) (refused_stands why text.items (reads m) m was is known n stopped.1))
         | inr memory ↦
-            memory_stands (outcome_in (task m)) (reads m) m was is s memory.0
+            memory_stands (task m) (reads m) m was is s memory.0
             (subst (λ (x : Outcome). IsShort x (reads m) m was is) (sym o) (inr (inl (record { files = known; counted = n; output = stopped.1 }))))
       ]
   halted_stands task reads m (Halt.Fault text) s e halts stopped =
@@ -232,27 +249,27 @@ module _ (old new : Seen) (before after : Option (List ℕ)) (from to : ℕ) whe
       let is = outside new after to in
       let name = halts.0 in
       let took : Took (fault_line name) before after = subst (λ (x : List ℕ). Took x before after) halts.1 stopped.1 in
-      let faulted = fault_is (outcome_in (task m)) reads m name e halts.2 took in
+      let faulted = fault_is (task m) reads m name e halts.2 took in
       elim stopped.0 [
-        | inl due ↦ fault_stands (outcome_in (task m)) (reads m) m was is s name due.0 faulted
-        | inr memory ↦ memory_stands (outcome_in (task m)) (reads m) m was is s memory.0 (inr (inr (name, faulted)))
+        | inl due ↦ fault_stands (task m) (reads m) m was is s name due.0 faulted
+        | inr memory ↦ memory_stands (task m) (reads m) m was is s memory.0 (inr (inr (name, faulted)))
       ]
   halted_stands task reads m Halt.OutOfMemory s e (inl same) stopped =
-      memory_stands (outcome_in (task m)) (reads m) m (outside old before from) (outside new after to) s stopped.0
+      memory_stands (task m) (reads m) m (outside old before from) (outside new after to) s stopped.0
       (inl (record { files = none_written _ m new.known (ap (λ (x : Seen). x.known) same ∙ e); counted = ap (λ (x : Seen). x.faults) same; output = stopped.1 }))
   halted_stands task reads m Halt.OutOfMemory s e (inr (name, f)) stopped =
-      memory_stands (outcome_in (task m)) (reads m) m (outside old before from) (outside new after to) s stopped.0
-      (inr (inr (name, fault_is (outcome_in (task m)) reads m name e f (took_none (fault_line name) before after stopped.1))))
+      memory_stands (task m) (reads m) m (outside old before from) (outside new after to) s stopped.0
+      (inr (inr (name, fault_is (task m) reads m name e f (took_none (fault_line name) before after stopped.1))))
 
   -- no file has changed
-  pub halted_kept : (task : Contents → Result Work Refused) (reads : Contents → List (List ℕ)) (h : Halt) → Halts task reads old new h → IsKept old new
+  pub halted_kept : (task : Contents → Outcome) (reads : Contents → List (List ℕ)) (h : Halt) → Halts task reads old new h → IsKept old new
   halted_kept task reads (Halt.Refused why text) halts = halts.kept
   halted_kept task reads (Halt.Fault text) halts = halts.2.unread.kept
   halted_kept task reads Halt.OutOfMemory (inl same) = record { known = ap (λ (x : Seen). x.known) same; changes = ap (λ (x : Seen). x.changes) same }
   halted_kept task reads Halt.OutOfMemory (inr (name, f)) = f.unread.kept
 
   -- its refusal is said in the form of its kind
-  pub halted_line : (task : Contents → Result Work Refused) (reads : Contents → List (List ℕ)) (h : Halt) (s : Status) → Halts task reads old new h → Stopped h before after from to s
+  pub halted_line : (task : Contents → Outcome) (reads : Contents → List (List ℕ)) (h : Halt) (s : Status) → Halts task reads old new h → Stopped h before after from to s
       → is_refusal s ≡ true → IsRefusalSaid s before after from to
   halted_line task reads (Halt.Refused why text) s halts stopped e = elim stopped.0 [
     | inl due ↦ (why, text.items, due.0, halts.form, stopped.1, due.1)
@@ -265,7 +282,7 @@ module _ (old new : Seen) (before after : Option (List ℕ)) (from to : ℕ) whe
   halted_line task reads Halt.OutOfMemory s halts stopped e = absurd (true≢false (sym e ∙ ap is_refusal stopped.0))
 
   -- a name that is said to be absent, where no contents are known, is the last fault's
-  pub halted_absent : (task : Contents → Result Work Refused) (reads : Contents → List (List ℕ)) (h : Halt) (s : Status) → Halts task reads old new h → Stopped h before after from to s
+  pub halted_absent : (task : Contents → Outcome) (reads : Contents → List (List ℕ)) (h : Halt) (s : Status) → Halts task reads old new h → Stopped h before after from to s
       → old.known ≡ None → s ≡ Status.Absent → (Rose from to → ⊥) → (name : List ℕ) × IsLast new.last name × TookAll (absent_line name) before after
   halted_absent task reads (Halt.Refused why text) s halts stopped none e whole = elim stopped.0 [
     | inl due ↦
@@ -333,7 +350,7 @@ module _ (before after : Option (List ℕ)) (from to : ℕ) (s : Status) where
   stopped_undone Halt.OutOfMemory stopped done = true≢false (sym done ∙ ap is_done stopped.0)
 
   -- where it halted by a fault of a read, it says the last fault's line, whole where the sink had no fault
-  pub stopped_fault : (task : Contents → Result Work Refused) (reads : Contents → List (List ℕ)) (old new : Seen) (h : Halt)
+  pub stopped_fault : (task : Contents → Outcome) (reads : Contents → List (List ℕ)) (old new : Seen) (h : Halt)
       → Halts task reads old new h → Stopped h before after from to s → s ≡ Status.Fault → (Rose from to → ⊥) → FaultSaid new.last before after
   stopped_fault task reads old new (Halt.Refused why text) halts stopped e whole = elim stopped.0 [
     | inl due ↦ absurd (no_refusal_fault why (sym due.0 ∙ e))

@@ -1,6 +1,4 @@
 pub mod Assembled
-pub mod Building
-pub mod Filing
 pub mod Finishing
 pub mod Growing
 pub mod Planned

@@ -31,8 +31,8 @@ into_products n product (Some name) is = (is, tt)
 
 log_products : (n i : ℕ) (role : RoleValues) → i < n → AreProducts n (log_written i role)
 log_products n i Plain h = tt
-log_products n i (Record mode log) h = (h, tt)
-log_products n i (Replay log) h = tt
+log_products n i (Record values) h = (h, tt)
+log_products n i (Replay values) h = tt
 
 from_products : (n i : ℕ) (ss : List SphereValues) → i + length ss ≤ n → AreProducts n (written_from i ss)
 from_products n i [] h = tt

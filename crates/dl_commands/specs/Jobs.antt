@@ -7,10 +7,11 @@ use Rattle.spec_protocol.specs.machine.Machine.{Setup}
 use Rattle.spec_protocol.specs.promises.Sound.{IsWithinLimits}
 use Rattle.spec_run.specs.Runs.{diverges}
 use Rattle.spec_run.specs.Texts.{summary_text}
-use Rattle.spec_program.specs.Outcomes.{Finishes, outcome_for, writes_for}
+use Rattle.spec_program.specs.commands.Drill as drill
+use Rattle.spec_program.specs.Outcomes.{Finish, Outcome}
+use Rattle.spec_program.specs.Runs.{writes_for}
 use Rattle.spec_program.specs.Stages.{Refused}
 use Rattle.spec_program.specs.Tasks.{Task, setup_in}
-use Rattle.spec_program.specs.Works.{Work, Drilling, IsWithin}
 use Rattle.spec_program.specs.Writes.{Write}
 use Rattle.dl_gather.specs.declared.halt.Halt.{Halt}
 use Rattle.dl_commands.specs.declared.job.Job.{Job}
@@ -33,6 +34,14 @@ write_of w = record { name = string_bytes w.name; bytes = bytes_in w.content; in
 abbrev pub writes_of : List NamedContent → List Write
 writes_of ws = map write_of ws
 
+-- what a job writes and says
+abbrev pub finish_of : Job → Finish
+finish_of job = record { diverged = job.diverged; writes = writes_of job.writes.items; text = job.text.items }
+
+-- the outcome is to do the job
+abbrev pub IsJobOf : Outcome → Job → Type 0
+IsJobOf outcome job = outcome ≡ Ok (finish_of job)
+
 -- what the run of that schedule comes to, on a machine within its limits
 pub record IsRunOf (p : PlanValues) (s : Setup) (es : List Event) (job : Job) : Type 0 where
   pub limits : IsWithinLimits s
@@ -44,16 +53,7 @@ pub record IsRunOf (p : PlanValues) (s : Setup) (es : List Event) (job : Job) : 
 abbrev pub IsTaskJob : Result Task Refused → Job → Type 0
 IsTaskJob task job = (t : Task) × (task ≡ Ok t) × IsRunOf t.plan (setup_in t) t.events job
 
--- what a command is to do is computed: what its outcome writes and says, and it is within the limits
-pub record IsJob (work : Work) (job : Job) : Type 0 where
-  pub within : IsWithin work
-  pub outcome : outcome_for work ≡ Finishes job.diverged (writes_of job.writes.items) job.text.items
-
--- there is something to do, and this is what it comes to
-abbrev pub IsJobOf : Result Work Refused → Job → Type 0
-IsJobOf work job = (w : Work) × (work ≡ Ok w) × IsJob w job
-
 -- the drill of that number is computed, or memory ran out
 abbrev pub IsDrill : (number : ℕ) → Result Job Halt → Type 0
-IsDrill number (Ok job) = IsJob (Drilling number) job
+IsDrill number (Ok job) = finish_of job ≡ drill.finish number
 IsDrill number (Err halt) = halt ≡ Halt.OutOfMemory

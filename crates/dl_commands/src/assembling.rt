@@ -1,14 +1,13 @@
 //! `asm SOURCE NAME`: the file of a source under a name.
-ghost use Rattle.std.specs.Prelude.{◌≡◌, ◌∷◌, [], Ok, Some, IfOk, IfErr, OnOk};
+ghost use Rattle.std.specs.Prelude.{◌≡◌, Ok, Some, IfOk, IfErr, OnOk};
 ghost use Rattle.dl_files.specs.Contents.{Contents};
+ghost use Rattle.spec_program.specs.commands.Asm.{outcome, outcome_in, reads};
 ghost use Rattle.spec_program.specs.Sources.{assembled};
-ghost use Rattle.spec_program.specs.Works.{Assembling, asm_at, asm_in};
 ghost use Rattle.dl_gather.specs.Halts.{Halts, IsNotUsage, Refuses};
-ghost use Rattle.dl_commands.specs.Jobs.{IsJob, IsJobOf};
+ghost use Rattle.dl_commands.specs.Jobs.{IsJobOf};
 
-use crate::job::{Job, written};
+use crate::job::{Job, filed};
 use dl_asm::{AsmError, assemble};
-use dl_entry::OutOfMemory;
 use dl_files::Files;
 use dl_gather::{Halt, assembled_line, read_file, source_line};
 use spec_program::status::Refusal;
@@ -22,9 +21,9 @@ pub fn assemble_source<F: Files>(
     name: &str,
 ) -> Result<Job, Halt>
     ensures job { IfOk result (λ job. (m : Contents) → (F.seen files.old).known ≡ Some m
-        → IsJobOf (asm_at m source.now name.now) job) }
-    ensures halt { IfErr result (Halts (λ m. asm_at m source.now name.now)
-        (λ m. source.now ∷ []) (F.seen files.old) (F.seen files.new)) }
+        → IsJobOf (outcome m source.now name.now) job) }
+    ensures halt { IfErr result (Halts (λ m. outcome m source.now name.now) (λ m. reads source.now)
+        (F.seen files.old) (F.seen files.new)) }
     ensures usage { IfErr result IsNotUsage }
     ensures same { OnOk result (F.seen files.new ≡ F.seen files.old) }
 {
@@ -33,14 +32,12 @@ pub fn assemble_source<F: Files>(
 }
 
 fn assemble_bytes(alloc: Global, bytes: &[u8], name: &str) -> Result<Job, Halt>
-    ensures job { IfOk result (IsJobOf (asm_in name.now bytes.now)) }
-    ensures halt { IfErr result (Refuses (asm_in name.now bytes.now)) }
+    ensures job { IfOk result (IsJobOf (outcome_in name.now bytes.now)) }
+    ensures halt { IfErr result (Refuses (outcome_in name.now bytes.now)) }
 {
     let file = assembly(alloc, bytes)?;
-    match assembled_job(alloc, file, name) {
-        Ok(job) => Ok(job),
-        Err(_) => Err(Halt::OutOfMemory),
-    }
+    let text = assembled_line(alloc, file.len())?;
+    Ok(filed(alloc, name, file, text)?)
 }
 
 // The file; the first line that breaks a rule is refused.
@@ -56,11 +53,4 @@ fn assembly(alloc: Global, bytes: &[u8]) -> Result<Vec<u8>, Halt>
         )),
         Err(AsmError::OutOfMemory) => Err(Halt::OutOfMemory),
     }
-}
-
-fn assembled_job(alloc: Global, file: Vec<u8>, name: &str) -> Result<Job, OutOfMemory>
-    ensures { IfOk result (IsJob (Assembling file.items name.now)) }
-{
-    let text = assembled_line(alloc, file.len())?;
-    written(alloc, name, file, text)
 }

@@ -1,7 +1,7 @@
 //! `drill NUMBER`: a generated image recorded and replayed.
-ghost use Rattle.std.specs.Prelude.{IfOk};
-ghost use Rattle.spec_program.specs.Works.{Drilling};
-ghost use Rattle.dl_commands.specs.Jobs.{IsJob};
+ghost use Rattle.std.specs.Prelude.{◌≡◌, IfOk};
+ghost use Rattle.spec_program.specs.commands.Drill.{finish};
+ghost use Rattle.dl_commands.specs.Jobs.{finish_of};
 
 use crate::job::{Job, said};
 use dl_drill::drill;
@@ -10,7 +10,7 @@ use std::alloc::Global;
 
 /// The summaries of the recording and of the replay, whose accounts are equal.
 pub fn drill_number(alloc: Global, number: u32) -> Result<Job, OutOfMemory>
-    ensures { IfOk result (IsJob (Drilling number)) }
+    ensures { IfOk result (λ job. finish_of job ≡ finish number) }
 {
     let text = drill(alloc, number)?;
     Ok(said(alloc, text, false))

@@ -1,7 +1,7 @@
 //! What a command is to write and to say, once it is computed.
-ghost use Rattle.std.specs.Prelude.{◌≡◌, ◌∷◌, [], false, IfOk};
-ghost use Rattle.spec_program.specs.Writes.{at_once};
-ghost use Rattle.dl_commands.specs.Jobs.{writes_of};
+ghost use Rattle.std.specs.Prelude.{◌≡◌, IfOk};
+ghost use Rattle.spec_program.specs.Outcomes.{filed as filed_so, said as said_so};
+ghost use Rattle.dl_commands.specs.Jobs.{finish_of};
 
 use crate::writing::{Content, NamedContent};
 use dl_entry::OutOfMemory;
@@ -17,9 +17,7 @@ pub struct Job {
 
 /// A text is said, and no file is written.
 pub fn said(alloc: Global, text: Vec<u8>, diverged: bool) -> Job
-    ensures writes { result.writes.items ≡ [] }
-    ensures text { result.text.items ≡ text.items }
-    ensures diverged { result.diverged ≡ diverged }
+    ensures { finish_of result ≡ said_so text.items diverged }
 {
     Job {
         writes: Vec::new(alloc),
@@ -29,11 +27,8 @@ pub fn said(alloc: Global, text: Vec<u8>, diverged: bool) -> Job
 }
 
 /// One file is written, and then a text said.
-pub fn written(alloc: Global, name: &str, bytes: Vec<u8>, text: Vec<u8>) -> Result<Job, OutOfMemory>
-    ensures writes { IfOk result (λ job. writes_of job.writes.items
-        ≡ at_once name.now bytes.items ∷ []) }
-    ensures text { IfOk result (λ job. job.text.items ≡ text.items) }
-    ensures diverged { IfOk result (λ job. job.diverged ≡ false) }
+pub fn filed(alloc: Global, name: &str, bytes: Vec<u8>, text: Vec<u8>) -> Result<Job, OutOfMemory>
+    ensures { IfOk result (λ job. finish_of job ≡ filed_so name.now bytes.items text.items) }
 {
     let mut writes = Vec::new(alloc);
     let name = String::from_str(alloc, name)?;

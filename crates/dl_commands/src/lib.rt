@@ -3,14 +3,13 @@
 #![tactic(auto)]
 
 mod assembling;
-mod computing;
 mod drilling;
 mod ending;
 mod inspecting;
 mod job;
 mod making;
+mod plans;
 mod preparing;
-mod roles;
 mod running;
 mod telling;
 mod top;

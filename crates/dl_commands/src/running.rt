@@ -6,7 +6,7 @@ ghost use Rattle.dl_plan.specs.Views.{output_view};
 ghost use Rattle.dl_run.specs.Ran.{IsOver};
 ghost use Rattle.dl_run.specs.Schedules.{AreFew, events_in};
 ghost use Rattle.spec_protocol.specs.declared.event.Event.{Event};
-ghost use Rattle.spec_program.specs.Outcomes.{product_for};
+ghost use Rattle.spec_program.specs.Runs.{product_for};
 ghost use Rattle.spec_program.specs.Writes.{filled, is_log};
 ghost use Rattle.dl_commands.specs.Jobs.{IsRunOf, bytes_in, is_in_pieces, write_of, writes_of};
 ghost use Rattle.dl_commands.specs.Products.{IsProduct, AreProducts};

@@ -1,7 +1,9 @@
 pub mod Loading
 pub mod Memories
 pub mod Named
+pub mod SettingUp
 pub mod Spheres
 pub mod Stages
 pub mod Stopping
+pub mod Tasking
 pub mod Unread

@@ -27,8 +27,8 @@ of_optional source (Some name) = refl
 
 of_role : (i : ℕ) (role : RoleValues) → names (log_read i role) ≡ read_for_role role
 of_role i Plain = refl
-of_role i (Record mode log) = refl
-of_role i (Replay log) = refl
+of_role i (Record values) = refl
+of_role i (Replay values) = refl
 
 of_sphere : (i : ℕ) (s : SphereValues) → names (read_by i s) ≡ read_for_sphere s
 of_sphere i s = ap (λ (ns : List (List ℕ)). s.image ∷ ns) (of_role i s.role)

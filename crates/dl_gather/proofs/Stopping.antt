@@ -102,6 +102,12 @@ halts_in reads all stage whole old new Halt.OutOfMemory errs next (inl same) = i
 halts_in reads all stage whole old new Halt.OutOfMemory errs next (inr (name, f)) =
     inr (name, record { unread = f.unread; next = λ m e. next m e name (f.next m e) })
 
+-- where the first stage of a whole halts, so does the whole
+pub stage_halts : {A B : Type 0} (reads : Contents → List (List ℕ)) (stage : Contents → Result A Refused) (rest : A → Result B Refused) (old new : Seen) (h : Halt)
+    → Halts stage reads old new h → Halts (λ m. stage m >> rest) reads old new h
+stage_halts reads stage rest old new h halts =
+    halts_in reads reads stage (λ m. stage m >> rest) old new h (λ m e r is. err_then (stage m) rest r is) (λ m e x next. next) halts
+
 -- ---- the command
 
 -- a stage that is refused stops the stages after it
@@ -146,11 +152,11 @@ plan_there m name p e = there_refused m name (get m name) _ p e
 
 role_there : (m : Contents) (role : RoleValues) (r : RoleRead) → role_read m role ≡ Ok r → AreThere m (read_for_role role)
 role_there m Plain r e = tt
-role_there m (Record mode log) r e = tt
-role_there m (Replay log) r e =
-    let read = then_ok (log_at m log) _ r e in
-    let t = then_ok (read_at m log) _ read.0 read.1 in
-    (file_there m log t.0 t.1, tt)
+role_there m (Record values) r e = tt
+role_there m (Replay values) r e =
+    let read = then_ok (log_at m values.log) _ r e in
+    let t = then_ok (read_at m values.log) _ read.0 read.1 in
+    (file_there m values.log t.0 t.1, tt)
 
 -- once a sphere is read, its image is there, and so is the log that it replays
 pub sphere_there : (m : Contents) (s : SphereValues) (r : SphereRead) → sphere_read m s ≡ Ok r → AreThere m (read_for_sphere s)

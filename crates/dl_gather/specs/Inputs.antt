@@ -1,16 +1,16 @@
 -- What a plan has read, as the definitions see it, and what is true of it.
 use Rattle.std.specs.Prelude.{◌≡◌, ◌≤◌, ◌^◌, List, map, length, IfOk}
 use Rattle.std.specs.List.{AllByRecursion}
-use Rattle.dl_elf.specs.Images.{Image}
 use Rattle.dl_logio.specs.Files.{read_view}
 use Rattle.dl_scriptio.specs.Files.{read_view as script_view}
 use Rattle.dl_plan.specs.Values.{PlanValues, IsMemory}
-use Rattle.dl_sphere.specs.declared.setup.SphereSetup.{SphereSetup}
 use Rattle.spec_program.specs.Files.{ScheduleRead, ScriptRead, EventsDrawn, RoleRead, PlainRead, RecordRead, ReplayRead, SphereRead, PlanRead}
 use Rattle.dl_gather.specs.declared.inputs.ScheduleInputs.{ScheduleInputs}
 use Rattle.dl_gather.specs.declared.inputs.RoleInputs.{RoleInputs}
 use Rattle.dl_gather.specs.declared.inputs.SphereInputs.{SphereInputs}
 use Rattle.dl_gather.specs.declared.inputs.Inputs.{Inputs}
+use Rattle.dl_gather.specs.declared.inputs.PairRead.{PairRead}
+use Rattle.spec_program.specs.Operands as operands
 
 abbrev pub schedule_view : ScheduleInputs → ScheduleRead
 schedule_view (ScheduleInputs.Script script) = ScriptRead (script_view script)
@@ -27,9 +27,9 @@ sphere_view s = record { image = s.image.items; memory = s.memory; role = role_v
 abbrev pub inputs_view : Inputs → PlanRead
 inputs_view r = record { schedule = schedule_view r.schedule; input = r.input.items; spheres = map sphere_view r.spheres.items }
 
--- the image of a sphere before it starts
-abbrev pub image_in : SphereSetup → Image
-image_in s = s.image
+-- an image and a log
+abbrev pub pair_view : PairRead → operands.PairRead
+pair_view p = record { image = p.image; log = p.log }
 
 -- ---- what is true of them
 

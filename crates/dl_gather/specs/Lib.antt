@@ -2,3 +2,4 @@ pub mod Forms
 pub mod Inputs
 pub mod Halts
 pub mod Reads
+pub mod Tasks

@@ -10,8 +10,8 @@ read_for_schedule (Seeded events) = []
 -- the log, where one is replayed
 abbrev pub read_for_role : RoleValues → List (List ℕ)
 read_for_role Plain = []
-read_for_role (Record mode log) = []
-read_for_role (Replay log) = log ∷ []
+read_for_role (Record values) = []
+read_for_role (Replay values) = values.log ∷ []
 
 -- of a sphere, its image and then its log
 abbrev pub read_for_sphere : SphereValues → List (List ℕ)

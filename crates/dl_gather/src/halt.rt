@@ -1,4 +1,5 @@
 //! Why a command stops before its end.
+use dl_entry::OutOfMemory;
 use spec_program::status::Refusal;
 use std::alloc::AllocError;
 
@@ -20,6 +21,17 @@ impl From<AllocError> for Halt {
     ghost from_gives = { λ _ halt. halt ≡ OutOfMemory };
 
     fn from(_error: AllocError) -> Halt {
+        Halt::OutOfMemory
+    }
+}
+
+impl From<OutOfMemory> for Halt {
+    ghost use Rattle.std.specs.Prelude.{◌≡◌};
+    ghost use Rattle.dl_gather.specs.declared.halt.Halt.TheVariants.{OutOfMemory};
+
+    ghost from_gives = { λ _ halt. halt ≡ OutOfMemory };
+
+    fn from(_error: OutOfMemory) -> Halt {
         Halt::OutOfMemory
     }
 }

@@ -5,45 +5,40 @@ ghost use Rattle.dl_elf.specs.Loading.{image_of};
 ghost use Rattle.spec_program.specs.Built.{bad_image, image_read, images_of};
 ghost use Rattle.spec_program.specs.Stages.{refusing};
 ghost use Rattle.dl_gather.specs.Halts.{Refuses};
-ghost use Rattle.dl_gather.specs.Inputs.{HaveMemories, image_in, sphere_view};
+ghost use Rattle.dl_gather.specs.Inputs.{HaveMemories, sphere_view};
 
 use crate::halt::Halt;
 use crate::inputs::SphereInputs;
 use crate::lines::image_line;
 use dl_elf::{ElfError, Image, load};
-use dl_sphere::{Role, SphereSetup};
 use spec_program::status::Refusal;
 use std::alloc::Global;
 
-/// Each sphere with its image, and plain until its role is read; the first image that breaks a rule is refused.
-pub fn load_spheres(alloc: Global, inputs: &[SphereInputs]) -> Result<Vec<SphereSetup>, Halt>
+/// The image of each sphere; the first that breaks a rule is refused.
+pub fn load_images(alloc: Global, inputs: &[SphereInputs]) -> Result<Vec<Image>, Halt>
     requires { HaveMemories (map sphere_view inputs.now) }
-    ensures images { IfOk result (λ ss. images_of 0 (map sphere_view inputs.now) ≡ Ok (map image_in ss.items)) }
-    ensures count { IfOk result (λ ss. length ss.items ≡ length inputs.now) }
+    ensures images { IfOk result (λ images. images_of 0 (map sphere_view inputs.now) ≡ Ok images.items) }
+    ensures count { IfOk result (λ images. length images.items ≡ length inputs.now) }
     ensures halt { IfErr result (Refuses (images_of 0 (map sphere_view inputs.now))) }
 {
-    let mut spheres = Vec::new(alloc);
+    let mut images = Vec::new(alloc);
     for (i, input) in inputs.iter().enumerate() {
-        let sphere = load_sphere(alloc, i, input)?;
-        match spheres.push(sphere) {
+        let image = load_one(alloc, i, input)?;
+        match images.push(image) {
             Ok(()) => {}
             Err(_) => return Err(Halt::OutOfMemory),
         }
     }
-    Ok(spheres)
+    Ok(images)
 }
 
-// The sphere of that number.
-fn load_sphere(alloc: Global, number: usize, input: &SphereInputs) -> Result<SphereSetup, Halt>
+// That of the sphere of that number.
+fn load_one(alloc: Global, number: usize, input: &SphereInputs) -> Result<Image, Halt>
     requires { IsMemory input.now.memory }
-    ensures image { IfOk result (λ s. image_read number (sphere_view input.now) ≡ Ok (image_in s)) }
+    ensures image { IfOk result (λ image. image_read number (sphere_view input.now) ≡ Ok image) }
     ensures halt { IfErr result (Refuses (image_read number (sphere_view input.now))) }
 {
-    let image = load_image(alloc, number, &input.image, input.memory)?;
-    Ok(SphereSetup {
-        image,
-        role: Role::Plain,
-    })
+    load_image(alloc, number, &input.image, input.memory)
 }
 
 /// The image of the sphere of that number, in a memory of that size; the first rule that the file breaks is refused.

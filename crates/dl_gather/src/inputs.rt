@@ -1,4 +1,6 @@
-//! What a plan has read.
+//! What a plan has read, and what a command has that names an image and a log.
+use dl_elf::Image;
+use dl_logfmt::Log;
 use dl_logio::LogRead;
 use dl_plan::Mode;
 use dl_scriptio::ScriptRead;
@@ -36,4 +38,11 @@ pub enum RoleInputs {
     Record(Mode),
     /// What the file of a log says.
     Replay(LogRead),
+}
+
+/// An image and a log, which is played on it.
+#[derive(Drop)]
+pub struct PairRead {
+    pub image: Image,
+    pub log: Log,
 }

@@ -1,8 +1,8 @@
 //! The plan of a command.
-ghost use Rattle.std.specs.Prelude.{◌≡◌, ◌∷◌, Some, Ok, IfOk, IfErr, OnOk};
+ghost use Rattle.std.specs.Prelude.{◌≡◌, Some, Ok, IfOk, IfErr, OnOk};
 ghost use Rattle.dl_files.specs.Contents.{Contents};
 ghost use Rattle.dl_plan.specs.Values.{IsPlan, plan_view};
-ghost use Rattle.spec_program.specs.Ends.{inputs_of};
+ghost use Rattle.spec_program.specs.commands.Run.{reads};
 ghost use Rattle.spec_program.specs.Tasks.{plan_at};
 ghost use Rattle.dl_gather.specs.Halts.{Halts, IsNotUsage};
 
@@ -20,7 +20,7 @@ pub fn load_plan<F: Files>(alloc: Global, files: &mut F, name: &str) -> Result<P
         → plan_at m name.now ≡ Ok (plan_view p)) }
     ensures limits { IfOk result (λ p. IsPlan (plan_view p)) }
     ensures halt { IfErr result (Halts (λ m. plan_at m name.now)
-        (λ m. name.now ∷ inputs_of (plan_at m name.now)) (F.seen files.old) (F.seen files.new)) }
+        (λ m. reads m name.now) (F.seen files.old) (F.seen files.new)) }
     ensures usage { IfErr result IsNotUsage }
     ensures same { OnOk result (F.seen files.new ≡ F.seen files.old) }
 {

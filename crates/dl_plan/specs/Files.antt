@@ -24,8 +24,8 @@ script_read (Seeded events) = []
 -- the log, where the sphere of that number replays one
 abbrev pub log_read : (sphere : ℕ) → RoleValues → List InputValues
 log_read i Plain = []
-log_read i (Record mode log) = []
-log_read i (Replay log) = record { name = log; source = Source.Log i } ∷ []
+log_read i (Record values) = []
+log_read i (Replay values) = record { name = values.log; source = Source.Log i } ∷ []
 
 -- of the sphere of that number, its image and then its log
 abbrev pub read_by : (sphere : ℕ) → SphereValues → List InputValues
@@ -63,8 +63,8 @@ into product (Some name) = record { name = name; product = product } ∷ []
 -- the log, where the sphere of that number is recorded
 abbrev pub log_written : (sphere : ℕ) → RoleValues → List OutputValues
 log_written i Plain = []
-log_written i (Record mode log) = record { name = log; product = Product.Log i } ∷ []
-log_written i (Replay log) = []
+log_written i (Record values) = record { name = values.log; product = Product.Log i } ∷ []
+log_written i (Replay values) = []
 
 -- of the sphere of that number, its log and then its account
 abbrev pub written_by : (sphere : ℕ) → SphereValues → List OutputValues

@@ -26,8 +26,8 @@ has_role_keys s = keys_stand s.role s
 
 abbrev role_made : RoleName → SphereEntries → Option RoleValues
 role_made RoleName.Plain s = Some Plain
-role_made RoleName.Record s = s.mode >>= λ mode. s.log >>= λ log. Some (Record mode log)
-role_made RoleName.Replay s = s.log >>= λ log. Some (Replay log)
+role_made RoleName.Record s = s.mode >>= λ mode. s.log >>= λ log. Some (Record (record { mode = mode; log = log }))
+role_made RoleName.Replay s = s.log >>= λ log. Some (Replay (record { log = log }))
 
 abbrev pub role_of : SphereEntries → Option RoleValues
 role_of s = if has_role_keys s then role_made s.role s else None

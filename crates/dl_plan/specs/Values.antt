@@ -14,11 +14,20 @@ pub data ScheduleValues : Type 0 where
   Script : (name : List ℕ) → ScheduleValues
   Seeded : (events : ℕ) → ScheduleValues
 
--- what a sphere does: it runs plainly, is recorded in a mode into the log of that name, or replays the log of that name
+-- of what is recorded, the mode, and the name of the log
+pub record RecordValues : Type 0 where
+  pub mode : Mode
+  pub log : List ℕ
+
+-- of what is replayed, the name of the log
+pub record ReplayValues : Type 0 where
+  pub log : List ℕ
+
+-- what a sphere does: it runs plainly, is recorded, or replays a log
 pub data RoleValues : Type 0 where
   Plain : RoleValues
-  Record : Mode → (log : List ℕ) → RoleValues
-  Replay : (log : List ℕ) → RoleValues
+  Record : RecordValues → RoleValues
+  Replay : ReplayValues → RoleValues
 
 pub record SphereValues : Type 0 where
   pub image : List ℕ
@@ -43,8 +52,8 @@ schedule_view (Schedule.Seeded events) = Seeded events
 
 abbrev pub role_view : Role → RoleValues
 role_view Role.Plain = Plain
-role_view (Role.Record mode log) = Record mode (string_bytes log)
-role_view (Role.Replay log) = Replay (string_bytes log)
+role_view (Role.Record mode log) = Record (record { mode = mode; log = string_bytes log })
+role_view (Role.Replay log) = Replay (record { log = string_bytes log })
 
 abbrev pub sphere_view : Sphere → SphereValues
 sphere_view s = record { image = string_bytes s.image; memory = s.memory; role = role_view s.role; account = option_map string_bytes s.account }

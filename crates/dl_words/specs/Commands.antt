@@ -1,22 +1,36 @@
 -- What the words mean: a command with its operands, or none.
-use Rattle.std.specs.Prelude.{◌≡◌, true, ℕ, List, [], ◌∷◌, Option, None, codes, if◌then◌else◌}
+use Rattle.std.specs.Prelude.{ℕ, List, [], ◌∷◌, Option, None, codes, if◌then◌else◌}
 use Rattle.std.specs.Option.{option_and_then, option_map}
 use Rattle.std.specs.Str.{bytes_eq}
 use Rattle.clap.specs.Words.{Kinds, Row, Text, fault_of, first_of, subcommand_of}
 use Rattle.dl_words.specs.Apps.{command_line}
-use Rattle.dl_words.specs.Numbers.{is_size, number_of, memory_of}
+use Rattle.dl_words.specs.Numbers.{number_of, memory_of}
 use Rattle.dl_words.specs.declared.command.Command.{Command}
 use Rattle.dl_words.specs.declared.command.Command.TheVariants as command
+use Rattle.dl_words.specs.declared.pair.Pair.{Pair}
+
+-- the names of an image and of a log of it, and the bytes of the memory that the log is played in
+pub record PairValues : Type 0 where
+  pub image : Text
+  pub memory : ℕ
+  pub log : Text
 
 pub data CommandValues : Type 0 where
   Run : (plan : Text) → CommandValues
   Inspect : (log : Text) → CommandValues
-  Walk : (image : Text) → (memory : ℕ) → (log : Text) → CommandValues
+  Walk : (pair : PairValues) → CommandValues
   Make : (number : ℕ) → (name : Text) → CommandValues
   Drill : (number : ℕ) → CommandValues
   Asm : (source : Text) → (name : Text) → CommandValues
 
 -- ---- each subcommand, from what was found for its operands
+
+abbrev pub pair_of : List Row → Option PairValues
+pair_of rows =
+    option_and_then (λ image. option_and_then (λ memory. option_map (λ log. record { image = image; memory = memory; log = log })
+    (first_of (codes "LOG") rows))
+    (option_and_then memory_of (first_of (codes "MEMORY") rows)))
+    (first_of (codes "IMAGE") rows)
 
 abbrev pub run_of : List Row → Option CommandValues
 run_of rows = option_map Run (first_of (codes "PLAN") rows)
@@ -25,11 +39,7 @@ abbrev pub inspect_of : List Row → Option CommandValues
 inspect_of rows = option_map Inspect (first_of (codes "LOG") rows)
 
 abbrev pub walk_of : List Row → Option CommandValues
-walk_of rows =
-    option_and_then (λ image. option_and_then (λ memory. option_map (λ log. Walk image memory log)
-    (first_of (codes "LOG") rows))
-    (option_and_then memory_of (first_of (codes "MEMORY") rows)))
-    (first_of (codes "IMAGE") rows)
+walk_of rows = option_map Walk (pair_of rows)
 
 abbrev pub make_of : List Row → Option CommandValues
 make_of rows =
@@ -69,21 +79,13 @@ command_of words = option_and_then (λ found. named found.0 found.1) (found_in w
 
 -- ---- commands of the code
 
+abbrev pub pair_view : Pair → PairValues
+pair_view p = record { image = p.image.now; memory = p.memory; log = p.log.now }
+
 abbrev pub command_view : Command → CommandValues
 command_view (command.Run plan) = Run plan.now
 command_view (command.Inspect log) = Inspect log.now
-command_view (command.Walk image memory log) = Walk image.now memory log.now
+command_view (command.Walk pair) = Walk (pair_view pair)
 command_view (command.Make number name) = Make number name.now
 command_view (command.Drill number) = Drill number
 command_view (command.Asm source name) = Asm source.now name.now
-
--- ---- limits
-
--- the memory of a walk has a size
-abbrev pub HasMemory : CommandValues → Type 0
-HasMemory (Walk image memory log) = is_size memory ≡ true
-HasMemory (Run plan) = Unit {0}
-HasMemory (Inspect log) = Unit {0}
-HasMemory (Make number name) = Unit {0}
-HasMemory (Drill number) = Unit {0}
-HasMemory (Asm source name) = Unit {0}

@@ -1,34 +1,19 @@
 //! Commands, with their operands.
+use crate::pair::Pair;
 
 /// What the words ask for.
 #[derive(Clone, Copy, PartialEq, Eq)]
 pub enum Command<'a> {
     /// `run PLAN`
-    Run {
-        plan: &'a str,
-    },
+    Run { plan: &'a str },
     /// `inspect LOG`
-    Inspect {
-        log: &'a str,
-    },
+    Inspect { log: &'a str },
     /// `walk IMAGE MEMORY LOG`
-    Walk {
-        image: &'a str,
-        memory: u32,
-        log: &'a str,
-    },
+    Walk(Pair<'a>),
     /// `make NUMBER NAME`
-    Make {
-        number: u32,
-        name: &'a str,
-    },
+    Make { number: u32, name: &'a str },
     /// `drill NUMBER`
-    Drill {
-        number: u32,
-    },
+    Drill { number: u32 },
     /// `asm SOURCE NAME`
-    Asm {
-        source: &'a str,
-        name: &'a str,
-    },
+    Asm { source: &'a str, name: &'a str },
 }

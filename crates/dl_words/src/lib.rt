@@ -5,8 +5,10 @@ mod apps;
 pub mod command;
 mod matching;
 mod number;
+mod pair;
 mod reading;
 
 pub use command::Command;
 pub use dl_entry::OutOfMemory;
+pub use pair::Pair;
 pub use reading::read_words;

@@ -1,13 +1,14 @@
 //! From the words to the command that they mean.
-ghost use Rattle.std.specs.Prelude.{◌≡◌, IfOk, IfSome};
+ghost use Rattle.std.specs.Prelude.{◌≡◌, IfOk};
 ghost use Rattle.std.specs.Option.{option_and_then, option_map};
 ghost use Rattle.clap.specs.Walk.{texts};
 ghost use Rattle.clap.specs.Words.{found_of, rows_of, subcommand_rows_of};
-ghost use Rattle.dl_words.specs.Commands.{HasMemory, command_of, command_view, named as named_by, run_of, inspect_of, walk_of, make_of, drill_of, asm_of};
+ghost use Rattle.dl_words.specs.Commands.{command_of, command_view, pair_view, named as named_by, pair_of, run_of, inspect_of, walk_of, make_of, drill_of, asm_of};
 
 use crate::command::Command;
 use crate::matching::{find_matches, operand};
 use crate::number::{read_memory, read_number};
+use crate::pair::Pair;
 use clap::ArgMatches;
 use dl_entry::OutOfMemory;
 use std::alloc::Global;
@@ -18,8 +19,7 @@ pub fn read_words<'a>(
     alloc: Global,
     words: &'a [&'a str],
 ) -> Result<Option<Command<'a>>, OutOfMemory>
-    ensures value { IfOk result (λ command. option_map command_view command ≡ command_of (texts words.now)) }
-    ensures memory { IfOk result (λ command. IfSome command (λ c. HasMemory (command_view c))) }
+    ensures { IfOk result (λ command. option_map command_view command ≡ command_of (texts words.now)) }
 {
     match find_matches(alloc, words)? {
         Some(found) => Ok(read_found(&found)),
@@ -28,17 +28,15 @@ pub fn read_words<'a>(
 }
 
 fn read_found<'a>(found: &ArgMatches<'a>) -> Option<Command<'a>>
-    ensures value { option_map command_view result
+    ensures { option_map command_view result
         ≡ option_and_then (λ f. named_by f.0 f.1) (subcommand_rows_of found.now) }
-    ensures memory { IfSome result (λ c. HasMemory (command_view c)) }
 {
     let (name, operands) = found.subcommand()?;
     named(name, operands)
 }
 
 fn named<'a>(name: &str, operands: &ArgMatches<'a>) -> Option<Command<'a>>
-    ensures value { option_map command_view result ≡ named_by name.now (rows_of (found_of operands.now)) }
-    ensures memory { IfSome result (λ c. HasMemory (command_view c)) }
+    ensures { option_map command_view result ≡ named_by name.now (rows_of (found_of operands.now)) }
 {
     match name {
         "run" => run(operands),
@@ -52,34 +50,28 @@ fn named<'a>(name: &str, operands: &ArgMatches<'a>) -> Option<Command<'a>>
 }
 
 fn run<'a>(operands: &ArgMatches<'a>) -> Option<Command<'a>>
-    ensures value { option_map command_view result ≡ run_of (rows_of (found_of operands.now)) }
-    ensures memory { IfSome result (λ c. HasMemory (command_view c)) }
+    ensures { option_map command_view result ≡ run_of (rows_of (found_of operands.now)) }
 {
     let plan = operand(operands, "PLAN")?;
     Some(Command::Run { plan })
 }
 
 fn inspect<'a>(operands: &ArgMatches<'a>) -> Option<Command<'a>>
-    ensures value { option_map command_view result ≡ inspect_of (rows_of (found_of operands.now)) }
-    ensures memory { IfSome result (λ c. HasMemory (command_view c)) }
+    ensures { option_map command_view result ≡ inspect_of (rows_of (found_of operands.now)) }
 {
     let log = operand(operands, "LOG")?;
     Some(Command::Inspect { log })
 }
 
 fn walk<'a>(operands: &ArgMatches<'a>) -> Option<Command<'a>>
-    ensures value { option_map command_view result ≡ walk_of (rows_of (found_of operands.now)) }
-    ensures memory { IfSome result (λ c. HasMemory (command_view c)) }
+    ensures { option_map command_view result ≡ walk_of (rows_of (found_of operands.now)) }
 {
-    let image = operand(operands, "IMAGE")?;
-    let memory = read_memory(operand(operands, "MEMORY")?)?;
-    let log = operand(operands, "LOG")?;
-    Some(Command::Walk { image, memory, log })
+    let pair = pair(operands)?;
+    Some(Command::Walk(pair))
 }
 
 fn make<'a>(operands: &ArgMatches<'a>) -> Option<Command<'a>>
-    ensures value { option_map command_view result ≡ make_of (rows_of (found_of operands.now)) }
-    ensures memory { IfSome result (λ c. HasMemory (command_view c)) }
+    ensures { option_map command_view result ≡ make_of (rows_of (found_of operands.now)) }
 {
     let number = read_number(operand(operands, "NUMBER")?)?;
     let name = operand(operands, "NAME")?;
@@ -87,18 +79,25 @@ fn make<'a>(operands: &ArgMatches<'a>) -> Option<Command<'a>>
 }
 
 fn drill<'a>(operands: &ArgMatches<'a>) -> Option<Command<'a>>
-    ensures value { option_map command_view result ≡ drill_of (rows_of (found_of operands.now)) }
-    ensures memory { IfSome result (λ c. HasMemory (command_view c)) }
+    ensures { option_map command_view result ≡ drill_of (rows_of (found_of operands.now)) }
 {
     let number = read_number(operand(operands, "NUMBER")?)?;
     Some(Command::Drill { number })
 }
 
 fn asm<'a>(operands: &ArgMatches<'a>) -> Option<Command<'a>>
-    ensures value { option_map command_view result ≡ asm_of (rows_of (found_of operands.now)) }
-    ensures memory { IfSome result (λ c. HasMemory (command_view c)) }
+    ensures { option_map command_view result ≡ asm_of (rows_of (found_of operands.now)) }
 {
     let source = operand(operands, "SOURCE")?;
     let name = operand(operands, "NAME")?;
     Some(Command::Asm { source, name })
+}
+
+fn pair<'a>(operands: &ArgMatches<'a>) -> Option<Pair<'a>>
+    ensures { option_map pair_view result ≡ pair_of (rows_of (found_of operands.now)) }
+{
+    let image = operand(operands, "IMAGE")?;
+    let memory = read_memory(operand(operands, "MEMORY")?)?;
+    let log = operand(operands, "LOG")?;
+    Some(Pair { image, memory, log })
 }

@@ -9,7 +9,7 @@ use Rattle.spec_log.specs.declared.LogParts.{LogParts}
 use Rattle.spec_log.specs.Reading.{read_of}
 use Rattle.spec_protocol.specs.machine.Machine.{ReplaySetup, RoleSetup, IsReplayed, SphereSetup}
 use Rattle.spec_finishing.specs.Ending.{CanFinish}
-use Rattle.spec_program.specs.Built.{bad_log, role_of, spheres_of}
+use Rattle.spec_program.specs.Built.{bad_log, role_of, sphere_of, spheres_of}
 use Rattle.spec_program.specs.Files.{RoleRead, PlainRead, RecordRead, ReplayRead, SphereRead, PlanRead, read_at, log_at, schedule_read, input_read, role_read, sphere_read, spheres_read, plan_read}
 use Rattle.spec_program.specs.Stages.{Refused, refusing}
 use Rattle.spec_program.specs.Tasks.{Task, IsTask, setup_in}
@@ -39,10 +39,10 @@ AreOfBytes (s ∷ ss) = IsOfBytes s.role × AreOfBytes ss
 
 role_of_bytes : (m : Contents) (role : RoleValues) (r : RoleRead) → role_read m role ≡ Ok r → IsOfBytes r
 role_of_bytes m Plain r e = subst IsOfBytes (same_Ok PlainRead r e) tt
-role_of_bytes m (Record mode log) r e = subst IsOfBytes (same_Ok (RecordRead (record { mode = mode })) r e) tt
-role_of_bytes m (Replay log) r e =
-    let read = then_ok (log_at m log) _ r e in
-    let file = then_ok (read_at m log) _ read.0 read.1 in
+role_of_bytes m (Record values) r e = subst IsOfBytes (same_Ok (RecordRead (record { mode = values.mode })) r e) tt
+role_of_bytes m (Replay values) r e =
+    let read = then_ok (log_at m values.log) _ r e in
+    let file = then_ok (read_at m values.log) _ read.0 read.1 in
     subst IsOfBytes (same_Ok (ReplayRead (record { log = read.0 })) r read.2) (file.0, same_Ok (read_of file.0) read.0 file.2)
 
 spheres_of_bytes : (m : Contents) (ss : List SphereValues) (rs : List SphereRead) → spheres_read m ss ≡ Ok rs → AreOfBytes rs
@@ -84,17 +84,17 @@ spheres_sized k i [] images xs x asked are made at is =
 spheres_sized k i (s ∷ ss) [] xs x asked are made at is =
     absurd (none-some x (ap (λ (ys : List SphereSetup). slice_get ys i) (same_spheres [] xs made) ∙ at))
 spheres_sized k zero (s ∷ ss) (image ∷ images) xs x asked are made at is =
-    let here = then_ok (role_of k s.role) _ xs made in
+    let here = then_ok (sphere_of k s image) _ xs made in
     let rest = then_ok (spheres_of (suc k) ss images) _ xs here.2 in
-    let first : SphereSetup = record { memory = image.bytes; entry = image.entry; role = here.0 } in
-    let all = same_spheres (first ∷ rest.0) xs rest.2 in
-    let same = same_Some first x (ap (λ (ys : List SphereSetup). slice_get ys 0) all ∙ at) in
-    role_sized k s.role asked are.0 (here.1 ∙ ap Ok (ap (λ (y : SphereSetup). y.role) same ∙ is))
+    let role = then_ok (role_of k s.role) _ here.0 here.1 in
+    let first : SphereSetup = record { memory = image.bytes; entry = image.entry; role = role.0 } in
+    let all = same_spheres (here.0 ∷ rest.0) xs rest.2 in
+    let same = same_Ok first here.0 role.2 ∙ same_Some here.0 x (ap (λ (ys : List SphereSetup). slice_get ys 0) all ∙ at) in
+    role_sized k s.role asked are.0 (role.1 ∙ ap Ok (ap (λ (y : SphereSetup). y.role) same ∙ is))
 spheres_sized k (suc i) (s ∷ ss) (image ∷ images) xs x asked are made at is =
-    let here = then_ok (role_of k s.role) _ xs made in
+    let here = then_ok (sphere_of k s image) _ xs made in
     let rest = then_ok (spheres_of (suc k) ss images) _ xs here.2 in
-    let first : SphereSetup = record { memory = image.bytes; entry = image.entry; role = here.0 } in
-    let all = same_spheres (first ∷ rest.0) xs rest.2 in
+    let all = same_spheres (here.0 ∷ rest.0) xs rest.2 in
     spheres_sized (suc k) i ss images rest.0 x asked are.1 rest.1 (ap (λ (ys : List SphereSetup). slice_get ys (suc i)) all ∙ at) is
 
 -- the machine of a task can be finished

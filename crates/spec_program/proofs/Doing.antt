@@ -1,25 +1,34 @@
--- What a command that is done says of its work.
-use Rattle.std.proofs.Common.{◌≡◌, ℕ, true, List, Option, Some, None, Result, Ok, ok_or, sym, ap, ◌∙◌, subst, true≢false}
+-- What a command that is done says of its outcome.
+use Rattle.std.proofs.Common.{◌≡◌, ℕ, true, List, Option, Some, None, Result, Ok, ok_or, refl, sym, ap, ◌∙◌, subst, true≢false}
 use Rattle.std.specs.FinMap.{get}
 use Rattle.dl_asm.specs.File.{file_of}
 use Rattle.dl_asm.specs.Sources.{lines_of, words_in}
 use Rattle.dl_elf.specs.Loading.{image_of}
 use Rattle.dl_files.specs.Contents.{Contents}
-use Rattle.dl_words.specs.Commands.{CommandValues, Run, Inspect, Walk, Make, Drill, Asm}
+use Rattle.dl_words.specs.Commands.{CommandValues, PairValues, Run, Inspect, Walk, Make, Drill, Asm}
 use Rattle.spec_log.specs.declared.LogParts.{LogParts}
 use Rattle.spec_log.specs.Reading.{ParseError, read_of}
+use Rattle.spec_protocol.specs.promises.Sound.{IsWithinLimits}
 use Rattle.spec_run.proofs.Described.{runs_described}
 use Rattle.spec_program.specs.declared.status.Status.{Status}
+use Rattle.spec_program.specs.Asked.{IsDone, outcome_for}
 use Rattle.spec_program.specs.Built.{bad_image, bad_log}
-use Rattle.spec_program.specs.Done.{IsDone}
+use Rattle.spec_program.specs.commands.Asm as asm
+use Rattle.spec_program.specs.commands.Drill as drill
+use Rattle.spec_program.specs.commands.Inspect as inspect
+use Rattle.spec_program.specs.commands.Make as make
+use Rattle.spec_program.specs.commands.Run as run
+use Rattle.spec_program.specs.commands.Walk as walk
 use Rattle.spec_program.specs.Ends.{IsFinished, Stands, is_done}
 use Rattle.spec_program.specs.Files.{read_at, log_at}
-use Rattle.spec_program.specs.Outcomes.{Outcome, outcome_for}
+use Rattle.spec_program.specs.Headline.{Headline}
+use Rattle.spec_program.specs.Operands.{IsLogAt, IsPairAt, PairRead, file_at, good_log_at, image_in, log_file_at, log_in, pair_at}
+use Rattle.spec_program.specs.Outcomes.{Finish, Outcome}
 use Rattle.spec_program.specs.Outside.{Outside}
+use Rattle.spec_program.specs.Runs.{ran}
 use Rattle.spec_program.specs.Sources.{assembled, refused_from, unless_refused}
 use Rattle.spec_program.specs.Stages.{Refused}
-use Rattle.spec_program.specs.Tasks.{absent, setup_in, task_named}
-use Rattle.spec_program.specs.Works.{Work, Running, Inspecting, Walking, Making, Drilling, Assembling, IsWithin, file_at, image_in, log_file_at, log_in, work_for}
+use Rattle.spec_program.specs.Tasks.{Task, absent, setup_in, task_named}
 use Rattle.spec_program.proofs.Able.{task_can_finish}
 use Rattle.spec_program.proofs.Drilling.{drill_reproduced}
 use Rattle.spec_program.proofs.Made.{not_refused, then_ok}
@@ -45,66 +54,99 @@ given : {A E : Type 0} (o : Option A) (e : E) (a : A) → ok_or o e ≡ Ok a →
 given None e a is = absurd cc
 given (Some b) e a is = cc
 
+-- ---- what the words name
+
 -- the bytes of a file that is read
 there : (m : Contents) (name bytes : List ℕ) → file_at m name ≡ Ok bytes → get m name ≡ Some bytes
 there m name bytes e = given (get m name) name bytes (not_refused absent (read_at m name) bytes e)
 
--- the bytes of a file that is read as a log
-log_there : (m : Contents) (name : List ℕ) (read : Result LogParts ParseError) → log_file_at m name ≡ Ok read → (bytes : List ℕ) × (get m name ≡ Some bytes) × (read_of bytes ≡ read)
-log_there m name read e =
+-- what is read as a log is what a file says, and it is good
+log_is : (m : Contents) (name : List ℕ) (read : Result LogParts ParseError) (log : LogParts) → log_file_at m name ≡ Ok read → log_in read ≡ Ok log → IsLogAt name m log
+log_is m name read log e good =
     let file = then_ok (read_at m name) _ read (not_refused absent (log_at m name) read e) in
-    (file.0, given (get m name) name file.0 file.1, same_Ok (read_of file.0) read file.2)
+    record { bytes = file.0; there = given (get m name) name file.0 file.1; read = same_Ok (read_of file.0) read file.2 ∙ not_refused (bad_log 0) read log good }
+
+-- a good log is that of its file
+pub log_read : (m : Contents) (name : List ℕ) (log : LogParts) → good_log_at m name ≡ Ok log → IsLogAt name m log
+log_read m name log e =
+    let file = then_ok (log_file_at m name) log_in log e in
+    log_is m name file.0 log file.1 file.2
+
+-- a pair that is read is that of its files
+pub pair_is : (m : Contents) (p : PairValues) (read : PairRead) → pair_at m p ≡ Ok read → IsPairAt p m read
+pair_is m p read e =
+    let program = then_ok (file_at m p.image) _ read e in
+    let file = then_ok (log_file_at m p.log) _ read program.2 in
+    let image = then_ok (image_in p.memory program.0) _ read file.2 in
+    let log = then_ok (log_in file.0) _ read image.2 in
+    let made : PairRead = record { image = image.0; log = log.0 } in
+    subst (IsPairAt p m) (same_Ok made read log.2) (record {
+      program = program.0;
+      there = there m p.image program.0 program.1;
+      loaded = not_refused (bad_image 0) (image_of program.0 p.memory) image.0 image.1;
+      log = log_is m p.log file.0 log.0 file.1 log.1;
+    })
 
 never_refused : (o : Option Refused) (file result : List ℕ) → unless_refused o file ≡ Ok result → result ≡ file
 never_refused (Some refused) file result e = absurd cc
 never_refused None file result e = cc
 
--- the work of a command, with its limits, is done
-pub done_at : (m : Contents) (before after : Outside) (s : Status) (command : CommandValues) (work : Work) → work_for m command ≡ Ok work → IsWithin work → IsFinished (outcome_for work) m before after s
-    → IsDone command m after.known before.taken after.taken s
-done_at m before after s (Run plan) work e within f =
-    let task = then_ok (task_named m plan) _ work e in
-    let same = same_Ok (Running task.0) work task.2 in
-    let limits = subst IsWithin (sym same) within in
-    let g = subst (λ (w : Work). IsFinished (outcome_for w) m before after s) (sym same) f in
-    record { task = task.0; asked = task.1; limits = limits; possible = (runs_described (setup_in task.0) task.0.events (task_can_finish plan m task.0 task.1).setup).possible; files = g.files; output = g.output; status = g.status }
-done_at m before after s (Inspect log) work e within f =
-    let file = then_ok (log_file_at m log) _ work e in
-    let parts = then_ok (log_in file.0) _ work file.2 in
-    let at = log_there m log file.0 file.1 in
-    let g = subst (λ (w : Work). IsFinished (outcome_for w) m before after s) (sym (same_Ok (Inspecting parts.0) work parts.2)) f in
-    record { bytes = at.0; there = at.1; parts = parts.0; read = at.2 ∙ not_refused (bad_log 0) file.0 parts.0 parts.1; output = g.output; files = g.files; status = g.status }
-done_at m before after s (Walk image memory log) work e within f =
-    let program = then_ok (file_at m image) _ work e in
-    let file = then_ok (log_file_at m log) _ work program.2 in
-    let at = log_there m log file.0 file.1 in
-    let loaded = then_ok (image_in memory program.0) _ work file.2 in
-    let parts = then_ok (log_in file.0) _ work loaded.2 in
-    let g = subst (λ (w : Work). IsFinished (outcome_for w) m before after s) (sym (same_Ok (Walking loaded.0 parts.0) work parts.2)) f in
-    record {
-      program = program.0;
-      program_there = there m image program.0 program.1;
-      loaded = loaded.0;
-      load = not_refused (bad_image 0) (image_of program.0 memory) loaded.0 loaded.1;
-      bytes = at.0;
-      bytes_there = at.1;
-      parts = parts.0;
-      read = at.2 ∙ not_refused (bad_log 0) file.0 parts.0 parts.1;
-      output = g.output;
-      files = g.files;
-      status = g.status;
-    }
-done_at m before after s (Make number name) work e within f =
-    let g = subst (λ (w : Work). IsFinished (outcome_for w) m before after s) (sym (same_Ok (Making number name) work e)) f in
-    record { files = g.files; output = g.output; status = g.status }
-done_at m before after s (Drill number) work e within f =
-    let g = subst (λ (w : Work). IsFinished (outcome_for w) m before after s) (sym (same_Ok (Drilling number) work e)) f in
-    record { equal = (drill_reproduced number).account; output = g.output; files = g.files; status = g.status }
-done_at m before after s (Asm source name) work e within f =
-    let file = then_ok (file_at m source) _ work e in
-    let made = then_ok (assembled file.0) _ work file.2 in
-    let words = file_of (words_in (lines_of file.0)) in
-    let is : made.0 ≡ words = never_refused (refused_from (lines_of file.0) 0 _) words made.0 made.1 in
-    let same : Assembling words name ≡ work = ap (λ (b : List ℕ). Assembling b name) (sym is) ∙ same_Ok (Assembling made.0 name) work made.2 in
-    let g = subst (λ (w : Work). IsFinished (outcome_for w) m before after s) (sym same) f in
-    record { bytes = file.0; there = there m source file.0 file.1; kept = made.1 ∙ ap Ok is; files = g.files; output = g.output; status = g.status }
+-- ---- each command. The files held m, what is outside was `before` and is `after`, and the status is s
+
+module _ (m : Contents) (before after : Outside) (s : Status) where
+  -- its outcome is this, and is reached
+  abbrev IsReached : Finish → Type 0
+  IsReached finish = IsFinished (Ok finish) m before after s
+
+  reached : (made finish : Finish) → ◌≡◌ {A = Outcome} (Ok made) (Ok finish) → IsReached finish → IsReached made
+  reached made finish e f = subst (λ (o : Outcome). IsFinished o m before after s) (sym e) f
+
+  run_done : (plan : List ℕ) (finish : Finish) → run.outcome m plan ≡ Ok finish → run.HasLimits plan m → IsReached finish → Headline plan m after.known before.taken after.taken s
+  run_done plan finish e limits f =
+      let task = then_ok (task_named m plan) _ finish e in
+      let same : limits.0 ≡ task.0 = same_Ok limits.0 task.0 (sym limits.1 ∙ task.1) in
+      let g = subst (λ (o : Outcome). IsFinished o m before after s) (sym task.2) f in
+      record {
+        task = task.0;
+        asked = task.1;
+        limits = subst (λ (t : Task). IsWithinLimits (setup_in t)) same limits.2;
+        possible = (runs_described (setup_in task.0) task.0.events (task_can_finish plan m task.0 task.1).setup).possible;
+        files = g.files;
+        output = g.output;
+        status = g.status;
+      }
+
+  inspect_done : (log : List ℕ) (finish : Finish) → inspect.outcome m log ≡ Ok finish → IsReached finish → inspect.IsInspected log m after.known before.taken after.taken s
+  inspect_done log finish e f =
+      let parts = then_ok (good_log_at m log) _ finish e in
+      let g = reached (inspect.finish parts.0) finish parts.2 f in
+      record { parts = parts.0; read = log_read m log parts.0 parts.1; output = g.output; files = g.files; status = g.status }
+
+  walk_done : (pair : PairValues) (finish : Finish) → walk.outcome m pair ≡ Ok finish → IsReached finish → walk.IsWalked pair m after.known before.taken after.taken s
+  walk_done pair finish e f =
+      let read = then_ok (pair_at m pair) _ finish e in
+      let g = reached (walk.finish read.0) finish read.2 f in
+      record { read = read.0; pair_read = pair_is m pair read.0 read.1; output = g.output; files = g.files; status = g.status }
+
+  asm_done : (source name : List ℕ) (finish : Finish) → asm.outcome m source name ≡ Ok finish → IsReached finish → asm.IsAssembled source name m after.known before.taken after.taken s
+  asm_done source name finish e f =
+      let file = then_ok (file_at m source) _ finish e in
+      let made = then_ok (assembled file.0) _ finish file.2 in
+      let words = file_of (words_in (lines_of file.0)) in
+      let is : made.0 ≡ words = never_refused (refused_from (lines_of file.0) 0 _) words made.0 made.1 in
+      let g = reached (asm.finish name words) finish (ap (λ (b : List ℕ). Ok (asm.finish name b)) (sym is) ∙ made.2) f in
+      record { bytes = file.0; there = there m source file.0 file.1; kept = made.1 ∙ ap Ok is; files = g.files; output = g.output; status = g.status }
+
+  -- the outcome of a command is reached; a run's machine is within its limits
+  pub done_at : (command : CommandValues) (finish : Finish) → outcome_for m command ≡ Ok finish → ((plan : List ℕ) → command ≡ Run plan → run.HasLimits plan m) → IsFinished (Ok finish) m before after s
+      → IsDone command m after.known before.taken after.taken s
+  done_at (Run plan) finish e limits f = run_done plan finish e (limits plan refl) f
+  done_at (Inspect log) finish e limits f = inspect_done log finish e f
+  done_at (Walk pair) finish e limits f = walk_done pair finish e f
+  done_at (Make number name) finish e limits f =
+      let g = reached (make.finish number name) finish e f in
+      record { files = g.files; output = g.output; status = g.status }
+  done_at (Drill number) finish e limits f =
+      let g = reached (drill.finish number) finish e f in
+      record { equal = (drill_reproduced number).account; output = g.output; files = g.files; status = g.status }
+  done_at (Asm source name) finish e limits f = asm_done source name finish e f

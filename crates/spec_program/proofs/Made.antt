@@ -10,7 +10,7 @@ use Rattle.spec_log.specs.declared.LogParts.{LogParts}
 use Rattle.spec_log.specs.Reading.{ParseError}
 use Rattle.spec_protocol.specs.machine.Machine.{RoleSetup, IsReplayed, SphereSetup}
 use Rattle.spec_protocol.specs.promises.Sound.{no_image, image_at}
-use Rattle.spec_program.specs.Built.{bad_image, bad_log, images_of, role_of, spheres_of, events_of}
+use Rattle.spec_program.specs.Built.{bad_image, bad_log, images_of, role_of, sphere_of, spheres_of, events_of}
 use Rattle.spec_program.specs.Files.{RoleRead, PlainRead, RecordRead, ReplayRead, SphereRead, read_at, plan_read}
 use Rattle.spec_program.specs.Stages.{Refused, refusing, ◌>>◌}
 use Rattle.spec_program.specs.Tasks.{Task, IsTask, setup_in, absent, bad_plan, plan_at, task_read, task_planned}
@@ -45,6 +45,9 @@ role_any i j PlainRead r e = e
 role_any i j (RecordRead inputs) r e = e
 role_any i j (ReplayRead inputs) r e = log_any i j inputs.log r e
 
+same_setup : (x y : SphereSetup) → ◌≡◌ {A = Result SphereSetup Refused} (Ok x) (Ok y) → x ≡ y
+same_setup x y e = cc
+
 pub sphere_made : (k i : ℕ) (ss : List SphereRead) (images : List Image) (xs : List SphereSetup) (s : SphereRead) → images_of k ss ≡ Ok images → spheres_of k ss images ≡ Ok xs → slice_get ss i ≡ Some s
     → (x : SphereSetup) × (slice_get xs i ≡ Some x) × IsMade s x
 sphere_made k i [] images xs s are made at = absurd (none-some s at)
@@ -52,29 +55,30 @@ sphere_made k zero (r ∷ ss) images xs s are made at =
     let first = then_ok (refusing (bad_image k) (image_of r.image r.memory)) _ images are in
     let rest = then_ok (images_of (suc k) ss) _ images first.2 in
     let all : first.0 ∷ rest.0 ≡ images = cc in
-    let here = then_ok (role_of k r.role) _ xs (ap (spheres_of k (r ∷ ss)) all ∙ made) in
+    let here = then_ok (sphere_of k r first.0) _ xs (ap (spheres_of k (r ∷ ss)) all ∙ made) in
     let after = then_ok (spheres_of (suc k) ss rest.0) _ xs here.2 in
-    let x : SphereSetup = record { memory = first.0.bytes; entry = first.0.entry; role = here.0 } in
-    let is : x ∷ after.0 ≡ xs = cc in
+    let role = then_ok (role_of k r.role) _ here.0 here.1 in
+    let x : SphereSetup = record { memory = first.0.bytes; entry = first.0.entry; role = role.0 } in
+    let is : here.0 ∷ after.0 ≡ xs = cc in
+    let made_so : x ≡ here.0 = same_setup x here.0 role.2 in
     let same : r ≡ s = same_Some r s at in (
       x,
-      ap (λ (ys : List SphereSetup). slice_get ys 0) (sym is),
+      ap (λ (ys : List SphereSetup). slice_get ys 0) (sym is) ∙ ap Some (sym made_so),
       subst (λ (q : SphereRead). IsMade q x) same (record {
         image = first.0;
         loaded = not_refused (bad_image k) (image_of r.image r.memory) first.0 first.1;
         memory = refl;
         entry = refl;
-        role = role_any k 0 r.role here.0 here.1;
+        role = role_any k 0 r.role role.0 role.1;
       }),
     )
 sphere_made k (suc i) (r ∷ ss) images xs s are made at =
     let first = then_ok (refusing (bad_image k) (image_of r.image r.memory)) _ images are in
     let rest = then_ok (images_of (suc k) ss) _ images first.2 in
     let all : first.0 ∷ rest.0 ≡ images = cc in
-    let here = then_ok (role_of k r.role) _ xs (ap (spheres_of k (r ∷ ss)) all ∙ made) in
+    let here = then_ok (sphere_of k r first.0) _ xs (ap (spheres_of k (r ∷ ss)) all ∙ made) in
     let after = then_ok (spheres_of (suc k) ss rest.0) _ xs here.2 in
-    let x : SphereSetup = record { memory = first.0.bytes; entry = first.0.entry; role = here.0 } in
-    let is : x ∷ after.0 ≡ xs = cc in
+    let is : here.0 ∷ after.0 ≡ xs = cc in
     let later = sphere_made (suc k) i ss rest.0 after.0 s rest.1 after.1 at in
     (later.0, ap (λ (ys : List SphereSetup). slice_get ys (suc i)) (sym is) ∙ later.1, later.2)
 

@@ -5,7 +5,7 @@ use Rattle.dl_plan.specs.declared.Product.{Product}
 use Rattle.spec_run.specs.Texts.{log_of_points}
 use Rattle.spec_program.specs.Built.{mode_named}
 use Rattle.spec_program.specs.Files.{RecordInputs, ReplayInputs, RecordRead, ReplayRead, SphereRead}
-use Rattle.spec_program.specs.Outcomes.{product_for}
+use Rattle.spec_program.specs.Runs.{product_for}
 use Rattle.spec_program.specs.Tasks.{Task, IsTask, setup_in}
 
 -- the account of sphere i, as the task has it written

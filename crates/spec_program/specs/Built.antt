@@ -47,11 +47,14 @@ role_of i PlainRead = Ok IsPlain
 role_of i (RecordRead inputs) = Ok (IsRecorded (record { mode = mode_named inputs.mode }))
 role_of i (ReplayRead inputs) = refusing (bad_log i) inputs.log >> λ log. Ok (IsReplayed (record { log = log }))
 
+abbrev pub sphere_of : (i : ℕ) → SphereRead → Image → Result SphereSetup Refused
+sphere_of i s image = role_of i s.role >> λ role. Ok (record { memory = image.bytes; entry = image.entry; role = role })
+
 abbrev pub spheres_of : (i : ℕ) → List SphereRead → List Image → Result (List SphereSetup) Refused
 spheres_of i (s ∷ ss) (image ∷ images) =
-    role_of i s.role >> λ role.
+    sphere_of i s image >> λ sphere.
     spheres_of (suc i) ss images >> λ spheres.
-    Ok (record { memory = image.bytes; entry = image.entry; role = role } ∷ spheres)
+    Ok (sphere ∷ spheres)
 spheres_of i _ _ = Ok []
 
 -- ---- events: those of the script, or so many that are drawn from the plan's seed

@@ -1,62 +1,16 @@
 -- How the program may end, by its status, from what it was to do: what the files then hold, and what the sink took.
-use Rattle.std.specs.Prelude.{◌≡◌, ℕ, ◌≤◌, ◌⊎◌, Bool, true, false, List, [], ◌∷◌, length, take, slice_get, Option, Some, None, IsSome, if◌then◌else◌, Result, Ok, Err}
+use Rattle.std.specs.Prelude.{◌≡◌, ℕ, ◌≤◌, ◌⊎◌, Bool, true, false, List, [], ◌∷◌, length, take, slice_get, Option, Some, None, IsSome}
 use Rattle.std.specs.FinMap.{get, insert}
 use Rattle.dl_files.specs.Contents.{Contents, SameBut, IsLast}
 use Rattle.dl_files.specs.Count.{Rose}
 use Rattle.dl_files.specs.Taken.{with_taken}
-use Rattle.dl_plan.specs.Files.{input_names}
-use Rattle.dl_plan.specs.Values.{PlanValues}
-use Rattle.dl_words.specs.Commands.{CommandValues, Run, Inspect, Walk, Make, Drill, Asm, command_of}
 use Rattle.spec_program.specs.declared.status.Status.{Status}
-use Rattle.spec_program.specs.Statuses.{status_of}
 use Rattle.spec_program.specs.Lines.{fault_line}
 use Rattle.spec_program.specs.Writes.{Write, written}
-use Rattle.spec_program.specs.Outcomes.{Outcome, Refuses, Finishes}
+use Rattle.spec_program.specs.Outcomes.{Outcome, DoesFinish, status_in, text_in, writes_in}
 use Rattle.spec_program.specs.Outside.{Outside}
-use Rattle.spec_program.specs.Stages.{Refused}
-use Rattle.spec_program.specs.Tasks.{plan_at}
-
--- ---- the parts of an outcome
-
-abbrev pub status_in : Outcome → Status
-status_in (Refuses why text) = status_of why
-status_in (Finishes diverged writes text) = if diverged then Status.Diverged else Status.Done
-
-abbrev pub writes_in : Outcome → List Write
-writes_in (Refuses why text) = []
-writes_in (Finishes diverged writes text) = writes
-
--- the line of a refusal, or the text
-abbrev pub text_in : Outcome → List ℕ
-text_in (Refuses why text) = text
-text_in (Finishes diverged writes text) = text
-
-abbrev pub DoesFinish : Outcome → Type 0
-DoesFinish (Refuses why text) = ⊥
-DoesFinish (Finishes diverged writes text) = Unit {0}
 
 -- ---- the names that are read
-
--- those that a plan has read; of one that is absent or refused none is read
-abbrev pub inputs_of : Result PlanValues Refused → List (List ℕ)
-inputs_of (Err refused) = []
-inputs_of (Ok p) = input_names p
-
--- in the order of the work: a plan, and then the names that it has read
-abbrev pub reads_for : Contents → CommandValues → List (List ℕ)
-reads_for m (Run plan) = plan ∷ inputs_of (plan_at m plan)
-reads_for m (Inspect log) = log ∷ []
-reads_for m (Walk image memory log) = image ∷ log ∷ []
-reads_for m (Make number name) = []
-reads_for m (Drill number) = []
-reads_for m (Asm source name) = source ∷ []
-
-abbrev pub reads_of_command : Contents → Option CommandValues → List (List ℕ)
-reads_of_command m None = []
-reads_of_command m (Some command) = reads_for m command
-
-abbrev pub reads_of : (words : List (List ℕ)) → Contents → List (List ℕ)
-reads_of words m = reads_of_command m (command_of words)
 
 -- it is the turn of that name to be read: it is there, and so is each name before it
 abbrev pub IsReadNext : (reads : List (List ℕ)) → Contents → (name : List ℕ) → Type 0

@@ -63,8 +63,8 @@ input_read m (Some name) = read_at m name
 
 abbrev pub role_read : Contents → RoleValues → Result RoleRead (List ℕ)
 role_read m Plain = Ok PlainRead
-role_read m (Record mode log) = Ok (RecordRead (record { mode = mode }))
-role_read m (Replay log) = log_at m log >> λ read. Ok (ReplayRead (record { log = read }))
+role_read m (Record values) = Ok (RecordRead (record { mode = values.mode }))
+role_read m (Replay values) = log_at m values.log >> λ read. Ok (ReplayRead (record { log = read }))
 
 abbrev pub sphere_read : Contents → SphereValues → Result SphereRead (List ℕ)
 sphere_read m s =

@@ -10,7 +10,7 @@ use Rattle.spec_run.specs.Runs.{diverges}
 use Rattle.spec_run.specs.Texts.{summary_text}
 use Rattle.spec_program.specs.declared.status.Status.{Status}
 use Rattle.spec_program.specs.Ends.{TookAll}
-use Rattle.spec_program.specs.Outcomes.{writes_for}
+use Rattle.spec_program.specs.Runs.{writes_for}
 use Rattle.spec_program.specs.Tasks.{Task, IsTask, setup_in, points_in}
 use Rattle.spec_program.specs.Writes.{written}
 

@@ -6,13 +6,15 @@ pub mod Writes
 pub mod Built
 pub mod Tasks
 pub mod Sources
-pub mod Works
 pub mod Drills
 pub mod Outcomes
 pub mod Outside
 pub mod Ends
+pub mod Operands
+pub mod Runs
 pub mod Headline
-pub mod Done
+pub mod commands
+pub mod Asked
 pub mod Promise
 pub mod Agreement
 pub mod Drilled

@@ -3,8 +3,9 @@ use Rattle.std.specs.Prelude.{◌≡◌, ℕ, List, Some}
 use Rattle.dl_files.specs.Contents.{Contents}
 use Rattle.dl_words.specs.Commands.{Run, command_of}
 use Rattle.spec_protocol.specs.machine.Serial.{serial_start, CanDoAll}
-use Rattle.spec_program.specs.Ends.{DoesFinish}
-use Rattle.spec_program.specs.Outcomes.{outcome_of, ran}
+use Rattle.spec_program.specs.Asked.{outcome_of}
+use Rattle.spec_program.specs.Outcomes.{DoesFinish}
+use Rattle.spec_program.specs.Runs.{ran}
 use Rattle.spec_program.specs.Tasks.{Task, IsTask, setup_in, points_in}
 
 -- its outcome is that of running the task, and each of the task's points can be done whole, as it says

@@ -1,5 +1,5 @@
 //! Which words mean a command, and which.
-use dl_words::{Command, OutOfMemory, read_words};
+use dl_words::{Command, OutOfMemory, Pair, read_words};
 use std::alloc::Global;
 
 const COMMANDS: &[(&[&str], Command<'static>)] = &[
@@ -12,11 +12,11 @@ const COMMANDS: &[(&[&str], Command<'static>)] = &[
     ),
     (
         &["walk", "a.elf", "16777216", "a.log"],
-        Command::Walk {
+        Command::Walk(Pair {
             image: "a.elf",
             memory: 16_777_216,
             log: "a.log",
-        },
+        }),
     ),
     (
         &["make", "4294967295", "x.elf"],

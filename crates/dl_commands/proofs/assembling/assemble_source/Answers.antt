@@ -1,6 +1,6 @@
 use Rattle.std.proofs.Common.{[], ◌∷◌}
 use Rattle.spec_program.specs.Files.{read_at}
-use Rattle.spec_program.specs.Works.{asm_at}
+use Rattle.spec_program.specs.commands.Asm.{outcome, reads}
 use Rattle.dl_gather.specs.Halts.{Halts}
 use Rattle.dl_gather.proofs.Stopping.{file_refused, halt_carried, unread_halts}
 use Rattle.dl_commands.proofs.assembling.assemble_source.Goals as goal
@@ -12,6 +12,6 @@ returns-in_err-bytes-clause-halt g c =
     let old = g.F.Files.seen c.args.files.now in
     let new = g.F.Files.seen c.read_file.new.files in
     let halt = c.in_err-bytes.field-0.0 in
-    halt_carried c.from_residual.result halt (Halts (λ m. asm_at m source name) (λ m. source ∷ []) old new) c.from_residual.ensures.1
-    (unread_halts (source ∷ []) (λ m. source ∷ []) (λ m. read_at m source) (λ m. asm_at m source name) old new halt
+    halt_carried c.from_residual.result halt (Halts (λ m. outcome m source name) (λ m. reads source) old new) c.from_residual.ensures.1
+    (unread_halts (source ∷ []) (λ m. reads source) (λ m. read_at m source) (λ m. outcome m source name) old new halt
     (λ m x is. file_refused (read_at m source) _ x is) (λ m x next. next) c.in_err-bytes.ensures.halt)

@@ -1,16 +1,13 @@
-use Rattle.std.proofs.Common.{[], ◌∷◌}
-use Rattle.spec_program.specs.Files.{log_at}
-use Rattle.spec_program.specs.Works.{inspect_at}
+use Rattle.spec_program.specs.commands.Inspect.{finish, outcome, reads}
+use Rattle.spec_program.specs.Operands.{good_log_at}
 use Rattle.dl_gather.specs.Halts.{Halts}
-use Rattle.dl_gather.proofs.Stopping.{file_refused, halt_carried, unread_halts}
+use Rattle.dl_gather.proofs.Stopping.{halt_carried, stage_halts}
 use Rattle.dl_commands.proofs.inspecting.inspect.Goals as goal
 
-pub returns-in_err-read-clause-halt : goal.returns-in_err-read-clause-halt
-returns-in_err-read-clause-halt g c =
-    let name = c.args.name.now in
+pub returns-in_err-log-clause-halt : goal.returns-in_err-log-clause-halt
+returns-in_err-log-clause-halt g c =
+    let log = c.args.log.now in
     let old = g.F.Files.seen c.args.files.now in
-    let new = g.F.Files.seen c.read_log.new.files in
-    let halt = c.in_err-read.field-0.0 in
-    halt_carried c.from_residual.result halt (Halts (λ m. inspect_at m name) (λ m. name ∷ []) old new) c.from_residual.ensures.1
-    (unread_halts (name ∷ []) (λ m. name ∷ []) (λ m. log_at m name) (λ m. inspect_at m name) old new halt
-    (λ m x is. file_refused (log_at m name) _ x is) (λ m x next. next) c.in_err-read.ensures.halt)
+    let new = g.F.Files.seen c.read_good_log.new.files in
+    halt_carried c.from_residual.result c.in_err-log.field-0.0 (Halts (λ m. outcome m log) (λ m. reads log) old new) c.from_residual.ensures.1
+    (stage_halts (λ m. reads log) (λ m. good_log_at m log) _ old new c.in_err-log.field-0.0 c.in_err-log.ensures.halt)

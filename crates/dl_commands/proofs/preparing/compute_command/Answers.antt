@@ -1,7 +1,7 @@
 use Rattle.dl_commands.proofs.preparing.compute_command.Goals as goal
 
 pub returns-in-Run-clause-halt : goal.returns-in-Run-clause-halt
-returns-in-Run-clause-halt g c = rw c.in-Run.is c.run.ensures.halt
+returns-in-Run-clause-halt g c = rw c.in-Run.is c.run_plan.ensures.halt
 
 pub returns-in-Inspect-clause-halt : goal.returns-in-Inspect-clause-halt
 returns-in-Inspect-clause-halt g c = rw c.in-Inspect.is c.inspect.ensures.halt

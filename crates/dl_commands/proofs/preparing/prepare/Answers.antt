@@ -1,14 +1,13 @@
 use Rattle.std.proofs.Common.{ap, sym, ◌∙◌, subst}
 use Rattle.std.specs.Prelude.{IfErr, ok_or, option_map}
 use Rattle.dl_words.specs.Commands.{command_view}
-use Rattle.spec_program.specs.Ends.{reads_of_command}
+use Rattle.spec_program.specs.Asked.{outcome_for, reads_of_command, usage}
 use Rattle.spec_program.specs.Stages.{◌>>◌}
-use Rattle.spec_program.specs.Works.{usage, work_for}
 use Rattle.dl_gather.specs.Halts.{Halts}
 use Rattle.dl_commands.proofs.preparing.prepare.Goals as goal
 
 pub returns-in-Ok-Some-clause-halt : goal.returns-in-Ok-Some-clause-halt
 returns-in-Ok-Some-clause-halt g c =
-    subst (λ o. IfErr c.compute_command.result (Halts (λ m. ok_or o usage >> work_for m) (λ m. reads_of_command m o) (g.F.Files.seen c.args.files.now) (g.F.Files.seen c.compute_command.new.files)))
+    subst (λ o. IfErr c.compute_command.result (Halts (λ m. ok_or o usage >> outcome_for m) (λ m. reads_of_command m o) (g.F.Files.seen c.args.files.now) (g.F.Files.seen c.compute_command.new.files)))
     (ap (option_map command_view) (sym c.in-Ok-Some.field-0-is) ∙ c.in-Ok-Some.ensures.value)
     c.compute_command.ensures.halt

@@ -1,6 +1,6 @@
 use Rattle.std.proofs.Common.{[], length}
 use Rattle.dl_plan.specs.declared.Product.{Product}
-use Rattle.spec_program.specs.Outcomes.{product_for}
+use Rattle.spec_program.specs.Runs.{product_for}
 use Rattle.spec_program.specs.Writes.{filled}
 use Rattle.dl_commands.proofs.Planned.{one_written, product_at}
 use Rattle.dl_commands.proofs.running.writes_to.Goals as goal

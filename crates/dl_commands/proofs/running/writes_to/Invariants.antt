@@ -2,7 +2,7 @@ use Rattle.std.proofs.Common.{◌≡◌, ◌++◌, List, map, drop}
 use Rattle.dl_plan.specs.Views.{output_view}
 use Rattle.dl_run.specs.Ran.{IsOver}
 use Rattle.spec_protocol.specs.declared.event.Event.{Event}
-use Rattle.spec_program.specs.Outcomes.{product_for}
+use Rattle.spec_program.specs.Runs.{product_for}
 use Rattle.spec_program.specs.Writes.{filled}
 use Rattle.dl_commands.specs.Jobs.{writes_of}
 use Rattle.dl_commands.proofs.running.writes_to.Given as goal

@@ -1,9 +1,8 @@
 use Rattle.std.proofs.Common.{◌∙◌, ap, subst}
 use Rattle.dl_files.specs.Seen.{Seen}
 use Rattle.dl_words.specs.Commands.{Run}
-use Rattle.spec_program.specs.Ends.{reads_of}
+use Rattle.spec_program.specs.Asked.{outcome_of, reads_of}
 use Rattle.spec_program.specs.Outside.{outside}
-use Rattle.spec_program.specs.Works.{work_of}
 use Rattle.dl_commands.specs.Jobs.{writes_of}
 use Rattle.dl_commands.specs.Performed.{IsPerformed}
 use Rattle.dl_commands.specs.Texts.{texts}
@@ -16,13 +15,13 @@ use Rattle.dl_commands.proofs.top.delorean.Goals as goal
 pub returns-in-Ok-clause-stands : goal.returns-in-Ok-clause-stands
 returns-in-Ok-clause-stands g c =
     λ m e.
-    performed_stands (work_of (texts c.args.words.now) m) c.in-Ok.job (reads_of (texts c.args.words.now) m) m _ _ c.perform.result (c.in-Ok.ensures.job m e) e
+    performed_stands (outcome_of (texts c.args.words.now) m) c.in-Ok.job (reads_of (texts c.args.words.now) m) m _ _ c.perform.result (c.in-Ok.ensures.job m e) e
     (subst (λ (s : Seen). IsPerformed c.in-Ok.job.diverged (writes_of c.in-Ok.job.writes.items) c.in-Ok.job.text.items (outside s (g.O.Sink.taken c.args.out.now) (g.O.Sink.count c.args.out.now)) (outside (g.F.Files.seen c.perform.new.files) (g.O.Sink.taken c.perform.new.out) (g.O.Sink.count c.perform.new.out)) c.perform.result) c.in-Ok.ensures.same c.perform.ensures)
 
 pub returns-in-Ok-clause-done : goal.returns-in-Ok-clause-done
 returns-in-Ok-clause-done g c =
     λ command m asks e done.
-    done_is (texts c.args.words.now) m _ _ c.perform.result command c.in-Ok.job asks (c.in-Ok.ensures.job m e) (returns-in-Ok-clause-stands g c m e) done
+    done_is (texts c.args.words.now) m _ _ c.perform.result command c.in-Ok.job asks (λ plan runs. c.in-Ok.ensures.limits plan m runs e tt) (c.in-Ok.ensures.job m e) (returns-in-Ok-clause-stands g c m e) done
 
 pub returns-in-Ok-clause-headline : goal.returns-in-Ok-clause-headline
 returns-in-Ok-clause-headline g c = λ plan m asks e done. returns-in-Ok-clause-done g c (Run plan) m asks e done
@@ -52,7 +51,7 @@ returns-in-Ok-clause-unread_kept g c = λ n. absurd (n (performed_unread _ _ _ _
 pub returns-in-Err-clause-stands : goal.returns-in-Err-clause-stands
 returns-in-Err-clause-stands g c =
     λ m e.
-    halted_stands _ _ _ _ _ _ (work_of (texts c.args.words.now)) (reads_of (texts c.args.words.now)) m c.in-Err.halt c.stop.result e c.in-Err.ensures.halt c.stop.ensures
+    halted_stands _ _ _ _ _ _ (outcome_of (texts c.args.words.now)) (reads_of (texts c.args.words.now)) m c.in-Err.halt c.stop.result e c.in-Err.ensures.halt c.stop.ensures
 
 pub returns-in-Err-clause-headline : goal.returns-in-Err-clause-headline
 returns-in-Err-clause-headline g c = λ plan m asks e done. absurd (stopped_undone _ _ _ _ c.stop.result c.in-Err.halt c.stop.ensures done)

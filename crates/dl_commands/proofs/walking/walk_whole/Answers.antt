@@ -6,5 +6,5 @@ use Rattle.dl_commands.proofs.walking.walk_whole.Goals as goal
 
 pub whole_end-end-requires : goal.whole_end-end-requires
 whole_end-end-requires c =
-    whole_walk c.args.log.now c.args.image.now.bytes c.args.image.now.entry c.parts.result.now.count (walked_in c.in_ok-walked.walked) c.in_ok-walked.ensures.walked
+    whole_walk c.args.read.now.log c.args.read.now.image.bytes c.args.read.now.image.entry c.parts.result.now.count (walked_in c.in_ok-walked.walked) c.in_ok-walked.ensures.walked
     (ap (λ (l : LogParts). l.count) c.parts.ensures.parts)

@@ -1,5 +1,5 @@
 use Rattle.std.proofs.Common.{[], ◌∷◌}
-use Rattle.spec_program.specs.Ends.{inputs_of}
+use Rattle.spec_program.specs.commands.Run.{inputs_of, reads}
 use Rattle.spec_program.specs.Files.{read_at}
 use Rattle.spec_program.specs.Tasks.{plan_at}
 use Rattle.spec_program.proofs.Turns.{next_before}
@@ -13,8 +13,8 @@ returns-in_err-bytes-clause-halt g c =
     let old = g.F.Files.seen c.args.files.now in
     let new = g.F.Files.seen c.read_file.new.files in
     let halt = c.in_err-bytes.field-0.0 in
-    halt_carried c.from_residual.result halt (Halts (λ m. plan_at m name) (λ m. name ∷ inputs_of (plan_at m name)) old new) c.from_residual.ensures.1
-    (unread_halts (name ∷ []) (λ m. name ∷ inputs_of (plan_at m name)) (λ m. read_at m name) (λ m. plan_at m name) old new halt
+    halt_carried c.from_residual.result halt (Halts (λ m. plan_at m name) (λ m. reads m name) old new) c.from_residual.ensures.1
+    (unread_halts (name ∷ []) (λ m. reads m name) (λ m. read_at m name) (λ m. plan_at m name) old new halt
     (λ m x is. file_refused (read_at m name) _ x is)
     (λ m x next. next_before m (name ∷ []) (inputs_of (plan_at m name)) x next)
     c.in_err-bytes.ensures.halt)

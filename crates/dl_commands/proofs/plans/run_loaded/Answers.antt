@@ -1,0 +1,14 @@
+use Rattle.dl_plan.specs.Files.{input_names}
+use Rattle.dl_plan.specs.Values.{plan_view}
+use Rattle.spec_program.specs.Tasks.{task_planned}
+use Rattle.dl_gather.specs.Halts.{Halts}
+use Rattle.dl_gather.proofs.Stopping.{halt_carried}
+use Rattle.dl_commands.proofs.plans.run_loaded.Goals as goal
+
+pub returns-in_err-task-clause-halt : goal.returns-in_err-task-clause-halt
+returns-in_err-task-clause-halt g c =
+    let p = plan_view c.args.plan.now in
+    let old = g.F.Files.seen c.args.files.now in
+    let new = g.F.Files.seen c.load_task.new.files in
+    halt_carried c.from_residual.result c.in_err-task.field-0.0 (Halts (λ m. task_planned m p) (λ m. input_names p) old new) c.from_residual.ensures.1
+    c.in_err-task.ensures.halt

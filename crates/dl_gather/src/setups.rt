@@ -1,0 +1,77 @@
+//! The setups of a plan's spheres.
+ghost use Rattle.std.specs.Prelude.{◌≡◌, Ok, IfOk, IfErr, length, map};
+ghost use Rattle.dl_sphere.specs.Setups.{role_setup, setup_of as setup_view};
+ghost use Rattle.spec_program.specs.Built.{mode_named, role_of, sphere_of, spheres_of};
+ghost use Rattle.dl_gather.specs.Halts.{Refuses};
+ghost use Rattle.dl_gather.specs.Inputs.{role_view, sphere_view};
+
+use crate::halt::Halt;
+use crate::inputs::{RoleInputs, SphereInputs};
+use crate::logs::good_log;
+use dl_elf::Image;
+use dl_logfmt::ModeName;
+use dl_plan::Mode;
+use dl_sphere::{Role, SphereSetup};
+use std::alloc::Global;
+
+/// Each sphere with its image and its role; the first log that has a bad field is refused.
+pub fn setups_of(
+    alloc: Global,
+    images: Vec<Image>,
+    inputs: Vec<SphereInputs>,
+) -> Result<Vec<SphereSetup>, Halt>
+    requires { length images.items ≡ length inputs.items }
+    ensures spheres { IfOk result (λ spheres. spheres_of 0 (map sphere_view inputs.items) images.items
+        ≡ Ok (map setup_view spheres.items)) }
+    ensures count { IfOk result (λ spheres. length spheres.items ≡ length inputs.items) }
+    ensures halt { IfErr result (Refuses (spheres_of 0 (map sphere_view inputs.items) images.items)) }
+{
+    let mut spheres = Vec::new(alloc);
+    let mut images = images.into_iter();
+    for input in inputs {
+        let image = match images.next() {
+            Some(image) => image,
+            None => unreachable!(),
+        };
+        let sphere = setup_of(alloc, spheres.len(), image, input)?;
+        match spheres.push(sphere) {
+            Ok(()) => {}
+            Err(_) => return Err(Halt::OutOfMemory),
+        }
+    }
+    Ok(spheres)
+}
+
+// The sphere of that number.
+fn setup_of(alloc: Global, number: usize, image: Image, input: SphereInputs) -> Result<SphereSetup, Halt>
+    ensures sphere { IfOk result (λ sphere. sphere_of number (sphere_view input) image ≡ Ok (setup_view sphere)) }
+    ensures halt { IfErr result (Refuses (sphere_of number (sphere_view input) image)) }
+{
+    let role = role_of(alloc, number, input.role)?;
+    Ok(SphereSetup { image, role })
+}
+
+fn role_of(alloc: Global, number: usize, role: RoleInputs) -> Result<Role, Halt>
+    ensures role { IfOk result (λ r. role_of number (role_view role) ≡ Ok (role_setup r)) }
+    ensures halt { IfErr result (Refuses (role_of number (role_view role))) }
+{
+    match role {
+        RoleInputs::Plain => Ok(Role::Plain),
+        RoleInputs::Record(mode) => Ok(Role::Record(mode_named(mode))),
+        RoleInputs::Replay(read) => {
+            let log = good_log(alloc, number, read)?;
+            Ok(Role::Replay(log))
+        }
+    }
+}
+
+// The mode, as logs name it.
+fn mode_named(mode: Mode) -> ModeName
+    ensures { result ≡ mode_named mode }
+{
+    match mode {
+        Mode::OrderSize => ModeName::OrderSize,
+        Mode::OrderOnly => ModeName::OrderOnly,
+        Mode::Picolog => ModeName::Picolog,
+    }
+}

@@ -1,0 +1,7 @@
+-- The commands, a file each: what it reads, its outcome, and what 0 and 1 say of it. The headline says that of `run`.
+pub mod Run
+pub mod Inspect
+pub mod Walk
+pub mod Make
+pub mod Drill
+pub mod Asm
