@@ -36,13 +36,9 @@ least_chunk = 16
 abbrev pub most_chunk : ℕ
 most_chunk = 4096
 
--- the threads of a sphere
+-- the threads of a sphere or a log
 abbrev pub most_threads : ℕ
 most_threads = 15
-
--- the number of the last of them
-abbrev pub greatest_thread : ℕ
-greatest_thread = 14
 
 -- ---- actors
 

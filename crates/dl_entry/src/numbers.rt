@@ -1,7 +1,7 @@
 //! The numbers of records and logs that stand for something.
 ghost use Rattle.std.specs.Prelude.{◌≡◌};
 ghost use Rattle.dl_entry.specs.Numbers.{kind_write, kind_read, kind_random, kind_clock, kind_moment, kind_input, most_bytes, least_chunk};
-ghost use Rattle.dl_entry.specs.Numbers.{most_chunk, most_threads, greatest_thread, dma_code};
+ghost use Rattle.dl_entry.specs.Numbers.{most_chunk, most_threads, dma_code};
 
 /// The kinds of records: of outside calls, and of the device words that can be read.
 pub const KIND_WRITE: u8 = 2;
@@ -24,11 +24,8 @@ pub const LEAST_CHUNK: u32 = 16;
 
 pub const MOST_CHUNK: u32 = 4096;
 
-/// The most threads of a sphere.
+/// The most threads of a sphere or a log.
 pub const MOST_THREADS: u8 = 15;
-
-/// The number of the last of them.
-pub const GREATEST_THREAD: u8 = 14;
 
 /// A DMA's code, where a thread has its number.
 pub const DMA_CODE: u8 = 15;
@@ -39,6 +36,6 @@ pub fn are_as_defined()
         × (KIND_CLOCK ≡ kind_clock) × (KIND_MOMENT ≡ kind_moment) × (KIND_INPUT ≡ kind_input) }
     ensures bytes { MOST_BYTES ≡ most_bytes }
     ensures chunks { (LEAST_CHUNK ≡ least_chunk) × (MOST_CHUNK ≡ most_chunk) }
-    ensures threads { (MOST_THREADS ≡ most_threads) × (GREATEST_THREAD ≡ greatest_thread) }
+    ensures threads { MOST_THREADS ≡ most_threads }
     ensures dma { DMA_CODE ≡ dma_code }
 {}

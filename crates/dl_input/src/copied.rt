@@ -6,9 +6,6 @@ use dl_entry::{Bytes, OutOfMemory};
 use std::alloc::Global;
 use std::mem;
 
-/// The most bytes of a record.
-pub const MOST: usize = 4096;
-
 /// A copy of the bytes: of their own length if there is memory for it, else in the spare room.
 pub fn copied(alloc: Global, bytes: &[u8], spare: &mut Vec<u8>) -> Result<Bytes, OutOfMemory>
     requires few { length bytes.now ≤ most_bytes }

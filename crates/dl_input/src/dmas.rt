@@ -7,8 +7,8 @@ ghost use Rattle.std.specs.Slice.{IsItemAt};
 ghost use Rattle.spec_log.specs.declared.records.DmaRecord.{DmaRecord as Record};
 ghost use Rattle.dl_input.specs.Dmas.{Rises, bytes_at, taken_at, Stands, Misses};
 
-use crate::copied::{MOST, copied};
-use dl_entry::{Bytes, OutOfMemory, Sequence};
+use crate::copied::copied;
+use dl_entry::{Bytes, MOST_BYTES, OutOfMemory, Sequence};
 use spec_log::DmaRecord;
 use std::alloc::Global;
 use std::marker::Model;
@@ -62,7 +62,7 @@ impl Dmas {
     {
         self.entries.reserve(1)?;
         self.taken.reserve(1)?;
-        self.spare.reserve(MOST)?;
+        self.spare.reserve(MOST_BYTES)?;
         Ok(())
     }
 

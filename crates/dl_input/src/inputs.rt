@@ -4,8 +4,8 @@ ghost use Rattle.dl_entry.specs.Numbers.{most_bytes};
 ghost use Rattle.std.specs.Slice.{IsItemAt};
 ghost use Rattle.dl_input.specs.Inputs.{one_taken};
 
-use crate::copied::{MOST, copied};
-use dl_entry::{Bytes, Input, OutOfMemory, Sequence};
+use crate::copied::copied;
+use dl_entry::{Bytes, Input, MOST_BYTES, OutOfMemory, Sequence};
 use std::alloc::Global;
 use std::marker::Model;
 
@@ -56,7 +56,7 @@ impl Inputs {
         ensures room { IsTrue self.old.room → IsOk result }
     {
         self.entries.reserve(1)?;
-        self.spare.reserve(MOST)?;
+        self.spare.reserve(MOST_BYTES)?;
         Ok(())
     }
 

@@ -1,6 +1,6 @@
 //! Interrupts by thread and index.
-ghost use Rattle.std.specs.Prelude.{◌≡◌, ◌^◌, ◌<◌, ◌≤◌, ◌++◌, [], None, length, map, option_map, slice_get, IfOk, IsOk, IsTrue, OnOk, OnErr};
-ghost use Rattle.dl_entry.specs.Numbers.{greatest_thread};
+ghost use Rattle.std.specs.Prelude.{◌≡◌, ◌^◌, ◌<◌, ◌++◌, [], None, length, map, option_map, slice_get, IfOk, IsOk, IsTrue, OnOk, OnErr};
+ghost use Rattle.dl_entry.specs.Numbers.{most_threads};
 ghost use Rattle.std.specs.List.{list_all};
 ghost use Rattle.dl_input.specs.Tracked.{tracked_of, new_tracked, raised_at, insert_tracked, interrupt_of, taken_at};
 
@@ -65,7 +65,7 @@ impl Interrupts {
 
     /// Notes an interrupt of a new moment. If there is room, it isn't refused.
     pub fn note(&mut self, thread: u8, index: u32, value: u32) -> Result<(), OutOfMemory>
-        requires thread { thread ≤ greatest_thread }
+        requires thread { thread < most_threads }
         requires fresh { raised_at self.old.entries thread index ≡ None }
         ensures ok { OnOk result (self.new.entries ≡ insert_tracked (new_tracked thread index value) self.old.entries) }
         ensures err { OnErr result (self.new.entries ≡ self.old.entries) }

@@ -19,9 +19,9 @@ mode_word OrderSize = codes "order-size"
 mode_word OrderOnly = codes "order-only"
 mode_word Picolog = codes "picolog"
 
--- `log 1 MODE S COMMITS`: the version, the mode, the standard chunk size and the number of commits
+-- `log VERSION MODE S COMMITS`: the version, the mode, the standard chunk size and the number of commits
 abbrev pub head_line : LogParts → List ℕ
-head_line log = line (codes "log") (decimal 1 ∷ mode_word log.mode ∷ decimal log.s ∷ decimal log.count ∷ [])
+head_line log = line (codes "log") (decimal log.version ∷ mode_word log.mode ∷ decimal log.s ∷ decimal log.count ∷ [])
 
 -- the sizes, if each commit has one
 abbrev pub each_of : Sizes → List ℕ

@@ -30,7 +30,7 @@ fn put_head(text: &mut Text, parts: &LogParts) -> Result<(), OutOfMemory>
     ensures { OnOk result (text.new ≡ text.old ++ head_line parts.now) }
 {
     text.put(b"log")?;
-    text.put_number(1)?;
+    text.put_number(u64::from(parts.version))?;
     text.put_word(mode_word(parts.mode))?;
     text.put_number(u64::from(parts.s))?;
     text.put_number(u64::from(parts.count))?;

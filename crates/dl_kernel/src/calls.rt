@@ -1,12 +1,11 @@
 //! The calls that the kernel does by itself, one by one. The arguments are in a0 to a2; the result goes to a0.
 ghost use Rattle.std.specs.Prelude.{◌≡◌, ◌%◌, ◌<◌, length, slice_get, None, OnSome};
-ghost use Rattle.dl_entry.specs.Numbers.{most_threads};
 ghost use Rattle.spec_isa.specs.Threads.{IsThread};
 ghost use Rattle.spec_kernel.specs.Calls.{called, with_result, gives, exit, spawn, spawned, set_handler, iret, returned, is_dma_buffer, request_dma, has_ended};
 ghost use Rattle.dl_kernel.specs.Calls.{called_in};
 
 use crate::results::{BAD_BUFFER, REFUSED, UNKNOWN_CALL};
-use dl_entry::{MOST_BYTES, MOST_THREADS, Request};
+use dl_entry::{MOST_BYTES, Request};
 use dl_thread::{Parts, Thread, ThreadStatus, Threads};
 use spec_isa::numbers::{A0, A1, A2, A7, SP};
 use spec_kernel::numbers::{
@@ -28,24 +27,25 @@ pub(crate) struct Caller {
     pub(crate) thread: Parts,
 }
 
-// The call whose number is in the caller's a7, in a memory of `size` bytes.
+// The call whose number is in the caller's a7, in a memory of `size` bytes, in a sphere of at most `most` threads.
 #[tactic(auto, unfolding(spec_kernel::specs::Calls::called))]
 pub(crate) fn call(
     size: u32,
+    most: u8,
     threads: &Threads,
     request: Option<Request>,
     caller: &Caller,
 ) -> Called
     requires { IsThread caller.now.thread }
     ensures called { called_in result
-        ≡ called size caller.now.number threads.now request caller.now.thread }
+        ≡ called most size caller.now.number threads.now request caller.now.thread }
     ensures thread { IsThread result.thread }
-    ensures room { OnSome result.spawned (length threads.now < most_threads) }
+    ensures room { OnSome result.spawned (length threads.now < most) }
 {
     let t = &caller.thread;
     match t.x[A7] {
         CALL_EXIT => exit(request, t),
-        CALL_SPAWN => spawn(threads, request, t),
+        CALL_SPAWN => spawn(most, threads, request, t),
         CALL_HANDLER => set_handler(request, t),
         CALL_IRET => iret(request, t),
         CALL_DMA => request_dma(size, request, t),
@@ -101,14 +101,14 @@ fn exit(request: Option<Request>, t: &Parts) -> Called
     }
 }
 
-// A new thread, if one more has a place and its entry is a multiple of 4.
-fn spawn(threads: &Threads, request: Option<Request>, t: &Parts) -> Called
+// A new thread, if there may be one more and its entry is a multiple of 4.
+fn spawn(most: u8, threads: &Threads, request: Option<Request>, t: &Parts) -> Called
     requires { IsThread t.now }
-    ensures called { called_in result ≡ spawn threads.now request t.now }
+    ensures called { called_in result ≡ spawn most threads.now request t.now }
     ensures thread { IsThread result.thread }
-    ensures room { OnSome result.spawned (length threads.now < most_threads) }
+    ensures room { OnSome result.spawned (length threads.now < most) }
 {
-    if threads.len() >= MOST_THREADS {
+    if threads.len() >= most {
         return gives(request, t, REFUSED);
     }
     if t.x[A0] % 4 != 0 {

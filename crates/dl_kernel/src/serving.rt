@@ -1,6 +1,6 @@
 //! What a serial step leaves, with what came from outside for it.
 ghost use Rattle.std.specs.Prelude.{◌≡◌, ◌≤◌, ◌<◌, ◌∷◌, [], true, length, None, Some, IfOk, IfSome, OnSome, option_map};
-ghost use Rattle.dl_entry.specs.Numbers.{most_bytes, most_threads};
+ghost use Rattle.dl_entry.specs.Numbers.{most_bytes};
 ghost use Rattle.spec_isa.specs.Operations.{operation, at_pc, following};
 ghost use Rattle.spec_isa.specs.Threads.{IsThread};
 ghost use Rattle.spec_isa.specs.Words.{is_inside};
@@ -48,23 +48,24 @@ pub struct StepResult {
 }
 
 /// Does a serial step apart from the sphere, with the record for what it wants from outside, of at most 4,096 bytes: none
-/// where it wants nothing. Nothing but the result tells of it.
+/// where it wants nothing. At `most` threads spawn is refused. Nothing but the result tells of it.
 #[tactic(auto, using(crate::proofs::Causes::device_inside, crate::proofs::Causes::device_stored_inside), unfolding(spec_kernel::specs::Serving::serve))]
 pub fn serve(
     alloc: Global,
     step: &Step<'_>,
     input: Option<&Input>,
+    most: u8,
 ) -> Result<StepResult, OutOfMemory>
     requires { IfSome input (λ r. length r.now.bytes ≤ most_bytes) }
     ensures served { let s = step.now in
-        IfOk result (λ a. result_in a ≡ serve s.number s.threads.now s.request s.thread s.memory.now (option_map (λ r. r.now) input.entry)) }
-    ensures room { IfOk result (λ a. OnSome a.spawned (length step.now.threads.now < most_threads)) }
+        IfOk result (λ a. result_in a ≡ serve most s.number s.threads.now s.request s.thread s.memory.now (option_map (λ r. r.now) input.entry)) }
+    ensures room { IfOk result (λ a. OnSome a.spawned (length step.now.threads.now < most)) }
     ensures outputs { IfOk result (λ a. length a.outputs ≤ 1) }
 {
     let kind = next_kind(&step.thread, step.memory);
     match kind {
         None => alone(alloc, step.request, step.thread),
-        Some(Kind::Call) => serve_call(alloc, step, input),
+        Some(Kind::Call) => serve_call(alloc, step, input, most),
         Some(Kind::Break) => alone(alloc, step.request, faulted(&step.thread, BREAKPOINT)),
         Some(Kind::DeviceLoad) => device_loaded(alloc, step, input),
         Some(Kind::DeviceStore) => device_stored(alloc, step),
@@ -105,18 +106,19 @@ fn serve_call(
     alloc: Global,
     step: &Step<'_>,
     input: Option<&Input>,
+    most: u8,
 ) -> Result<StepResult, OutOfMemory>
     requires { IfSome input (λ r. length r.now.bytes ≤ most_bytes) }
     ensures served { let s = step.now in
-        IfOk result (λ a. result_in a ≡ serve_kind (Some Kind.Call) s.number s.threads.now s.request s.thread s.memory.now (option_map (λ r. r.now) input.entry)) }
-    ensures room { IfOk result (λ a. OnSome a.spawned (length step.now.threads.now < most_threads)) }
+        IfOk result (λ a. result_in a ≡ serve_kind most (Some Kind.Call) s.number s.threads.now s.request s.thread s.memory.now (option_map (λ r. r.now) input.entry)) }
+    ensures room { IfOk result (λ a. OnSome a.spawned (length step.now.threads.now < most)) }
     ensures outputs { IfOk result (λ a. length a.outputs ≤ 1) }
 {
     let number = step.thread.x()[A7];
     if CALL_SPAWN < number && number < CALL_HANDLER {
         return outside_called(alloc, step, input);
     }
-    inside_called(alloc, step)
+    inside_called(alloc, step, most)
 }
 
 // The record's result goes to a0. Without a record the buffer was bad.
@@ -210,17 +212,23 @@ fn one_output(alloc: Global, channel: u32, bytes: &[u8]) -> Result<Outputs, OutO
 }
 
 // A call that the kernel does by itself.
-fn inside_called(alloc: Global, step: &Step<'_>) -> Result<StepResult, OutOfMemory>
+fn inside_called(alloc: Global, step: &Step<'_>, most: u8) -> Result<StepResult, OutOfMemory>
     ensures served { let s = step.now in
-        IfOk result (λ a. result_in a ≡ inside_called (called (length s.memory.now) s.number s.threads.now s.request s.thread)) }
-    ensures room { IfOk result (λ a. OnSome a.spawned (length step.now.threads.now < most_threads)) }
+        IfOk result (λ a. result_in a ≡ inside_called (called most (length s.memory.now) s.number s.threads.now s.request s.thread)) }
+    ensures room { IfOk result (λ a. OnSome a.spawned (length step.now.threads.now < most)) }
     ensures outputs { IfOk result (λ a. length a.outputs ≤ 1) }
 {
     let caller = Caller {
         number: step.number,
         thread: step.thread.parts(),
     };
-    let called = call(step.memory.size(), step.threads, step.request, &caller);
+    let called = call(
+        step.memory.size(),
+        most,
+        step.threads,
+        step.request,
+        &caller,
+    );
     Ok(StepResult {
         thread: Thread::from_parts(&called.thread),
         spawned: called.spawned,

@@ -1,12 +1,13 @@
 //! Threads one by one: which of them live, what they take, and the end of a commit.
 ghost use Rattle.std.specs.Prelude.{◌≡◌, ◌+◌, ◌-◌, ◌++◌, ◌<◌, ◌≤◌, ◌^◌, false, Some, OnSome, length, map, replicate, slice_get, slice_set, take};
 ghost use Rattle.dl_entry.specs.Numbers.{most_threads};
+ghost use Rattle.spec_isa.specs.Numbers.{row_places};
 ghost use Rattle.spec_kernel.specs.Interrupts.{takes_interrupt, interrupted, is_live};
 ghost use Rattle.spec_play.specs.Effects.{counted};
 ghost use Rattle.dl_kernel.specs.Calls.{spawned_list};
 ghost use Rattle.dl_kernel.specs.Threads.{lives};
 
-use dl_thread::{Parts, Thread, ThreadStatus, Threads};
+use dl_thread::{PLACES, Parts, Thread, ThreadStatus, Threads};
 use spec_isa::numbers::{A0, A1};
 
 /// A thread that there is.
@@ -69,11 +70,11 @@ pub fn interrupted(value: u32, thread: &Thread) -> Thread
 }
 
 /// Which of the threads live, and false behind the last one.
-pub fn live_of(threads: &Threads) -> [bool; 15]
-    ensures value { result ≡ map is_live threads.now ++ replicate (15 - length threads.now) false }
+pub fn live_of(threads: &Threads) -> [bool; PLACES]
+    ensures value { result ≡ map is_live threads.now ++ replicate (row_places - length threads.now) false }
     ensures first { take (length threads.now) result ≡ map is_live threads.now }
 {
-    let mut live = [false; 15];
+    let mut live = [false; PLACES];
     for number in 0..threads.len() {
         live[usize::from(number)] = lives(threads, number);
     }

@@ -1,11 +1,10 @@
 -- What a machine is made of.
 use Rattle.std.specs.Prelude.{◌≡◌, ℕ, ◌≤◌, true, map, length, Option, Some, None}
-use Rattle.spec_log.specs.Log.{IsChunkSize}
 use Rattle.spec_engine.specs.Signatures.{is_size}
 use Rattle.spec_protocol.specs.machine.Spheres.{Sphere}
 use Rattle.spec_protocol.specs.machine.World.{Occupant, Numbers, held_afresh}
 use Rattle.spec_protocol.specs.machine.Machine as protocol
-use Rattle.spec_protocol.specs.promises.Sound.{AreFew}
+use Rattle.spec_protocol.specs.promises.Sound.{IsChunkSize, AreFew}
 use Rattle.dl_sphere.specs.Setups.{setup_of}
 use Rattle.dl_machine.specs.declared.setup.Setup.{Setup}
 use Rattle.dl_machine.specs.Rows.{Spheres}

@@ -1,6 +1,6 @@
 //! Values by thread and index.
-ghost use Rattle.std.specs.Prelude.{◌≡◌, ◌≤◌, List, [], length, replicate, slice_set, slice_index_or, IfOk, IsOk, IsTrue, OnOk, OnErr};
-ghost use Rattle.dl_entry.specs.Numbers.{greatest_thread, most_threads};
+ghost use Rattle.std.specs.Prelude.{◌≡◌, ◌<◌, List, [], length, replicate, slice_set, slice_index_or, IfOk, IsOk, IsTrue, OnOk, OnErr};
+ghost use Rattle.dl_entry.specs.Numbers.{most_threads};
 ghost use Rattle.dl_moments.specs.Views.{By};
 ghost use Rattle.dl_moments.specs.Marks.{Rises, with_mark, with_mark_if, value_at};
 
@@ -58,7 +58,7 @@ impl<V: Copy> Moments<V> {
 
     /// Puts a thread's value at an index, in place of any other that is there. If there is room, it isn't refused.
     pub fn put(&mut self, thread: u8, index: u32, value: V) -> Result<(), OutOfMemory>
-        requires { thread ≤ greatest_thread }
+        requires { thread < most_threads }
         ensures ok { let lane = slice_index_or self.old.lanes thread [] in
             OnOk result (self.new.lanes ≡ slice_set self.old.lanes thread (with_mark index value lane)) }
         ensures err { OnErr result (self.new.lanes ≡ self.old.lanes) }

@@ -1,6 +1,6 @@
 //! The recorder of a sphere.
-ghost use Rattle.std.specs.Prelude.{◌≡◌, ◌^◌, ◌≤◌, ◌+◌, [], IfOk, IfSome, IsOk, IsTrue, OnOk, OnErr, ◌<◌, option_map, All};
-ghost use Rattle.dl_entry.specs.Numbers.{greatest_thread};
+ghost use Rattle.std.specs.Prelude.{◌≡◌, ◌^◌, ◌+◌, [], IfOk, IfSome, IsOk, IsTrue, OnOk, OnErr, ◌<◌, option_map, All};
+ghost use Rattle.dl_entry.specs.Numbers.{most_threads};
 ghost use Rattle.spec_log.specs.Log.{IsStandard, IsInput, AreFewBytes};
 ghost use Rattle.spec_log.specs.Noting.{nothing_kept, noted, insert_interrupt, log_of};
 ghost use Rattle.dl_mode.specs.Logged.{note_of};
@@ -112,7 +112,7 @@ impl<M: Noting> Recorder<M> {
 
     /// Notes an interrupt of a new moment. If there is room, it isn't refused.
     pub fn interrupt(&mut self, thread: u8, index: u32, value: u32) -> Result<(), OutOfMemory>
-        requires thread { thread ≤ greatest_thread }
+        requires thread { thread < most_threads }
         requires fresh { IsFresh self.old.interrupts thread index }
         ensures ok { let interrupt = interrupt thread index value in
             OnOk result (self.new.interrupts ≡ insert_interrupt interrupt self.old.interrupts) }

@@ -3,6 +3,7 @@ use Rattle.std.specs.Prelude.{◌≡◌, ℕ, ◌-◌, List, [], ◌∷◌, ◌+
 use Rattle.dl_entry.specs.declared.End.{End}
 use Rattle.spec_isa.specs.declared.thread.Parts.{Parts}
 use Rattle.spec_isa.specs.declared.thread.Load.{Load}
+use Rattle.spec_isa.specs.Numbers.{row_places}
 use Rattle.spec_isa.specs.Threads.{started}
 use Rattle.spec_log.specs.declared.LogParts.{LogParts}
 use Rattle.spec_play.specs.Progress.{Progress, no_progress, position, Used, nothing_used}
@@ -20,9 +21,9 @@ pub record Replaying : Type 0 where
   pub last : Option ℕ
   pub commits : List ℕ
 
--- how many commits each of 15 threads has done, 0 where there is none
+-- how many commits the thread in each place of a row has done, 0 where there is none
 abbrev pub commits_of : List Parts → List ℕ
-commits_of threads = map (λ t. t.commits) threads ++ replicate (15 - length threads) 0
+commits_of threads = map (λ t. t.commits) threads ++ replicate (row_places - length threads) 0
 
 abbrev pub commits_at : Option Parts → ℕ
 commits_at None = 0

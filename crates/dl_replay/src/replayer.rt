@@ -32,7 +32,7 @@ use dl_entry::{Actor, End, OutOfMemory, Request, Why};
 use dl_kernel::{Step, StepResult, settle, thread_at};
 use dl_mem::Memory;
 use dl_mode::{Mode, Noting};
-use dl_thread::{Thread, Threads};
+use dl_thread::{PLACES, Thread, Threads};
 use dl_wbuf::Buffer;
 use spec_log::Log;
 use std::alloc::Global;
@@ -46,7 +46,7 @@ pub struct Replayer<M: Mode> {
     place: LogPlace,
     turn: Now,
     total: u32,
-    commits: [u32; 15],
+    commits: [u32; PLACES],
 }
 
 impl<M: Mode> Model for Replayer<M> {

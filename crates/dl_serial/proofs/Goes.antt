@@ -2,6 +2,7 @@
 use Rattle.std.proofs.Common.{◌≡◌, ℕ, ◌%◌, ◌≤◌, Bool, true, false, cond, List, length, Option, Some, None, refl, sym, ap, ◌∙◌, subst, arith}
 use Rattle.std.specs.Prelude.{slice_get}
 use Rattle.std.proofs.lemmas.Bool.{true≢false}
+use Rattle.dl_entry.specs.Numbers.{most_threads}
 use Rattle.dl_elf.specs.Images.{IsSize}
 use Rattle.dl_entry.specs.declared.Commit.{Commit}
 use Rattle.dl_entry.specs.declared.Input.{Input}
@@ -117,7 +118,7 @@ served-left : (log : LogParts) (p : Progress) (k : ℕ) (ts : List Parts) (t : P
 unfolding goes
 served-left log p k ts t m None f w can brings is = absurd (true≢false (sym (ap goes is)))
 served-left log p k ts t m (Some g) f w can brings is =
-    let e : Effect = serial_effect k (serve k ts p.request t m g.input) in
+    let e : Effect = serial_effect k (serve most_threads k ts p.request t m g.input) in
     left-like (length m) k ts t e f refl
     (serial-effect (length m) k ts p.request t m g.input refl can.whole brings can.thread can.request_sound can.few)
     (interrupted-like (interrupt_at log.interrupts k e.thread.commits) e g.used f w is)

@@ -2,10 +2,10 @@
 use Rattle.std.specs.Prelude.{◌≡◌, ℕ, ◌≤◌, Bool, true, List, length, slice_index, Option}
 use Rattle.dl_entry.specs.declared.Commit.{Commit}
 use Rattle.dl_entry.specs.declared.Input.{Input}
-use Rattle.spec_log.specs.Log.{IsChunkSize}
+use Rattle.dl_entry.specs.Numbers.{most_threads}
 use Rattle.spec_play.specs.Progress.{position}
 use Rattle.spec_protocol.specs.machine.Spheres as protocol
-use Rattle.spec_protocol.specs.promises.Sound.{commits_in}
+use Rattle.spec_protocol.specs.promises.Sound.{IsChunkSize, commits_in}
 use Rattle.spec_protocol.specs.promises.Standing.{Stands}
 use Rattle.dl_record.specs.Recording.{IsFresh}
 use Rattle.dl_record.specs.Recording as recorder
@@ -78,7 +78,7 @@ pub record HasFew (p : protocol.Sphere) : Type 0 where
 pub record HasRecorded (standard : ℕ) (p : protocol.Sphere) (r : Recorded) : Type 0 where
   pub few : HasFew p
   pub s : r.kept.s ≡ standard
-  pub all : length r.kept.done ≡ 15
+  pub all : length r.kept.done ≡ most_threads
   pub done : (k : ℕ) → slice_index r.kept.done k ≡ commits_in p.threads k
   pub stands : Stands p (as_log r)
 
@@ -93,10 +93,10 @@ IsKeepingOf s p Plain = HasFew p
 IsKeepingOf s p (Recording r) = HasRecorded s p r
 IsKeepingOf s p (Replaying r loads) = IsReplayed p r
 
--- what is true of every sphere: its standard size is a log's, and there are at most 15 threads
+-- what is true of every sphere: its standard size is a log's, and there are no more threads than a sphere may have
 pub record IsSphere (s : ℕ) (p : protocol.Sphere) (keeping : Keeping) : Type 0 where
   pub size : IsChunkSize s
-  pub threads : length p.threads ≤ 15
+  pub threads : length p.threads ≤ most_threads
   pub kept : IsKeepingOf s p keeping
 
 -- the sphere is not replayed

@@ -1,5 +1,6 @@
 -- A serial step that real devices answer.
 use Rattle.std.specs.Prelude.{ℕ}
+use Rattle.dl_entry.specs.Numbers.{most_threads}
 use Rattle.dl_entry.specs.declared.Commit.{Commit}
 use Rattle.spec_kernel.specs.Devices.{Devices}
 use Rattle.spec_kernel.specs.Needs.{need}
@@ -14,7 +15,7 @@ taken_by s d moment = taken (need s.thread s.memory.now) d moment
 
 -- what it does
 abbrev pub served_by : Step → Devices → (moment : ℕ) → StepResult
-served_by s d moment = serve s.number s.threads.now s.request s.thread s.memory.now (taken_by s d moment).input
+served_by s d moment = serve most_threads s.number s.threads.now s.request s.thread s.memory.now (taken_by s d moment).input
 
 abbrev pub commit_by : Step → Devices → (moment : ℕ) → Commit
 commit_by s d moment = let v = served_by s d moment in serial_commit s.number v.loads v.outputs

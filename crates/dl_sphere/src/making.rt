@@ -1,8 +1,7 @@
 //! A sphere before its first commit.
 ghost use Rattle.std.specs.Prelude.{◌≡◌, ℕ, IfOk};
-ghost use Rattle.spec_log.specs.Log.{IsChunkSize};
 ghost use Rattle.spec_protocol.specs.machine.Machine.{sphere_of};
-ghost use Rattle.spec_protocol.specs.promises.Sound.{IsImage, IsRole};
+ghost use Rattle.spec_protocol.specs.promises.Sound.{IsChunkSize, IsImage, IsRole};
 ghost use Rattle.dl_sphere.specs.Roles.{keeping_of};
 ghost use Rattle.dl_sphere.specs.Setups.{role_setup, setup_of};
 ghost use Rattle.dl_sphere.specs.Starting.{keeping_at};

@@ -1,6 +1,6 @@
 //! What a sphere keeps for its role.
-ghost use Rattle.std.specs.Prelude.{◌≡◌, ◌≤◌, None, false, IfOk, IfSome, IsOk, IsTrue, OnOk, OnErr, option_map};
-ghost use Rattle.dl_entry.specs.Numbers.{greatest_thread};
+ghost use Rattle.std.specs.Prelude.{◌≡◌, ◌<◌, None, false, IfOk, IfSome, IsOk, IsTrue, OnOk, OnErr, option_map};
+ghost use Rattle.dl_entry.specs.Numbers.{most_threads};
 ghost use Rattle.spec_log.specs.Log.{IsInput, AreFewBytes};
 ghost use Rattle.dl_sphere.specs.Roles.{keeping_of, with_noted, with_raised, CanNote, CanRaise, has_room};
 
@@ -48,7 +48,7 @@ pub(crate) fn note_interrupt(
     index: u32,
     value: u32,
 ) -> Result<(), OutOfMemory>
-    requires thread { thread ≤ greatest_thread }
+    requires thread { thread < most_threads }
     requires fresh { CanRaise thread index (keeping_of part.old) }
     ensures noted { OnOk result (keeping_of part.new ≡ with_raised thread index value (keeping_of part.old)) }
     ensures same { OnErr result (keeping_of part.new ≡ keeping_of part.old) }

@@ -1,7 +1,8 @@
 //! A recording in any of the three modes.
-ghost use Rattle.std.specs.Prelude.{◌≡◌, ◌≤◌, [], IfOk, IfSome, IsOk, IsTrue, OnOk, OnErr, option_map};
-ghost use Rattle.dl_entry.specs.Numbers.{greatest_thread};
-ghost use Rattle.spec_log.specs.Log.{IsChunkSize, IsInput, AreFewBytes};
+ghost use Rattle.std.specs.Prelude.{◌≡◌, ◌<◌, [], IfOk, IfSome, IsOk, IsTrue, OnOk, OnErr, option_map};
+ghost use Rattle.dl_entry.specs.Numbers.{most_threads};
+ghost use Rattle.spec_log.specs.Log.{IsInput, AreFewBytes};
+ghost use Rattle.spec_protocol.specs.promises.Sound.{IsChunkSize};
 ghost use Rattle.dl_record.specs.Recording.{CanCommit, IsFresh};
 ghost use Rattle.spec_play.specs.Noted.{nothing_recorded, interrupt_kept, as_log};
 ghost use Rattle.dl_sphere.specs.Recorded.{with_commit};
@@ -103,7 +104,7 @@ impl Recording {
         index: u32,
         value: u32,
     ) -> Result<(), OutOfMemory>
-        requires thread { thread ≤ greatest_thread }
+        requires thread { thread < most_threads }
         requires fresh { IsFresh self.old.recorded.interrupts thread index }
         ensures ok { OnOk result (self.new.recorded ≡ interrupt_kept thread index value self.old.recorded) }
         ensures err { OnErr result (self.new.recorded ≡ self.old.recorded) }

@@ -5,13 +5,12 @@ ghost use Rattle.spec_engine.specs.declared.answers.How.{How};
 ghost use Rattle.spec_kernel.specs.Devices.{Devices};
 ghost use Rattle.spec_kernel.specs.Interrupts.{takes_interrupt};
 ghost use Rattle.spec_play.specs.Progress.{position};
-ghost use Rattle.spec_log.specs.Log.{IsChunkSize};
 ghost use Rattle.spec_protocol.specs.machine.Asking.{is_short};
 ghost use Rattle.spec_protocol.specs.machine.Commits.{is_piece, chunk_moved, serial_moved, dma_moved, raised};
 ghost use Rattle.spec_protocol.specs.machine.Machine.{sphere_of};
 ghost use Rattle.spec_protocol.specs.machine.Placing.{replays};
 ghost use Rattle.spec_protocol.specs.machine.Spheres.{head_of, is_stopped, halves};
-ghost use Rattle.spec_protocol.specs.promises.Sound.{HaveByteInput, IsSoundRequest};
+ghost use Rattle.spec_protocol.specs.promises.Sound.{IsChunkSize, HaveByteInput, IsSoundRequest};
 ghost use Rattle.dl_sphere.specs.Moving.{came, CanCommit, IsTurnOf, IsTurnOfDma};
 ghost use Rattle.dl_sphere.specs.Setups.{setup_of};
 

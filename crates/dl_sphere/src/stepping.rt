@@ -11,7 +11,7 @@ ghost use Rattle.dl_sphere.specs.Stepping.{taken_by, served_by, commit_by};
 
 use crate::part::{Part, note_reserved, reserve};
 use dl_dev::Devices;
-use dl_entry::{Commit, Input, OutOfMemory, Request};
+use dl_entry::{Commit, Input, MOST_THREADS, OutOfMemory, Request};
 use dl_kernel::{Step, StepResult, outside_record, outside_take, serial_commit, serve};
 use dl_thread::Thread;
 use dl_wbuf::Buffer;
@@ -55,7 +55,7 @@ pub(crate) fn live_step(
     // a memory has bytes
     let _ = step.memory.size();
     let input = outside_record(alloc, &step.thread, step.memory, devices, moment)?;
-    let served = serve(alloc, step, input.as_ref())?;
+    let served = serve(alloc, step, input.as_ref(), MOST_THREADS)?;
     let StepResult {
         thread,
         spawned,

@@ -13,7 +13,7 @@ mod state;
 
 pub use answer::Did;
 pub use instruction::one;
-pub use row::Threads;
+pub use row::{PLACES, Threads};
 pub use sight::{Full, View};
 pub use spec_isa::thread::{Kind, Load, Parts, ThreadStatus};
 pub use state::Thread;

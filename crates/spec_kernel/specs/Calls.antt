@@ -2,7 +2,6 @@
 -- the result goes to a0, and the pc moves on.
 use Rattle.std.specs.Prelude.{ℕ, ◌+◌, ◌%◌, Bool, false, ◌&&◌, nat_eq, nat_le, nat_lt, List, [], ◌∷◌, length, slice_get, Option, Some, None, if◌then◌else◌}
 use Rattle.dl_entry.specs.declared.Request.{Request}
-use Rattle.dl_entry.specs.Numbers.{most_threads}
 use Rattle.spec_isa.specs.declared.thread.Parts.{Parts}
 use Rattle.spec_isa.specs.declared.thread.ThreadStatus.{ThreadStatus}
 use Rattle.spec_isa.specs.Numbers.{register_sp, register_a0, register_a1}
@@ -37,10 +36,10 @@ abbrev pub spawned : (entry sp arg : ℕ) → Parts
 spawned entry sp arg =
     let t = started entry in record t { x = with_register (with_register t.x register_sp sp) register_a0 arg }
 
--- spawn: the new thread's number; refused if there is no room for one more, or the entry isn't a code address
-abbrev pub spawn : List Parts → Option Request → Parts → Called
-spawn threads request t =
-    if nat_lt (length threads) most_threads && nat_eq (a0 t % 4) 0
+-- spawn: the new thread's number; refused if the sphere has its most threads, or the entry isn't a code address
+abbrev pub spawn : (most : ℕ) → List Parts → Option Request → Parts → Called
+spawn most threads request t =
+    if nat_lt (length threads) most && nat_eq (a0 t % 4) 0
     then record { thread = with_result (length threads) t; spawned = spawned (a0 t) (a1 t) (a2 t) ∷ []; request = request }
     else gives request t refused
 
@@ -86,11 +85,11 @@ abbrev pub has_ended : Option Parts → ℕ
 has_ended None = refused
 has_ended (Some t) = if is_live t then 0 else 1
 
--- call by call, for thread number `number` of these, in a memory of that size
-unfoldable pub called : (size number : ℕ) → List Parts → Option Request → Parts → Called
-called size number threads request t =
+-- call by call, for thread number `number` of these, of which there may be at most so many, in a memory of that size
+unfoldable pub called : (most size number : ℕ) → List Parts → Option Request → Parts → Called
+called most size number threads request t =
     if nat_eq (number_of t) call_exit then exit request t
-    else if nat_eq (number_of t) call_spawn then spawn threads request t
+    else if nat_eq (number_of t) call_spawn then spawn most threads request t
     else if nat_eq (number_of t) call_handler then set_handler request t
     else if nat_eq (number_of t) call_iret then iret request t
     else if nat_eq (number_of t) call_dma then request_dma size request t

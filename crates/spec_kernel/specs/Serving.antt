@@ -95,20 +95,20 @@ device_stored request t _ = alone request t
 abbrev pub faulted : (cause : ℕ) → Parts → Parts
 faulted cause t = record t { status = ThreadStatus.Fault cause }
 
-abbrev pub serve_kind : Option Kind → (number : ℕ) → List Parts → Option Request → Parts → List ℕ → Option Input → StepResult
-serve_kind None number threads request t m input = alone request t
-serve_kind (Some Kind.Call) number threads request t m input =
+abbrev pub serve_kind : (most : ℕ) → Option Kind → (number : ℕ) → List Parts → Option Request → Parts → List ℕ → Option Input → StepResult
+serve_kind most None number threads request t m input = alone request t
+serve_kind most (Some Kind.Call) number threads request t m input =
     if is_outside t
     then outside_called (need t m) request t input
-    else inside_called (called (length m) number threads request t)
-serve_kind (Some Kind.Break) number threads request t m input = alone request (faulted breakpoint t)
-serve_kind (Some Kind.DeviceLoad) number threads request t m input = device_loaded request t (next_operation t m) input
-serve_kind (Some Kind.DeviceStore) number threads request t m input = device_stored request t (next_operation t m)
-serve_kind (Some (Kind.Fault cause)) number threads request t m input = alone request (faulted cause t)
+    else inside_called (called most (length m) number threads request t)
+serve_kind most (Some Kind.Break) number threads request t m input = alone request (faulted breakpoint t)
+serve_kind most (Some Kind.DeviceLoad) number threads request t m input = device_loaded request t (next_operation t m) input
+serve_kind most (Some Kind.DeviceStore) number threads request t m input = device_stored request t (next_operation t m)
+serve_kind most (Some (Kind.Fault cause)) number threads request t m input = alone request (faulted cause t)
 
--- the next step of a thread, which has that number among these threads, on a memory
-unfoldable pub serve : (number : ℕ) → List Parts → Option Request → Parts → List ℕ → Option Input → StepResult
-serve number threads request t m input = serve_kind (next_kind t m) number threads request t m input
+-- the next step of a thread, which has that number among these threads, of which there may be at most so many, on a memory
+unfoldable pub serve : (most number : ℕ) → List Parts → Option Request → Parts → List ℕ → Option Input → StepResult
+serve most number threads request t m input = serve_kind most (next_kind t m) number threads request t m input
 
 -- ---- the console's word
 

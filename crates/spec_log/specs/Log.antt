@@ -94,10 +94,6 @@ IsDmaRecord dma = (dma.position < 2 ^ 32) × AreFewBytes dma.bytes
 abbrev pub AreDmas : List DmaRecord → Type 0
 AreDmas dmas = IsSection IsDmaRecord (λ x y. x.position < y.position) dmas
 
--- a standard chunk of a machine has 16 to 4,096 instructions
-abbrev pub IsChunkSize : ℕ → Type 0
-IsChunkSize s = (least_chunk ≤ s) × (s ≤ most_chunk)
-
 -- the parts are a log's
 pub record IsLog (log : LogParts) : Type 0 where
   pub version : IsVersion log.version log.threads

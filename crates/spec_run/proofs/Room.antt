@@ -4,6 +4,7 @@ use Rattle.std.proofs.Common.{◌≡◌, ℕ, zero, suc, ◌+◌, ◌<◌, Bool,
 use Rattle.std.specs.Prelude.{slice_get}
 use Rattle.std.proofs.lemmas.Bool.{true≢false}
 use Rattle.std.proofs.lemmas.Option.{none-some}
+use Rattle.dl_entry.specs.Numbers.{most_threads}
 use Rattle.dl_entry.specs.declared.Counts.{Counts}
 use Rattle.dl_entry.specs.declared.Request.{Request}
 use Rattle.spec_isa.specs.declared.thread.Parts.{Parts}
@@ -68,10 +69,10 @@ chunk-few now k (Replay b) piece short r devices p few live = replayed-few (suc 
 serial-few : (now k m : ℕ) (role : Role) (t : Parts) (devices : Devices) (p : Sphere) → (replays role ≡ false → position p.progress < now) → Few (suc now) (serial_in role k m t devices p).sphere
 serial-few now k m Plain t devices p few live =
     let g = taken (need t p.memory) devices m in
-    granted-few now k Plain (serial_effect k (serve k p.threads p.progress.request t p.memory g.input)) devices p (few refl) refl
+    granted-few now k Plain (serial_effect k (serve most_threads k p.threads p.progress.request t p.memory g.input)) devices p (few refl) refl
 serial-few now k m (Record recording) t devices p few live =
     let g = taken (need t p.memory) devices m in
-    granted-few now k (Record recording) (serial_effect k (serve k p.threads p.progress.request t p.memory g.input)) devices p (few refl) refl
+    granted-few now k (Record recording) (serial_effect k (serve most_threads k p.threads p.progress.request t p.memory g.input)) devices p (few refl) refl
 serial-few now k m (Replay b) t devices p few live =
     verdict-few (suc now) k b (serial_verdict b.log p.progress b.used k p.threads t p.memory) devices p live
 

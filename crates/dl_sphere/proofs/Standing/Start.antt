@@ -4,9 +4,8 @@ use Rattle.std.proofs.Math.ListN.{get_or}
 use Rattle.dl_entry.specs.declared.Commit.{Commit}
 use Rattle.spec_isa.specs.declared.thread.Parts.{Parts}
 use Rattle.spec_isa.specs.Threads.{started}
-use Rattle.spec_log.specs.Log.{IsChunkSize}
 use Rattle.spec_protocol.specs.machine.Machine.{RoleSetup, IsPlain, IsRecorded, IsReplayed, SphereSetup, sphere_of, role_of as role_at}
-use Rattle.spec_protocol.specs.promises.Sound.{IsRole}
+use Rattle.spec_protocol.specs.promises.Sound.{IsChunkSize, IsRole}
 use Rattle.spec_protocol.proofs.PlayingBack.All.{start-stands}
 use Rattle.spec_protocol.proofs.Logs.Growing.{commits_in}
 use Rattle.dl_sphere.specs.Inside.{sphere_with}

@@ -2,6 +2,7 @@
 use Rattle.std.proofs.Common.{◌≡◌, ℕ, zero, suc, ◌+◌, ◌*◌, ◌≤◌, List, [], ◌∷◌, ◌++◌, length, Option, Some, None, refl, arith}
 use Rattle.std.specs.Prelude.{slice_get}
 use Rattle.std.specs.Int.{bytes_low_first}
+use Rattle.dl_entry.specs.Numbers.{most_threads}
 use Rattle.dl_entry.specs.declared.Actor.{Actor}
 use Rattle.dl_entry.specs.declared.Input.{Input}
 use Rattle.dl_entry.specs.declared.Request.{Request}
@@ -88,17 +89,17 @@ stored-most request t (Operation.Amo op rd a v) = omega arith
 abbrev FewWords : StepResult → Type 0
 FewWords v = length v.words ≤ 4096
 
-kind-most : (o : Option Kind) (k : ℕ) (ts : List Parts) (request : Option Request) (t : Parts) (m : List ℕ) (input : Option Input) → FewIf (need t m) input → FewWords (serve_kind o k ts request t m input)
+kind-most : (o : Option Kind) (k : ℕ) (ts : List Parts) (request : Option Request) (t : Parts) (m : List ℕ) (input : Option Input) → FewIf (need t m) input → FewWords (serve_kind most_threads o k ts request t m input)
 kind-most None k ts request t m input few = omega arith
 kind-most (Some Kind.Call) k ts request t m input few =
-    either_serve FewWords (is_outside t) (outside_called (need t m) request t input) (inside_called (called (length m) k ts request t)) (outside-most (need t m) request t input few) (omega arith)
+    either_serve FewWords (is_outside t) (outside_called (need t m) request t input) (inside_called (called most_threads (length m) k ts request t)) (outside-most (need t m) request t input few) (omega arith)
 kind-most (Some Kind.Break) k ts request t m input few = omega arith
 kind-most (Some Kind.DeviceLoad) k ts request t m input few = loaded-most request t (next_operation t m) input
 kind-most (Some Kind.DeviceStore) k ts request t m input few = stored-most request t (next_operation t m)
 kind-most (Some (Kind.Fault cause)) k ts request t m input few = omega arith
 
 -- a serial step stores at most 4,096 words
-pub serve-most : (k : ℕ) (ts : List Parts) (request : Option Request) (t : Parts) (m : List ℕ) (input : Option Input) → FewIf (need t m) input → length (serve k ts request t m input).words ≤ 4096
+pub serve-most : (k : ℕ) (ts : List Parts) (request : Option Request) (t : Parts) (m : List ℕ) (input : Option Input) → FewIf (need t m) input → length (serve most_threads k ts request t m input).words ≤ 4096
 unfolding serve
 serve-most k ts request t m input few = kind-most (next_kind t m) k ts request t m input few
 
@@ -134,7 +135,7 @@ given-few log (Some n) (Some r) u few = branch (GivenFew (Some n)) (fits n r) (S
 served-words : (log : LogParts) (p : Progress) (k : ℕ) (ts : List Parts) (t : Parts) (m : List ℕ) (o : Option Given) → GivenFew (need t m) o → words_stored (served_verdict log p k ts t m o) ≤ 4096
 served-words log p k ts t m None few = omega arith
 served-words log p k ts t m (Some g) few =
-    let e = serial_effect k (serve k ts p.request t m g.input) in
+    let e = serial_effect k (serve most_threads k ts p.request t m g.input) in
     interrupted-words (interrupt_at log.interrupts k e.thread.commits) e g.used (serve-most k ts p.request t m g.input few)
 
 serial-words : (log : LogParts) (p : Progress) (u : Used) (k : ℕ) (ts : List Parts) (t : Parts) (m : List ℕ) → IsLog log → words_stored (serial_verdict log p u k ts t m) ≤ 4096

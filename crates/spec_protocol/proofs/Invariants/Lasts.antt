@@ -3,6 +3,7 @@ use Rattle.std.proofs.Common.{◌≡◌, ℕ, ◌<◌, inl, inr, Bool, true, fal
 use Rattle.std.specs.Prelude.{slice_get, option_map}
 use Rattle.std.proofs.lemmas.Bool.{cases_eq}
 use Rattle.std.proofs.lemmas.Option.{none-some, slice_get_within, slice_get-map, get_or_from_slice_get}
+use Rattle.dl_entry.specs.Numbers.{most_threads}
 use Rattle.dl_entry.specs.declared.Request.{Request}
 use Rattle.spec_isa.specs.declared.thread.Parts.{Parts}
 use Rattle.spec_isa.specs.Runs.{Run, run}
@@ -48,7 +49,7 @@ chunk_last (Replay b) k piece short r devices p last = replayed_last piece b k r
 -- what the devices' answer leaves of a serial step
 abbrev served_effect : (thread moment : ℕ) → Parts → Devices → Sphere → Effect
 served_effect k moment t devices p =
-    serial_effect k (serve k p.threads p.progress.request t p.memory (taken (need t p.memory) devices moment).input)
+    serial_effect k (serve most_threads k p.threads p.progress.request t p.memory (taken (need t p.memory) devices moment).input)
 
 serial_last : (role : Role) (k moment : ℕ) (t : Parts) (devices : Devices) (p : Sphere) → IsOfCommits p.progress → IsOfCommits (serial_in role k moment t devices p).sphere.progress
 serial_last Plain k moment t devices p last = last-effect k (served_effect k moment t devices p) p.progress refl

@@ -2,6 +2,7 @@
 use Rattle.std.proofs.Common.{◌≡◌, ℕ, ◌+◌, ◌≤◌, Bool, true, false, ◌&&◌, eqb, cond, List, [], ◌∷◌, length, Option, Some, None, refl, arith}
 use Rattle.std.specs.Prelude.{nat_lt, ◌%◌}
 use Rattle.std.proofs.lemmas.Bool.{and_parts, ltb-true}
+use Rattle.dl_entry.specs.Numbers.{most_threads}
 use Rattle.dl_entry.specs.declared.Input.{Input}
 use Rattle.dl_entry.specs.declared.Request.{Request}
 use Rattle.spec_isa.specs.declared.thread.Parts.{Parts}
@@ -28,7 +29,7 @@ either P false x y p q = q
 none_few : (ts : List Parts) → length ts ≤ 15 → AreFew ts []
 none_few ts few = omega (arith, few)
 
-spawn_few : (ts : List Parts) (request : Option Request) (t : Parts) → length ts ≤ 15 → CallFew ts (spawn ts request t)
+spawn_few : (ts : List Parts) (request : Option Request) (t : Parts) → length ts ≤ 15 → CallFew ts (spawn most_threads ts request t)
 spawn_few ts request t few =
     either (CallFew ts) (nat_lt (length ts) 15 && eqb (a0 t % 4) 0)
     (record { thread = with_result (length ts) t; spawned = spawned (a0 t) (a1 t) (a2 t) ∷ []; request = request })
@@ -50,7 +51,7 @@ dma_few ts size None t few =
     either (CallFew ts) (is_dma_buffer size (a0 t) (cut (a1 t))) (gives q t 0) (gives None t bad_buffer) (λ e. none_few ts few) (none_few ts few)
 dma_few ts size (Some request) t few = none_few ts few
 
-called_few : (size k : ℕ) (ts : List Parts) (request : Option Request) (t : Parts) → length ts ≤ 15 → CallFew ts (called size k ts request t)
+called_few : (size k : ℕ) (ts : List Parts) (request : Option Request) (t : Parts) → length ts ≤ 15 → CallFew ts (called most_threads size k ts request t)
 called_few size k ts request t few =
     let none : AreFew ts [] = none_few ts few in
     any-call (CallFew ts) size k ts request t (λ m. none) none (spawn_few ts request t few) (handler_few ts request t few) (iret_few ts request t few) (dma_few ts size request t few)
@@ -83,10 +84,10 @@ stored_few ts request t (Operation.LoadReserved rd a) few = none_few ts few
 stored_few ts request t (Operation.StoreConditional rd a v) few = none_few ts few
 stored_few ts request t (Operation.Amo op rd a v) few = none_few ts few
 
-kind_few : (o : Option Kind) (k : ℕ) (ts : List Parts) (request : Option Request) (t : Parts) (m : List ℕ) (input : Option Input) → length ts ≤ 15 → ServeFew ts (serve_kind o k ts request t m input)
+kind_few : (o : Option Kind) (k : ℕ) (ts : List Parts) (request : Option Request) (t : Parts) (m : List ℕ) (input : Option Input) → length ts ≤ 15 → ServeFew ts (serve_kind most_threads o k ts request t m input)
 kind_few None k ts request t m input few = none_few ts few
 kind_few (Some Kind.Call) k ts request t m input few =
-    either_serve (ServeFew ts) (is_outside t) (outside_called (need t m) request t input) (inside_called (called (length m) k ts request t)) (outside_few ts (need t m) request t input few)
+    either_serve (ServeFew ts) (is_outside t) (outside_called (need t m) request t input) (inside_called (called most_threads (length m) k ts request t)) (outside_few ts (need t m) request t input few)
     (called_few (length m) k ts request t few)
 kind_few (Some Kind.Break) k ts request t m input few = none_few ts few
 kind_few (Some Kind.DeviceLoad) k ts request t m input few = loaded_few ts request t _ input few
@@ -94,6 +95,6 @@ kind_few (Some Kind.DeviceStore) k ts request t m input few = stored_few ts requ
 kind_few (Some (Kind.Fault cause)) k ts request t m input few = none_few ts few
 
 -- a serial step leaves a sphere of at most 15 threads with at most 15
-pub serve-few : (k : ℕ) (ts : List Parts) (request : Option Request) (t : Parts) (m : List ℕ) (input : Option Input) → length ts ≤ 15 → AreFew ts (serve k ts request t m input).spawned
+pub serve-few : (k : ℕ) (ts : List Parts) (request : Option Request) (t : Parts) (m : List ℕ) (input : Option Input) → length ts ≤ 15 → AreFew ts (serve most_threads k ts request t m input).spawned
 unfolding serve
 serve-few k ts request t m input few = kind_few _ k ts request t m input few

@@ -2,6 +2,7 @@
 -- serial step spawns is new.
 use Rattle.std.proofs.Common.{◌≡◌, ℕ, zero, suc, Bool, true, false, ◌&&◌, eqb, cond, List, [], ◌∷◌, length, Option, Some, None, refl, ap, ◌∙◌, subst}
 use Rattle.std.specs.Prelude.{slice_get, nat_lt, ◌%◌}
+use Rattle.dl_entry.specs.Numbers.{most_threads}
 use Rattle.dl_entry.specs.declared.Input.{Input}
 use Rattle.dl_entry.specs.declared.Request.{Request}
 use Rattle.spec_isa.specs.declared.thread.Parts.{Parts}
@@ -85,7 +86,7 @@ either_call P false x y p q = q
 gives_keeps : (request : Option Request) (t : Parts) (n : ℕ) → CallKeeps t (gives request t n)
 gives_keeps request t n = record { commits = refl; fresh = tt }
 
-spawn_keeps : (ts : List Parts) (request : Option Request) (t : Parts) → CallKeeps t (spawn ts request t)
+spawn_keeps : (ts : List Parts) (request : Option Request) (t : Parts) → CallKeeps t (spawn most_threads ts request t)
 spawn_keeps ts request t =
     either_call (CallKeeps t) (nat_lt (length ts) 15 && eqb (a0 t % 4) 0)
     (record { thread = with_result (length ts) t; spawned = spawned (a0 t) (a1 t) (a2 t) ∷ []; request = request })
@@ -110,8 +111,8 @@ dma_keeps size None t =
 dma_keeps size (Some request) t = record { commits = refl; fresh = tt }
 
 -- what holds of an answer alone, and of each call that does more, holds of the call that a thread makes
-pub any-call : (Q : Called → Type 0) (size k : ℕ) (ts : List Parts) (request : Option Request) (t : Parts) → ((m : ℕ) → Q (gives request t m)) → Q (exit request t) → Q (spawn ts request t) → Q (set_handler request t) → Q (iret request t) → Q (request_dma size request t)
-    → Q (called size k ts request t)
+pub any-call : (Q : Called → Type 0) (size k : ℕ) (ts : List Parts) (request : Option Request) (t : Parts) → ((m : ℕ) → Q (gives request t m)) → Q (exit request t) → Q (spawn most_threads ts request t) → Q (set_handler request t) → Q (iret request t) → Q (request_dma size request t)
+    → Q (called most_threads size k ts request t)
 unfolding called
 any-call Q size k ts request t answers exits spawns handles returns asks =
     let n = number_of t in
@@ -121,9 +122,9 @@ any-call Q size k ts request t answers exits spawns handles returns asks =
     let c8 = cond (eqb n 8) (request_dma size request t) c9 in
     let c7 = cond (eqb n 7) (iret request t) c8 in
     let c6 = cond (eqb n 6) (set_handler request t) c7 in
-    let c1 = cond (eqb n 1) (spawn ts request t) c6 in
+    let c1 = cond (eqb n 1) (spawn most_threads ts request t) c6 in
     branch Q (eqb n 0) (exit request t) c1 (λ _. exits)
-    (λ _. branch Q (eqb n 1) (spawn ts request t) c6 (λ _. spawns)
+    (λ _. branch Q (eqb n 1) (spawn most_threads ts request t) c6 (λ _. spawns)
     (λ _. branch Q (eqb n 6) (set_handler request t) c7 (λ _. handles)
     (λ _. branch Q (eqb n 7) (iret request t) c8 (λ _. returns)
     (λ _. branch Q (eqb n 8) (request_dma size request t) c9 (λ _. asks)
@@ -132,7 +133,7 @@ any-call Q size k ts request t answers exits spawns handles returns asks =
     (λ _. branch Q (eqb n 11) (gives request t (has_ended (slice_get ts (a0 t)))) (gives request t unknown_call) (λ _. answers _)
     (λ _. answers unknown_call))))))))
 
-called_keeps : (size k : ℕ) (ts : List Parts) (request : Option Request) (t : Parts) → CallKeeps t (called size k ts request t)
+called_keeps : (size k : ℕ) (ts : List Parts) (request : Option Request) (t : Parts) → CallKeeps t (called most_threads size k ts request t)
 called_keeps size k ts request t =
     any-call (CallKeeps t) size k ts request t (gives_keeps request t) (record { commits = refl; fresh = tt }) (spawn_keeps ts request t) (handler_keeps request t) (iret_keeps request t) (dma_keeps size request t)
 
@@ -167,18 +168,18 @@ stored_keeps request t (Operation.Amo op rd a v) = record { commits = refl; fres
 inside_keeps : (t : Parts) (c : Called) → CallKeeps t c → ServeKeeps t (inside_called c)
 inside_keeps t c k = record { commits = k.commits; fresh = k.fresh }
 
-kind_keeps : (o : Option Kind) (k : ℕ) (ts : List Parts) (request : Option Request) (t : Parts) (m : List ℕ) (input : Option Input) → ServeKeeps t (serve_kind o k ts request t m input)
+kind_keeps : (o : Option Kind) (k : ℕ) (ts : List Parts) (request : Option Request) (t : Parts) (m : List ℕ) (input : Option Input) → ServeKeeps t (serve_kind most_threads o k ts request t m input)
 kind_keeps None k ts request t m input = record { commits = refl; fresh = tt }
 kind_keeps (Some Kind.Call) k ts request t m input =
-    either_serve (ServeKeeps t) (is_outside t) (outside_called (need t m) request t input) (inside_called (called (length m) k ts request t)) (outside_keeps (need t m) request t input)
-    (inside_keeps t (called (length m) k ts request t) (called_keeps (length m) k ts request t))
+    either_serve (ServeKeeps t) (is_outside t) (outside_called (need t m) request t input) (inside_called (called most_threads (length m) k ts request t)) (outside_keeps (need t m) request t input)
+    (inside_keeps t (called most_threads (length m) k ts request t) (called_keeps (length m) k ts request t))
 kind_keeps (Some Kind.Break) k ts request t m input = record { commits = refl; fresh = tt }
 kind_keeps (Some Kind.DeviceLoad) k ts request t m input = loaded_keeps request t _ input
 kind_keeps (Some Kind.DeviceStore) k ts request t m input = stored_keeps request t _
 kind_keeps (Some (Kind.Fault cause)) k ts request t m input = record { commits = refl; fresh = tt }
 
 -- a serial step keeps its thread's number of commits, and those that it spawns are new
-pub serve-keeps : (k : ℕ) (ts : List Parts) (request : Option Request) (t : Parts) (m : List ℕ) (input : Option Input) → ServeKeeps t (serve k ts request t m input)
+pub serve-keeps : (k : ℕ) (ts : List Parts) (request : Option Request) (t : Parts) (m : List ℕ) (input : Option Input) → ServeKeeps t (serve most_threads k ts request t m input)
 unfolding serve
 serve-keeps k ts request t m input = kind_keeps _ k ts request t m input
 
@@ -189,7 +190,7 @@ pub record LookAlike (ts us : List Parts) : Type 0 where
   pub size : length us ≡ length ts
   pub ended : (j : ℕ) → has_ended (slice_get us j) ≡ has_ended (slice_get ts j)
 
-called_alike : (size k : ℕ) (ts us : List Parts) (request : Option Request) (t : Parts) → LookAlike ts us → called size k us request t ≡ called size k ts request t
+called_alike : (size k : ℕ) (ts us : List Parts) (request : Option Request) (t : Parts) → LookAlike ts us → called most_threads size k us request t ≡ called most_threads size k ts request t
 unfolding called
 called_alike size k ts us request t a =
     (λ i.
@@ -205,7 +206,7 @@ called_alike size k ts us request t a =
     (cond (eqb (number_of t) 10) (gives request t 0)
     (cond (eqb (number_of t) 11) (gives request t (a.ended (a0 t) i)) (gives request t unknown_call)))))))))
 
-kind_alike : (o : Option Kind) (k : ℕ) (ts us : List Parts) (request : Option Request) (t : Parts) (m : List ℕ) (input : Option Input) → LookAlike ts us → serve_kind o k us request t m input ≡ serve_kind o k ts request t m input
+kind_alike : (o : Option Kind) (k : ℕ) (ts us : List Parts) (request : Option Request) (t : Parts) (m : List ℕ) (input : Option Input) → LookAlike ts us → serve_kind most_threads o k us request t m input ≡ serve_kind most_threads o k ts request t m input
 kind_alike None k ts us request t m input a = refl
 kind_alike (Some Kind.Call) k ts us request t m input a =
     ap (λ (c : Called). cond (is_outside t) (outside_called (need t m) request t input) (inside_called c)) (called_alike (length m) k ts us request t a)
@@ -215,6 +216,6 @@ kind_alike (Some Kind.DeviceStore) k ts us request t m input a = refl
 kind_alike (Some (Kind.Fault cause)) k ts us request t m input a = refl
 
 -- a serial step looks at the other threads by their number and their ends alone
-pub serve-alike : (k : ℕ) (ts us : List Parts) (request : Option Request) (t : Parts) (m : List ℕ) (input : Option Input) → LookAlike ts us → serve k us request t m input ≡ serve k ts request t m input
+pub serve-alike : (k : ℕ) (ts us : List Parts) (request : Option Request) (t : Parts) (m : List ℕ) (input : Option Input) → LookAlike ts us → serve most_threads k us request t m input ≡ serve most_threads k ts request t m input
 unfolding serve
 serve-alike k ts us request t m input a = kind_alike _ k ts us request t m input a

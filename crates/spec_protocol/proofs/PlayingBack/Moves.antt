@@ -5,6 +5,7 @@ use Rattle.std.specs.Option.{option_or}
 use Rattle.std.proofs.lemmas.Bool.{true≢false, cases_eq, eqb-true, lt-ltb, cases_lt}
 use Rattle.std.proofs.lemmas.List.{length-append}
 use Rattle.std.proofs.lemmas.Option.{none-some}
+use Rattle.dl_entry.specs.Numbers.{most_threads}
 use Rattle.dl_entry.specs.declared.Actor.{Actor}
 use Rattle.dl_entry.specs.declared.Input.{Input}
 use Rattle.dl_entry.specs.declared.Request.{Request}
@@ -228,7 +229,7 @@ abbrev serial_log : LogParts → Sphere → ℕ → (moment : ℕ) → Parts →
 serial_log log p k moment t devices = serial_noted k t (taken (need t p.memory) devices moment) log p
 
 abbrev effect_of : Sphere → ℕ → (moment : ℕ) → Parts → Devices → Effect
-effect_of p k moment t devices = serial_effect k (serve k p.threads p.progress.request t p.memory (taken (need t p.memory) devices moment).input)
+effect_of p k moment t devices = serial_effect k (serve most_threads k p.threads p.progress.request t p.memory (taken (need t p.memory) devices moment).input)
 
 -- a recorded serial step is a commit of its thread
 pub serial-committed : (recording : Recording) (p : Sphere) (k moment : ℕ) (t : Parts) (devices : Devices) → slice_get p.threads k ≡ Some t

@@ -3,6 +3,7 @@ use Rattle.std.proofs.Common.{◌≡◌, ℕ, zero, suc, ◌+◌, ◌-◌, ◌<�
 use Rattle.std.specs.Prelude.{slice_get, nat_lt, IsSome}
 use Rattle.std.proofs.lemmas.Bool.{true≢false, le-ltb, ne_eqb}
 use Rattle.std.proofs.lemmas.List.{length-append, append_assoc}
+use Rattle.dl_entry.specs.Numbers.{most_threads}
 use Rattle.dl_entry.specs.declared.Actor.{Actor}
 use Rattle.dl_entry.specs.declared.Input.{Input}
 use Rattle.dl_entry.specs.declared.Why.{Why}
@@ -179,7 +180,7 @@ serial_verdict_is L p u k ts t m = refl
 pub serial-goes : (L : LogParts) (y : Played) (k : ℕ) (m : List ℕ) (t : Parts) (p : Progress) (ts : List Parts) (d : Devices) (moment : ℕ) (log : LogParts) → y.memory ≡ m → y.progress ≡ p → LookAlike ts y.threads → y.used.inputs ≡ length log.inputs
     → IsSome (next_kind t m) → ZeroOrNone (size_in L (Actor.Thread k) t.commits) → Behind L.inputs (input_noted (taken (need t m) d moment).input log).inputs
     → thread_verdict L y k t (next_kind t y.memory)
-    ≡ ended L k (serial_effect k (serve k ts p.request t m (taken (need t m) d moment).input)) (record y.used { inputs = length (input_noted (taken (need t m) d moment).input log).inputs })
+    ≡ ended L k (serial_effect k (serve most_threads k ts p.request t m (taken (need t m) d moment).input)) (record y.used { inputs = length (input_noted (taken (need t m) d moment).input log).inputs })
 serial-goes L y k m t p ts d moment log is_m is_p alike inputs some size behind =
     let g : Taken = taken (need t m) d moment in
     let used1 : Used = record y.used { inputs = length (input_noted g.input log).inputs } in

@@ -5,6 +5,7 @@ use Rattle.std.specs.List.{flat_map}
 use Rattle.std.proofs.lemmas.List.{append-nil, append_assoc}
 use Rattle.std.proofs.lemmas.Option.{get_or_from_slice_get}
 use Rattle.std.proofs.Math.Seq.{drop-append_seam, drop-length}
+use Rattle.dl_entry.specs.Numbers.{most_threads}
 use Rattle.dl_entry.specs.declared.Actor.{Actor}
 use Rattle.dl_entry.specs.declared.Commit.{Commit}
 use Rattle.dl_entry.specs.declared.CommitKind.{CommitKind}
@@ -80,7 +81,7 @@ chunk_if i x k size short p (Some t) live is = chunk_puts p.role i x k size shor
 
 abbrev served_commit : (thread moment : ℕ) → Parts → Devices → Sphere → Commit
 served_commit k moment t devices p =
-    (serial_effect k (serve k p.threads p.progress.request t p.memory (taken (need t p.memory) devices moment).input)).commit
+    (serial_effect k (serve most_threads k p.threads p.progress.request t p.memory (taken (need t p.memory) devices moment).input)).commit
 
 serial_puts : (role : Role) (i : ℕ) (x : SerialState) (k moment : ℕ) (p : Sphere) (t : Parts) → IsLive role → slice_get x.spheres i ≡ Some p → Puts i x (do_moved x i (serial_in role k moment t x.devices p))
 serial_puts Plain i x k moment p t live is =

@@ -5,6 +5,7 @@ use Rattle.std.proofs.Math.ListN.{length-set}
 use Rattle.std.proofs.lemmas.Bool.{cases_eq}
 use Rattle.std.proofs.lemmas.List.{append-nil, length-append}
 use Rattle.std.proofs.lemmas.Option.{slice_get_within}
+use Rattle.dl_entry.specs.Numbers.{most_threads}
 use Rattle.dl_entry.specs.declared.Actor.{Actor}
 use Rattle.dl_entry.specs.declared.CommitKind.{CommitKind}
 use Rattle.dl_entry.specs.declared.Point.{Point}
@@ -108,7 +109,7 @@ module _ (mode : ModeName) (s : ℕ) (cs : List Supplied) where
       → Keeps mode s (cs ++ record { point = Point.Commit moment i (Actor.Thread k) CommitKind.Serial size short; input = (taken (need t p.memory) devices moment).input; bytes = [] } ∷ []) (laid (recorded_serial (keeping (logged mode s cs)) p k moment t devices))
   serial-keeps moment i k size short p t devices keeps is empty =
       let g : Taken = taken (need t p.memory) devices moment in
-      let e = serial_effect k (serve k p.threads p.progress.request t p.memory g.input) in
+      let e = serial_effect k (serve most_threads k p.threads p.progress.request t p.memory g.input) in
       let log = logged mode s cs in
       let q = laid (recorded_serial (keeping log) p k moment t devices) in
       let d : HasCommitted (commit_of k false t e g.input) p q log (serial_noted k t g log p) = serial-committed (keeping log) p k moment t devices is in

@@ -3,6 +3,7 @@ use Rattle.std.proofs.Common.{◌≡◌, ℕ, zero, suc, ◌+◌, ◌%◌, ◌�
 use Rattle.std.specs.Prelude.{slice_get, slice_set}
 use Rattle.std.proofs.Math.ListN.{length-set, length-append}
 use Rattle.std.proofs.lemmas.Option.{none-some}
+use Rattle.dl_entry.specs.Numbers.{most_threads}
 use Rattle.dl_entry.specs.declared.Input.{Input}
 use Rattle.dl_entry.specs.declared.Request.{Request}
 use Rattle.spec_isa.specs.declared.thread.Parts.{Parts}
@@ -117,9 +118,9 @@ chunk-effect size k ts t request r thread commits words sound few =
 
 -- the effect of a serial step is sound
 pub serial-effect : (size k : ℕ) (ts : List Parts) (request : Option Request) (t : Parts) (m : List ℕ) (input : Option Input) → length m ≡ size → size % 4 ≡ 0 → BringsIf (need t m) input → IsThread t → IsSoundIf size request → length ts ≤ 15
-    → IsSoundEffect size ts t (serial_effect k (serve k ts request t m input))
+    → IsSoundEffect size ts t (serial_effect k (serve most_threads k ts request t m input))
 serial-effect size k ts request t m input same whole brings thread sound few =
-    let v = serve k ts request t m input in
+    let v = serve most_threads k ts request t m input in
     let served : IsSoundStepResult size v =
     subst (λ (n : ℕ). n % 4 ≡ 0 → IsSoundIf n request → IsSoundStepResult n v) same (λ w q. serve-sound k ts request t m input w brings thread q) whole sound
     in

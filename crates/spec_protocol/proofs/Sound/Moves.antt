@@ -5,6 +5,7 @@ use Rattle.std.proofs.Math.ListN.{length-set, length-append}
 use Rattle.std.proofs.lemmas.Bool.{leb-true, eqb-true, and_parts}
 use Rattle.std.proofs.lemmas.List.{append-nil}
 use Rattle.std.proofs.lemmas.Option.{slice_get_within}
+use Rattle.dl_entry.specs.Numbers.{most_threads}
 use Rattle.dl_entry.specs.declared.Actor.{Actor}
 use Rattle.dl_entry.specs.declared.Input.{Input}
 use Rattle.spec_isa.specs.declared.thread.Parts.{Parts}
@@ -174,7 +175,7 @@ served-goes : (size k : ℕ) (log : LogParts) (p : Progress) (ts : List Parts) (
     → IfGoes (SoundlyIn size log k ts t) (served_verdict log p k ts t m o)
 served-goes size k log p ts t m None is each same whole thread request few = tt
 served-goes size k log p ts t m (Some g) is each same whole thread request few =
-    ended-goes size log k ts t (serial_effect k (serve k ts p.request t m g.input)) g.used is (serial-effect size k ts p.request t m g.input same whole each.brings thread request few) each.uses
+    ended-goes size log k ts t (serial_effect k (serve most_threads k ts p.request t m g.input)) g.used is (serial-effect size k ts p.request t m g.input same whole each.brings thread request few) each.uses
 
 serial-goes : (size k : ℕ) (log : LogParts) (p : Progress) (u : Used) (ts : List Parts) (t : Parts) (m : List ℕ) → slice_get ts k ≡ Some t → Uses log ts u → length m ≡ size → size % 4 ≡ 0 → IsThread t → IsSoundIf size p.request → length ts ≤ 15
     → IfGoes (SoundlyIn size log k ts t) (serial_verdict log p u k ts t m)
@@ -190,10 +191,10 @@ input-log s n threads None log h = h
 input-log s n threads (Some r) log h = record { size = h.size; count = h.count; interrupts = h.interrupts }
 
 served-sound : (s : ℕ) (image : SphereSetup) (now k : ℕ) (role : Role) (t : Parts) (g : Taken) (p : Sphere) → length image.memory % 4 ≡ 0 → IsSoundSphere s image now p → slice_get p.threads k ≡ Some t → IsSoundTaken (need t p.memory) g
-    → IsSoundRole s (position (with_effect k (serial_effect k (serve k p.threads p.progress.request t p.memory g.input)) p.progress)) (with_threads k (serial_effect k (serve k p.threads p.progress.request t p.memory g.input)) p.threads) role
+    → IsSoundRole s (position (with_effect k (serial_effect k (serve most_threads k p.threads p.progress.request t p.memory g.input)) p.progress)) (with_threads k (serial_effect k (serve most_threads k p.threads p.progress.request t p.memory g.input)) p.threads) role
     → IsSoundMoved s image (suc now) (served_as role k t g p)
 served-sound s image now k role t g p whole sound is taken_ role_sound =
-    let v = serve k p.threads p.progress.request t p.memory g.input in
+    let v = serve most_threads k p.threads p.progress.request t p.memory g.input in
     granted-sound s image now k role t (serial_effect k v) (console_written t p.memory v.outputs g.devices) p sound is
     (serial-effect (length image.memory) k p.threads p.progress.request t p.memory g.input sound.size whole taken_.brings (sound.threads k t is).thread sound.request sound.few)
     role_sound (written-devices t p.memory v.outputs g.devices taken_.devices)
@@ -204,7 +205,7 @@ serial-in-sound s image now k moment Plain t devices p whole role going sound is
     served-sound s image now k Plain t (taken (need t p.memory) devices moment) p whole sound is (taken-sound t p.memory devices moment sound.bytes d) tt
 serial-in-sound s image now k moment (Record recording) t devices p whole role going sound is d =
     let g = taken (need t p.memory) devices moment in
-    let e = serial_effect k (serve k p.threads p.progress.request t p.memory g.input) in
+    let e = serial_effect k (serve most_threads k p.threads p.progress.request t p.memory g.input) in
     let taken_ = taken-sound t p.memory devices moment sound.bytes d in
     let effect = serial-effect (length image.memory) k p.threads p.progress.request t p.memory g.input sound.size whole taken_.brings (sound.threads k t is).thread sound.request sound.few in
     served-sound s image now k (Record (record recording { log = serial_noted k t g recording.log p })) t g p whole sound is taken_

@@ -5,6 +5,7 @@ use Rattle.std.specs.Prelude.{slice_index, slice_set, replicate, nat_le, nat_lt,
 use Rattle.std.proofs.Math.ListN.{length-set}
 use Rattle.std.proofs.lemmas.Bool.{eqb-true, eqb-false, and_parts, leb-true}
 use Rattle.std.proofs.lemmas.Option.{none-some}
+use Rattle.dl_entry.specs.Numbers.{most_threads}
 use Rattle.dl_entry.specs.declared.Input.{Input}
 use Rattle.dl_entry.specs.declared.Request.{Request}
 use Rattle.spec_isa.specs.declared.thread.Parts.{Parts}
@@ -123,7 +124,7 @@ exit-sound size request t is sound =
       request = sound;
     }
 
-spawn-sound : (size : ℕ) (ts : List Parts) (request : Option Request) (t : Parts) → IsThread t → IsSoundIf size request → IsSoundCall size (spawn ts request t)
+spawn-sound : (size : ℕ) (ts : List Parts) (request : Option Request) (t : Parts) → IsThread t → IsSoundIf size request → IsSoundCall size (spawn most_threads ts request t)
 spawn-sound size ts request t is sound =
     branch (IsSoundCall size) (nat_lt (length ts) 15 && eqb (a0 t % 4) 0)
     (record { thread = with_result (length ts) t; spawned = spawned (a0 t) (a1 t) (a2 t) ∷ []; request = request })
@@ -185,7 +186,7 @@ dma-call-sound size None t is sound =
     (λ _. gives-sound size None t bad_buffer is tt)
 dma-call-sound size (Some request) t is sound = gives-sound size (Some request) t _ is sound
 
-called-sound : (size k : ℕ) (ts : List Parts) (request : Option Request) (t : Parts) → IsThread t → IsSoundIf size request → IsSoundCall size (called size k ts request t)
+called-sound : (size k : ℕ) (ts : List Parts) (request : Option Request) (t : Parts) → IsThread t → IsSoundIf size request → IsSoundCall size (called most_threads size k ts request t)
 called-sound size k ts request t is sound =
     any-call (IsSoundCall size) size k ts request t (λ m. gives-sound size request t m is sound) (exit-sound size request t is sound) (spawn-sound size ts request t is sound) (handler-sound size request t is sound) (iret-sound size request t is sound)
     (dma-call-sound size request t is sound)
@@ -319,12 +320,12 @@ inside-sound : (size : ℕ) (c : Called) → IsSoundCall size c → IsSoundStepR
 inside-sound size c s = record { thread = s.thread; spawned = s.spawned; request = s.request; words = sound-none size }
 
 kind-sound : (o : Option Kind) (k : ℕ) (ts : List Parts) (request : Option Request) (t : Parts) (m : List ℕ) (input : Option Input) → length m % 4 ≡ 0 → BringsIf (need t m) input → IsThread t → IsSoundIf (length m) request
-    → IsSoundStepResult (length m) (serve_kind o k ts request t m input)
+    → IsSoundStepResult (length m) (serve_kind most_threads o k ts request t m input)
 kind-sound None k ts request t m input whole brings is sound = alone-sound (length m) request t is sound
 kind-sound (Some Kind.Call) k ts request t m input whole brings is sound =
-    either_serve (IsSoundStepResult (length m)) (is_outside t) (outside_called (need t m) request t input) (inside_called (called (length m) k ts request t))
+    either_serve (IsSoundStepResult (length m)) (is_outside t) (outside_called (need t m) request t input) (inside_called (called most_threads (length m) k ts request t))
     (outside-sound (length m) (need t m) request t input whole (need-room t m) brings is sound)
-    (inside-sound (length m) (called (length m) k ts request t) (called-sound (length m) k ts request t is sound))
+    (inside-sound (length m) (called most_threads (length m) k ts request t) (called-sound (length m) k ts request t is sound))
 kind-sound (Some Kind.Break) k ts request t m input whole brings is sound = fault-sound (length m) 3 request t is sound
 kind-sound (Some Kind.DeviceLoad) k ts request t m input whole brings is sound = loaded-sound (length m) request t (next_operation t m) input is sound
 kind-sound (Some Kind.DeviceStore) k ts request t m input whole brings is sound = device_stored-sound (length m) request t (next_operation t m) is sound
@@ -332,6 +333,6 @@ kind-sound (Some (Kind.Fault cause)) k ts request t m input whole brings is soun
 
 -- a serial step leaves sound threads, words and requests
 pub serve-sound : (k : ℕ) (ts : List Parts) (request : Option Request) (t : Parts) (m : List ℕ) (input : Option Input) → length m % 4 ≡ 0 → BringsIf (need t m) input → IsThread t → IsSoundIf (length m) request
-    → IsSoundStepResult (length m) (serve k ts request t m input)
+    → IsSoundStepResult (length m) (serve most_threads k ts request t m input)
 unfolding serve
 serve-sound k ts request t m input whole brings is sound = kind-sound (next_kind t m) k ts request t m input whole brings is sound

@@ -1,8 +1,8 @@
 -- What is noted of commits, and what comes for them from outside, fits a log.
-use Rattle.std.specs.Prelude.{◌≡◌, ℕ, ◌≤◌, true, false, slice_get, Option, Some, None}
+use Rattle.std.specs.Prelude.{◌≡◌, ℕ, ◌<◌, ◌≤◌, true, false, slice_get, Option, Some, None}
 use Rattle.dl_entry.specs.declared.Input.{Input}
 use Rattle.dl_entry.specs.declared.Request.{Request}
-use Rattle.dl_entry.specs.Numbers.{greatest_thread}
+use Rattle.dl_entry.specs.Numbers.{most_threads}
 use Rattle.spec_isa.specs.declared.thread.Parts.{Parts}
 use Rattle.spec_log.specs.Log.{IsInput, AreFewBytes}
 use Rattle.spec_kernel.specs.Devices.{Devices}
@@ -31,7 +31,7 @@ IsInputIf (Some r) = IsInput r
 -- of a sphere at a moment: its threads have the numbers of a log's actors, what the devices answer to a thread's next step is
 -- one of its inputs, and what they give a DMA are its bytes
 pub record FitsLog (now : ℕ) (d : Devices) (p : Sphere) : Type 0 where
-  pub threads : (k : ℕ) (t : Parts) → slice_get p.threads k ≡ Some t → k ≤ greatest_thread
+  pub threads : (k : ℕ) (t : Parts) → slice_get p.threads k ≡ Some t → k < most_threads
   pub inputs : (k : ℕ) (t : Parts)
       → slice_get p.threads k ≡ Some t
       → IsInputIf (taken (need t p.memory) d now).input

@@ -2,14 +2,14 @@
 use Rattle.std.specs.Prelude.{◌≡◌, ℕ, ◌+◌, ◌%◌, ◌^◌, ◌<◌, ◌≤◌, Bool, true, false, ◌&&◌, nat_le, nat_lt, if◌then◌else◌, List, [], ◌∷◌, length, take, slice_get, slice_index, slice_index_or, All, Option, Some, None}
 use Rattle.dl_entry.specs.declared.Actor.{Actor}
 use Rattle.dl_entry.specs.declared.Request.{Request}
-use Rattle.dl_entry.specs.Numbers.{most_bytes, most_threads}
+use Rattle.dl_entry.specs.Numbers.{most_bytes, least_chunk, most_chunk, most_threads}
 use Rattle.spec_isa.specs.declared.thread.Parts.{Parts}
 use Rattle.spec_isa.specs.Words.{Stored, IsBytes}
 use Rattle.spec_isa.specs.Threads.{IsThread}
 use Rattle.spec_log.specs.declared.ModeName.{ModeName}
 use Rattle.spec_log.specs.declared.Interrupt.{Interrupt}
 use Rattle.spec_log.specs.declared.LogParts.{LogParts}
-use Rattle.spec_log.specs.Log.{IsChunkSize, IsLog}
+use Rattle.spec_log.specs.Log.{IsLog}
 use Rattle.spec_log.specs.Size.{is_thread}
 use Rattle.spec_kernel.specs.Devices.{Devices}
 use Rattle.spec_kernel.specs.Interrupts.{is_live}
@@ -31,6 +31,10 @@ use Rattle.spec_protocol.specs.promises.Invariants.{IsGood}
 -- cores, slots and spheres are 1 to 8
 abbrev pub AreFew : ℕ → Type 0
 AreFew n = (1 ≤ n) × (n ≤ 8)
+
+-- a standard chunk has 16 to 4,096 instructions
+abbrev pub IsChunkSize : ℕ → Type 0
+IsChunkSize s = (least_chunk ≤ s) × (s ≤ most_chunk)
 
 -- what is replayed is a log
 abbrev pub IsRole : RoleSetup → Type 0
@@ -230,7 +234,7 @@ pub record IsSoundSphere (s : ℕ) (image : SphereSetup) (events : ℕ) (p : Sph
 pub record IsSoundChunk (capacity size : ℕ) (ch : Chunk) : Type 0 where
   pub words : AreSoundWords size ch.done.words
   pub room : length ch.done.words ≤ capacity
-  pub limit : ch.limit ≤ 4096
+  pub limit : ch.limit ≤ most_chunk
   pub squashes : ch.squashes < 4
   pub start : IsThread ch.start
   pub thread : IsThread ch.done.thread

@@ -3,7 +3,7 @@ ghost use Rattle.std.specs.Prelude.{◌<◌, length};
 ghost use Rattle.spec_isa.specs.Threads.{IsThread};
 
 use dl_dev::Devices;
-use dl_entry::{Bytes, Input, OutOfMemory, Request};
+use dl_entry::{Bytes, Input, MOST_THREADS, OutOfMemory, Request};
 use dl_kernel::{Injected, inject, outside_call, sphere_call};
 use dl_mem::Memory;
 use dl_thread::{Parts, Thread, ThreadStatus, Threads};
@@ -92,7 +92,7 @@ fn called(caller: &Parts, count: u8, outstanding: Option<Request>, size: u32) ->
 {
     let mut threads = threads(caller, count);
     let mut request = outstanding;
-    sphere_call(&mut threads, 0, &mut request, size);
+    sphere_call(&mut threads, 0, &mut request, size, MOST_THREADS);
     after(&threads)
 }
 
@@ -142,7 +142,7 @@ fn an_exit_keeps_its_code(rt: HostRuntime) {
 #[test]
 fn a_spawned_thread_has_its_argument(rt: HostRuntime) {
     let mut threads = threads(&caller(4, [1, 0x20, 0x100, 9]), 2);
-    sphere_call(&mut threads, 0, &mut None, 4096);
+    sphere_call(&mut threads, 0, &mut None, 4096, MOST_THREADS);
     assert!(rt; has_begun(threads.get(2), 0x20, 0x100, 9));
 }
 
@@ -172,7 +172,7 @@ fn a_handler_returns_where_it_came(rt: HostRuntime) {
 fn a_dma_of_more_than_4096_bytes_is_cut(rt: HostRuntime) {
     let mut threads = threads(&caller(4, [8, 0, 5000, 0]), 2);
     let mut request = None;
-    sphere_call(&mut threads, 0, &mut request, 8192);
+    sphere_call(&mut threads, 0, &mut request, 8192, MOST_THREADS);
     assert!(rt; request == Some(Request { buf: 0, len: 4096 }));
 }
 

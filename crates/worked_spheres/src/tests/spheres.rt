@@ -1,6 +1,6 @@
 //! Spheres in each of their roles.
 ghost use Rattle.std.specs.Prelude.{◌≡◌, IfOk, length};
-ghost use Rattle.spec_log.specs.Log.{IsChunkSize};
+ghost use Rattle.spec_protocol.specs.promises.Sound.{IsChunkSize};
 
 mod beginnings;
 mod moves;

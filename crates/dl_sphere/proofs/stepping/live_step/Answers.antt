@@ -1,5 +1,6 @@
 use Rattle.std.proofs.Common.{◌≡◌, ◌≤◌, ◌∙◌, false, length, None, sym, ap, subst}
 use Rattle.std.specs.Prelude.{IfSome}
+use Rattle.dl_entry.specs.Numbers.{most_threads}
 use Rattle.dl_entry.specs.declared.Commit.{Commit}
 use Rattle.spec_kernel.specs.Devices.{Devices}
 use Rattle.spec_kernel.specs.Needs.{need}
@@ -38,8 +39,8 @@ returns-clause-thread c =
     let n = need s.thread s.memory.now in
     let g = taken n d c.args.moment in
     let is = c.as_ref.ensures.value ∙ c.in_ok-input.ensures.left ∙ record_taken c.args.moment d n in
-    let served : result_in c.in_ok-served.served ≡ serve s.number s.threads.now s.request s.thread s.memory.now g.input =
-    c.in_ok-served.ensures.served ∙ ap (λ o. serve s.number s.threads.now s.request s.thread s.memory.now o) is
+    let served : result_in c.in_ok-served.served ≡ serve most_threads s.number s.threads.now s.request s.thread s.memory.now g.input =
+    c.in_ok-served.ensures.served ∙ ap (λ o. serve most_threads s.number s.threads.now s.request s.thread s.memory.now o) is
     in
     ap (λ (v : StepResult). v.thread) served
 
@@ -50,8 +51,8 @@ returns-clause-spawned c =
     let n = need s.thread s.memory.now in
     let g = taken n d c.args.moment in
     let is = c.as_ref.ensures.value ∙ c.in_ok-input.ensures.left ∙ record_taken c.args.moment d n in
-    let served : result_in c.in_ok-served.served ≡ serve s.number s.threads.now s.request s.thread s.memory.now g.input =
-    c.in_ok-served.ensures.served ∙ ap (λ o. serve s.number s.threads.now s.request s.thread s.memory.now o) is
+    let served : result_in c.in_ok-served.served ≡ serve most_threads s.number s.threads.now s.request s.thread s.memory.now g.input =
+    c.in_ok-served.ensures.served ∙ ap (λ o. serve most_threads s.number s.threads.now s.request s.thread s.memory.now o) is
     in
     ap (λ (v : StepResult). v.spawned) served
 
@@ -62,8 +63,8 @@ returns-clause-request c =
     let n = need s.thread s.memory.now in
     let g = taken n d c.args.moment in
     let is = c.as_ref.ensures.value ∙ c.in_ok-input.ensures.left ∙ record_taken c.args.moment d n in
-    let served : result_in c.in_ok-served.served ≡ serve s.number s.threads.now s.request s.thread s.memory.now g.input =
-    c.in_ok-served.ensures.served ∙ ap (λ o. serve s.number s.threads.now s.request s.thread s.memory.now o) is
+    let served : result_in c.in_ok-served.served ≡ serve most_threads s.number s.threads.now s.request s.thread s.memory.now g.input =
+    c.in_ok-served.ensures.served ∙ ap (λ o. serve most_threads s.number s.threads.now s.request s.thread s.memory.now o) is
     in
     ap (λ (v : StepResult). v.request) served
 
@@ -74,8 +75,8 @@ returns-clause-words c =
     let n = need s.thread s.memory.now in
     let g = taken n d c.args.moment in
     let is = c.as_ref.ensures.value ∙ c.in_ok-input.ensures.left ∙ record_taken c.args.moment d n in
-    let served : result_in c.in_ok-served.served ≡ serve s.number s.threads.now s.request s.thread s.memory.now g.input =
-    c.in_ok-served.ensures.served ∙ ap (λ o. serve s.number s.threads.now s.request s.thread s.memory.now o) is
+    let served : result_in c.in_ok-served.served ≡ serve most_threads s.number s.threads.now s.request s.thread s.memory.now g.input =
+    c.in_ok-served.ensures.served ∙ ap (λ o. serve most_threads s.number s.threads.now s.request s.thread s.memory.now o) is
     in
     ap (λ (v : StepResult). v.words) served
 
@@ -86,8 +87,8 @@ returns-clause-commit c =
     let n = need s.thread s.memory.now in
     let g = taken n d c.args.moment in
     let is = c.as_ref.ensures.value ∙ c.in_ok-input.ensures.left ∙ record_taken c.args.moment d n in
-    let served : result_in c.in_ok-served.served ≡ serve s.number s.threads.now s.request s.thread s.memory.now g.input =
-    c.in_ok-served.ensures.served ∙ ap (λ o. serve s.number s.threads.now s.request s.thread s.memory.now o) is
+    let served : result_in c.in_ok-served.served ≡ serve most_threads s.number s.threads.now s.request s.thread s.memory.now g.input =
+    c.in_ok-served.ensures.served ∙ ap (λ o. serve most_threads s.number s.threads.now s.request s.thread s.memory.now o) is
     in
     c.serial_commit-commit.ensures ∙ ap (λ (v : StepResult). serial_commit s.number v.loads v.outputs) served
 
@@ -98,8 +99,8 @@ returns-clause-noted c =
     let n = need s.thread s.memory.now in
     let g = taken n d c.args.moment in
     let is = c.as_ref.ensures.value ∙ c.in_ok-input.ensures.left ∙ record_taken c.args.moment d n in
-    let served : result_in c.in_ok-served.served ≡ serve s.number s.threads.now s.request s.thread s.memory.now g.input =
-    c.in_ok-served.ensures.served ∙ ap (λ o. serve s.number s.threads.now s.request s.thread s.memory.now o) is
+    let served : result_in c.in_ok-served.served ≡ serve most_threads s.number s.threads.now s.request s.thread s.memory.now g.input =
+    c.in_ok-served.ensures.served ∙ ap (λ o. serve most_threads s.number s.threads.now s.request s.thread s.memory.now o) is
     in
     let commit = c.serial_commit-commit.ensures ∙ ap (λ (v : StepResult). serial_commit s.number v.loads v.outputs) served in
     let input = c.as_ref-2.ensures.value ∙ c.in_ok-input.ensures.left ∙ record_taken c.args.moment d n in
@@ -112,10 +113,10 @@ returns-clause-devices c =
     let n = need s.thread s.memory.now in
     let g = taken n d c.args.moment in
     let is = c.as_ref.ensures.value ∙ c.in_ok-input.ensures.left ∙ record_taken c.args.moment d n in
-    let served : result_in c.in_ok-served.served ≡ serve s.number s.threads.now s.request s.thread s.memory.now g.input =
-    c.in_ok-served.ensures.served ∙ ap (λ o. serve s.number s.threads.now s.request s.thread s.memory.now o) is
+    let served : result_in c.in_ok-served.served ≡ serve most_threads s.number s.threads.now s.request s.thread s.memory.now g.input =
+    c.in_ok-served.ensures.served ∙ ap (λ o. serve most_threads s.number s.threads.now s.request s.thread s.memory.now o) is
     in
     c.in_ok-outside_take.ensures.devices c.args.moment
     ∙ ap (λ (x : Commit). console_written s.thread s.memory.now x.outputs (devices_left c.args.moment d n)) c.serial_commit-commit.ensures
     ∙ ap (λ (v : StepResult). console_written s.thread s.memory.now v.outputs (devices_left c.args.moment d n)) served
-    ∙ ap (λ (e : Devices). console_written s.thread s.memory.now (serve s.number s.threads.now s.request s.thread s.memory.now g.input).outputs e) (devices_taken c.args.moment d n)
+    ∙ ap (λ (e : Devices). console_written s.thread s.memory.now (serve most_threads s.number s.threads.now s.request s.thread s.memory.now g.input).outputs e) (devices_taken c.args.moment d n)

@@ -1,4 +1,4 @@
-use Rattle.std.proofs.Common.{◌<◌, ◌^◌, length, map, ap, inl, inr, ◌∙◌, arith}
+use Rattle.std.proofs.Common.{◌<◌, ◌^◌, length, map, ap, inl, inr, ◌∙◌}
 use Rattle.std.proofs.lemmas.List.{length-map}
 use Rattle.std.proofs.lemmas.Result.{on_ok_weaker}
 use Rattle.dl_input.specs.Tracked.{interrupt_of, insert_tracked, new_tracked}
@@ -21,7 +21,7 @@ invariant_of-self g c =
         | inl e ↦ let few : length (insert_tracked new entries) < 2 ^ 32 = rw e at c.note.ensures.few in
             rw (e, insert-map new entries)
             (IsRecording-interrupt g.M.Mode.mode (g.M.Mode.logged c.self.inside.log).kept (map interrupt_of entries) c.self.inside.inputs.inputs c.self.inside.dmas.dmas
-            (interrupt c.args.thread c.args.index c.args.value) i.0 (omega (arith, c.requires.thread), c.ranges.index.fits, c.ranges.value.fits)
+            (interrupt c.args.thread c.args.index c.args.value) i.0 (c.requires.thread, c.ranges.index.fits, c.ranges.value.fits)
             (rw (← insert-map new entries, length-map (insert_tracked new entries) interrupt_of) few))
         | inr e ↦ rw e i.0
       ],

@@ -1,6 +1,7 @@
 use Rattle.std.proofs.Common.{◌≡◌, ◌<◌, ◌^◌, ◌+◌, ◌≤◌, false, [], ◌∷◌, ◌++◌, List, length, Option, Some, None, refl, sym, ap, ◌∙◌, subst, set, arith, suc}
 use Rattle.std.specs.Prelude.{slice_get}
 use Rattle.std.proofs.lemmas.Option.{slice_get_within}
+use Rattle.dl_entry.specs.Numbers.{most_threads}
 use Rattle.dl_entry.specs.declared.Commit.{Commit}
 use Rattle.dl_entry.specs.declared.Request.{Request}
 use Rattle.spec_isa.specs.declared.thread.Parts.{Parts}
@@ -46,7 +47,7 @@ invariant_of-self-2 c =
     let k = c.args.thread in
     let t = c.thread_at.result in
     let g = taken (need t a.past.state.memory) c.args.devices.now c.args.moment in
-    let v = serve k a.past.state.threads a.past.state.request t a.past.state.memory g.input in
+    let v = serve most_threads k a.past.state.threads a.past.state.request t a.past.state.memory g.input in
     let keeps = serve-keeps k a.past.state.threads a.past.state.request t a.past.state.memory g.input in
     let u = c.counted-after.result in
     let left = c.in_ok-left.left in
@@ -88,7 +89,7 @@ returns-clause-ok c =
     in
     let same : x ≡ t = (let e : Some x ≡ Some t = sym start ∙ is in cc) in
     let g = taken (need x a.past.state.memory) d moment in
-    let v = serve k a.past.state.threads a.past.state.request x a.past.state.memory g.input in
+    let v = serve most_threads k a.past.state.threads a.past.state.request x a.past.state.memory g.input in
     let commit : Commit = serial_commit k v.loads v.outputs in
     let left = c.in_ok-left.left in
     let l = c.in_ok-left.ensures in
