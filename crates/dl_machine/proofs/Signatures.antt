@@ -1,3 +1,2 @@
--- A step keeps the size of a chunk's signature of reads, and words are marked one after another.
-pub mod SameSize
+-- Words are marked one after another.
 pub mod OneByOne

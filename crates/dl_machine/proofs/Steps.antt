@@ -8,18 +8,17 @@ use Rattle.dl_entry.specs.declared.Point.{Point}
 use Rattle.spec_isa.specs.declared.thread.Parts.{Parts}
 use Rattle.spec_isa.specs.Words.{lays}
 use Rattle.spec_play.specs.Effects.{counted}
-use Rattle.spec_play.specs.Progress.{position}
 use Rattle.spec_engine.specs.declared.answers.How.{How}
 use Rattle.spec_engine.specs.Chunks.{Chunk, fresh, is_open, step}
 use Rattle.spec_engine.specs.Flights.{Flights, at}
 use Rattle.spec_kernel.specs.Devices.{Devices}
 use Rattle.spec_protocol.specs.declared.reply.Reply.{Reply}
 use Rattle.spec_protocol.specs.machine.Placing.{replays}
-use Rattle.spec_protocol.specs.machine.Spheres.{Role, halves, is_stopped, limit_after, limit_after_in}
+use Rattle.spec_protocol.specs.machine.Spheres.{Role, is_stopped, limit_after, limit_after_in}
 use Rattle.spec_protocol.specs.machine.Stepping.{cut_held, cut_in, cutting, may_follow, reply_of_cut, reply_of_step, step_held, step_younger, stepping, younger_afresh, younger_for}
 use Rattle.spec_protocol.specs.machine.World.{After, Occupant, World, answered, sphere_at, with_core}
-use Rattle.dl_chunk.specs.Pairs.{Pair, PairCutting, PairStepping, begins_younger, can_step, following, can_be_followed, pair_cut, pair_cut_of, pair_step, runs_younger, younger_or}
-use Rattle.dl_machine.specs.Cores.{CanStep, CanStepHeld, Core, pair_in, seen, waits, waits_for, with_pair}
+use Rattle.dl_chunk.specs.Pairs.{Pair, PairCutting, PairStepping, can_step, following, can_be_followed, pair_cut, pair_cut_of, pair_step, runs_younger, younger_or}
+use Rattle.dl_machine.specs.Cores.{CanStepHeld, Core, pair_in, seen, waits, waits_for, with_pair}
 use Rattle.dl_machine.specs.declared.one_core.Held.{Held as Seen}
 use Rattle.dl_machine.specs.Ready.{HasRoom, IsReady}
 use Rattle.dl_machine.specs.Requests.{Runs}

@@ -235,8 +235,7 @@ impl<G: Sig> Core<G> {
         ensures { let threads = of.now.sphere.threads in
             Some result ≡ option_map (λ h. stays h.younger (slice_get threads h.thread)) self.now.held }
     {
-        let (Some(younger), Some(state)) =
-            (self.pair.younger(), of.threads().get(self.thread))
+        let (Some(younger), Some(state)) = (self.pair.younger(), of.threads().get(self.thread))
         else {
             return false;
         };

@@ -17,7 +17,6 @@ use Rattle.spec_play.specs.Effects.{counted}
 use Rattle.spec_play.specs.Turns.{Turn}
 use Rattle.spec_protocol.specs.machine.Spheres.{Replay, limit_in, limit_of, limit_after, whole_limit, pieces_of}
 use Rattle.dl_replay.specs.Replaying.{Replaying, commits_at, commits_of, cursor_of}
-use Rattle.dl_replay.specs.Replays.{IsReplaying}
 use Rattle.dl_replay.proofs.Counts.{commits-found}
 
 first-few : (s x z : ℕ) (xs : List ℕ) (i : ℕ) → x ≤ s → ((j : ℕ) → slice_get xs j ≡ Some z → z ≤ s) → slice_get (x ∷ xs) i ≡ Some z → z ≤ s
@@ -68,10 +67,6 @@ limit-few log k i is =
       limit-by log.s (thread_size log.order log.sizes k i) (omega (arith, is.s.0))
           (λ z e. sizes-few log.mode log.threads log.s log.count log.order log.sizes k i z is.sizes e),
     )
-
--- a thread has done fewer commits than can be counted
-pub commits-fit : (r : Replaying) (k commits : ℕ) → IsReplaying r → commits ≡ slice_index r.commits k → commits + 1 < 2 ^ 32
-commits-fit r k commits is e = omega (arith, e, is.commits k, is.within, is.is_log.count)
 
 -- the instructions of a commit's pieces are few enough to be counted
 pub pieces-fit : (r : Replaying) (k i n : ℕ) → IsLog r.log → r.now ≡ Turn k → 1 ≤ n → n < limit_in (Replay (cursor_of r [])) 0 k i → r.total + n < 2 ^ 32

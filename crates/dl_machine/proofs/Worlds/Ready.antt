@@ -44,8 +44,7 @@ pub younger_sizes : (w : World) (c k : ℕ) (o : Option Occupant) (y : Chunk) �
 younger_sizes w c k None y ready is e = absurd (none-some y e)
 younger_sizes w c k (Some h) y ready is e =
     let good = (ready.good.held c h is).younger y e in
-    let slot = slot_size w k (at w.slots k) ready refl in
-    (
+    let slot = slot_size w k (at w.slots k) ready refl in (
       subst (λ (n : ℕ). IsOfSize n (at w.slots k)) (sym good.reads_size) slot,
       subst (λ (n : ℕ). IsOfSize n (at w.slots k)) (sym good.writes_size) slot,
     )
