@@ -1,6 +1,7 @@
 mod Rising
 mod Lookups
 pub mod Counts
+pub mod Answered
 mod Turns
 mod Verdicts
 mod Lists

@@ -1,5 +1,5 @@
 -- Words over a memory stay inside it, and laying them one after another lays them all.
-use Rattle.std.proofs.Common.{Result, Ok, Err, OnOk, is_ok, is_err, ◌≡◌, ℕ, ◌+◌, ◌*◌, ◌/◌, ◌%◌, ◌<◌, ◌≤◌, Bool, true, false, nat_eq, List, [], ◌∷◌, length, drop, slice_get, Some, None, if◌then◌else◌, refl, sym, ◌∙◌, ap, subst, arith}
+use Rattle.std.proofs.Common.{Result, Ok, Err, OnOk, is_ok, is_err, ◌≡◌, ℕ, ◌+◌, ◌*◌, ◌/◌, ◌%◌, ◌<◌, ◌≤◌, true, false, List, [], ◌∷◌, length, drop, slice_get, Some, None, refl, sym, ◌∙◌, ap, subst, arith}
 use Rattle.spec_isa.specs.Words.{Stored, Apart, IsBytes, lay, lays, put, read}
 use Rattle.spec_isa.specs.Masks.{over, bytes_of}
 use Rattle.spec_isa.proofs.MemoryLaws.{length_lay, length_lays}

@@ -28,7 +28,7 @@ use Rattle.dl_serial.specs.Overlays.{Overlaid}
 use Rattle.dl_serial.specs.Playing.{IsPlaying, StandsAt, played_in, progress_in}
 use Rattle.dl_serial.specs.declared.sphere.Sphere.{Sphere}
 use Rattle.dl_serial.proofs.Goes.{CanStep, chunk-left, step-left}
-use Rattle.dl_serial.proofs.Judging.{HasGone, HasServed, Fell, HasTransferred}
+use Rattle.dl_replay.proofs.Answered.{HasGone, HasServed, Fell, HasTransferred}
 
 -- ---- turns
 
@@ -254,14 +254,14 @@ dma-stands r s v new n ws g kept h =
     }
 
 -- where a verdict fails and only the end is noted, the play stands where that settles it
-pub fell-stands : (r : Replaying) (s : Sphere) (k : ℕ) (v : LogVerdict) (new : Replaying) (n : Sphere) → Fell r s.threads s.request v new n.threads n.request → n.store.memory ≡ s.store.memory → n.commits.items ≡ s.commits.items → IsPlaying r s
+pub fell-stands : (r : Replaying) (s : Sphere) (k : ℕ) (v : LogVerdict) {why : Why} (new : Replaying) (n : Sphere) → Fell r s.threads s.request v new n.threads n.request why → n.store.memory ≡ s.store.memory → n.commits.items ≡ s.commits.items → IsPlaying r s
     → StandsAt r.log (settled r.log (played_in r s) k v) new n
-fell-stands r s k v new n f memory commits h =
-    let l : HasLeft r new s n f.why = record { replay = f.replay; memory = memory; threads = f.threads; request = f.request; commits = commits } in
+fell-stands r s k v {why} new n f memory commits h =
+    let l : HasLeft r new s n why = record { replay = f.replay; memory = memory; threads = f.threads; request = f.request; commits = commits } in
     record {
       same_log = ap (λ (x : Replaying). x.log) f.replay;
-      played = left-settled r s k v f.why new n f.verdict l h;
-      playing = left-playing r s f.why new n l h;
+      played = left-settled r s k v why new n f.verdict l h;
+      playing = left-playing r s why new n l h;
     }
 
 -- where a DMA's verdict fails and only the end is noted, the play stands where that settles it

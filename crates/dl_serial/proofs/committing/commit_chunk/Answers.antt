@@ -8,7 +8,7 @@ use Rattle.dl_serial.specs.Overlays.{Overlaid}
 use Rattle.dl_serial.specs.Playing.{StandsAt, progress_in}
 use Rattle.dl_serial.specs.declared.chunk.Chunk.{Chunk}
 use Rattle.dl_serial.specs.declared.sphere.Sphere.{Sphere}
-use Rattle.dl_serial.proofs.Judging.{chunk-gone, chunk-fell}
+use Rattle.dl_replay.proofs.Answered.{chunk-gone, chunk-fell}
 use Rattle.dl_serial.proofs.Settling.{chunk-stands, fell-stands, reserved-played, reserved-playing}
 use Rattle.dl_serial.proofs.committing.commit_chunk.Goals as goal
 

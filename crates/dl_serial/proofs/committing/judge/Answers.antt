@@ -7,7 +7,7 @@ use Rattle.dl_replay.specs.Replaying.{Agrees, commits_of}
 use Rattle.dl_replay.proofs.PutBack.{put_back, same_commits}
 use Rattle.dl_serial.specs.Playing.{progress_in}
 use Rattle.dl_serial.specs.declared.chunk.Chunk.{Chunk}
-use Rattle.dl_serial.proofs.Judging.{went-judged, left-judged}
+use Rattle.dl_replay.proofs.Answered.{went-judged, left-judged}
 use Rattle.dl_serial.proofs.committing.judge.Goals as goal
 
 pub end_chunk-requires-clause-commits : goal.end_chunk-requires-clause-commits

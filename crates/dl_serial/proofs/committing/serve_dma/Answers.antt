@@ -8,7 +8,7 @@ use Rattle.dl_serial.specs.Overlays.{Overlaid}
 use Rattle.dl_serial.specs.Playing.{progress_in}
 use Rattle.dl_serial.specs.declared.sphere.Sphere.{Sphere}
 use Rattle.dl_serial.proofs.Goes.{dma-inside, whole-words}
-use Rattle.dl_serial.proofs.Judging.{dma-gone, dma-fell}
+use Rattle.dl_replay.proofs.Answered.{dma-gone, dma-fell}
 use Rattle.dl_serial.proofs.Settling.{HasStored, dma-stands, dma-fell-stands}
 use Rattle.dl_serial.proofs.committing.serve_dma.Goals as goal
 

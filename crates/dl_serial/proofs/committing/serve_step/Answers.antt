@@ -9,7 +9,7 @@ use Rattle.dl_serial.specs.Overlays.{Overlaid}
 use Rattle.dl_serial.specs.Playing.{progress_in}
 use Rattle.dl_serial.specs.declared.sphere.Sphere.{Sphere}
 use Rattle.dl_serial.proofs.Goes.{CanStep, whole-words}
-use Rattle.dl_serial.proofs.Judging.{step-gone, step-fell}
+use Rattle.dl_replay.proofs.Answered.{step-gone, step-fell}
 use Rattle.dl_serial.proofs.Settling.{step-inside, step-stands, fell-stands}
 use Rattle.dl_serial.proofs.committing.serve_step.Goals as goal
 

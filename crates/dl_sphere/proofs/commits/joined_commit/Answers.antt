@@ -1,6 +1,5 @@
 use Rattle.std.proofs.Common.{◌≡◌, ◌++◌, map, sym, ap, ◌∙◌}
 use Rattle.std.proofs.lemmas.List.{map-append}
-use Rattle.spec_isa.specs.declared.thread.Load.{Load}
 use Rattle.spec_play.specs.Effects.{entry_of}
 use Rattle.spec_protocol.specs.machine.Commits.{joined}
 use Rattle.dl_sphere.proofs.commits.joined_commit.Goals as goal

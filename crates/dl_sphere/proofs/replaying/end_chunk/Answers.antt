@@ -2,21 +2,21 @@ use Rattle.std.proofs.Common.{◌≡◌, ◌∷◌, ◌++◌, ◌≤◌, [], Lis
 use Rattle.std.specs.Prelude.{slice_set}
 use Rattle.dl_entry.specs.declared.Commit.{Commit}
 use Rattle.spec_isa.specs.declared.thread.Load.{Load}
-use Rattle.spec_isa.specs.declared.thread.Parts.{Parts}
 use Rattle.spec_isa.specs.Runs.{Run}
 use Rattle.spec_play.specs.Progress.{position}
-use Rattle.spec_play.specs.Verdicts.{LogVerdict, Fails, chunk_verdict}
+use Rattle.spec_play.specs.Verdicts.{LogVerdict, chunk_verdict}
 use Rattle.spec_protocol.specs.machine.Commits.{by_verdict}
 use Rattle.spec_protocol.specs.machine.Spheres.{Replay}
 use Rattle.dl_replay.specs.Served.{nothing_served}
 use Rattle.dl_replay.specs.Judged.{HasRun}
 use Rattle.dl_replay.specs.Replaying.{commits_of, cursor_of}
+use Rattle.dl_replay.proofs.Answered.{chunk-gone, chunk-fell, went-judged, left-judged}
 use Rattle.dl_replay.proofs.PutBack.{put_back, same_commits}
 use Rattle.dl_sphere.specs.Inside.{cursor_in, replayed_at, sphere_with}
 use Rattle.dl_sphere.specs.Judging.{judged_as}
 use Rattle.dl_sphere.specs.Roles.{Replaying, IsSphere}
 use Rattle.dl_sphere.proofs.Replays.Judging.{chunk_commits, chunk_words}
-use Rattle.dl_sphere.proofs.Replays.Moved.{chunk_went, chunk_left, granted, left, stands_granted, stands_left}
+use Rattle.dl_sphere.proofs.Replays.Moved.{granted, left, stands_granted, stands_left}
 use Rattle.dl_sphere.proofs.replaying.end_chunk.Goals as goal
 
 pub end_chunk-requires-clause-commits : goal.end_chunk-requires-clause-commits
@@ -43,7 +43,7 @@ returns-in-Went-clause-moved c r d thread n whole =
     let v = chunk_verdict r0.log x.progress r0.used k r in
     let run : HasRun ts mid k c.args.commit.size r = record { after = c.set.ensures ∙ ap (λ s. slice_set ts k s) (sym thread); total = n } in
     let said = rw c.in-Went.is at (c.end_chunk.ensures.judged x.progress ts r q nothing_served c.requires.at.agrees refl run) in
-    let w = chunk_went x r0 new us q k v mid nothing_served nothing_served said in
+    let w = chunk-gone r0 x.progress ts q new us q k nothing_served nothing_served v (went-judged r0 x.progress ts q new us q k mid nothing_served nothing_served v said) in
     let commits : c.push_reserved.new.self.items ≡ past.commits.items ++ c.args.commit ∷ [] =
     c.push_reserved.ensures.items ∙ ap (λ (xs : List Commit). xs ++ c.args.commit ∷ []) c.in_ok-reserve.ensures.items
     in
@@ -67,7 +67,7 @@ returns-in-Went-clause-at c s h =
     let v = chunk_verdict r0.log x.progress r0.used k r in
     let run : HasRun ts mid k c.args.commit.size r = record { after = c.set.ensures; total = refl } in
     let said = rw c.in-Went.is at (c.end_chunk.ensures.judged x.progress ts r q nothing_served c.requires.at.agrees refl run) in
-    let w = chunk_went x r0 new us q k v mid nothing_served nothing_served said in
+    let w = chunk-gone r0 x.progress ts q new us q k nothing_served nothing_served v (went-judged r0 x.progress ts q new us q k mid nothing_served nothing_served v said) in
     let commits : c.push_reserved.new.self.items ≡ past.commits.items ++ c.args.commit ∷ [] =
     c.push_reserved.ensures.items ∙ ap (λ (xs : List Commit). xs ++ c.args.commit ∷ []) c.in_ok-reserve.ensures.items
     in
@@ -94,13 +94,14 @@ returns-in-Diverged-clause-moved c r d thread n whole =
     let v = chunk_verdict r0.log x.progress r0.used k r in
     let run : HasRun ts mid k c.args.commit.size r = record { after = c.set.ensures ∙ ap (λ s. slice_set ts k s) (sym thread); total = n } in
     let said = rw c.in-Diverged.is at (c.end_chunk.ensures.judged x.progress ts r q nothing_served c.requires.at.agrees refl run) in
-    let l = chunk_left x r0 new c.end_chunk.new.threads q k v mid nothing_served nothing_served why said refl in
     let back : c.set-in-Diverged.new.self ≡ ts =
     c.set-in-Diverged.ensures ∙ ap (λ xs. slice_set xs k found) (c.end_chunk.ensures.threads_left why c.in-Diverged.is ∙ c.set.ensures) ∙ put_back ts k c.args.state.now found c.thread_at-found.ensures.thread
     in
-    (λ i. judged_as (Some why) (position x.progress) r.words (sphere_with past.state.memory (back i) (c.in_ok-reserve.ensures.items i) past.state.last q (Replay (cursor_of new loads))) d)
-    ∙ left x r0 loads new ts q why v (Fails why) d c.requires.at.agrees.done l
-    ∙ ap (λ (o : LogVerdict). by_verdict (cursor_in replay) k o d x) (sym l.verdict)
+    let us = c.set-in-Diverged.new.self in
+    let f = chunk-fell r0 x.progress ts q new us q k nothing_served nothing_served v why (left-judged r0 x.progress ts q new c.end_chunk.new.threads q k mid us nothing_served nothing_served v why back said) in
+    (λ i. judged_as (Some why) (position x.progress) r.words (sphere_with past.state.memory us (c.in_ok-reserve.ensures.items i) past.state.last q (Replay (cursor_of new loads))) d)
+    ∙ left x r0 loads new us q why d c.requires.at.agrees.done f.replay f.threads f.request
+    ∙ ap (λ (o : LogVerdict). by_verdict (cursor_in replay) k o d x) (sym f.verdict)
 
 pub returns-in-Diverged-clause-at : goal.returns-in-Diverged-clause-at
 returns-in-Diverged-clause-at c s h =
@@ -120,12 +121,10 @@ returns-in-Diverged-clause-at c s h =
     let v = chunk_verdict r0.log x.progress r0.used k r in
     let run : HasRun ts mid k c.args.commit.size r = record { after = c.set.ensures; total = refl } in
     let said = rw c.in-Diverged.is at (c.end_chunk.ensures.judged x.progress ts r q nothing_served c.requires.at.agrees refl run) in
-    let l = chunk_left x r0 new c.end_chunk.new.threads q k v mid nothing_served nothing_served why said refl in
     let back : c.set-in-Diverged.new.self ≡ ts =
     c.set-in-Diverged.ensures ∙ ap (λ xs. slice_set xs k found) (c.end_chunk.ensures.threads_left why c.in-Diverged.is ∙ c.set.ensures) ∙ put_back ts k c.args.state.now found c.thread_at-found.ensures.thread
     in
-    let at : List Parts → List Commit → Type 0 =
-    λ us cs. IsSphere s (sphere_with past.state.memory us cs past.state.last q (Replay (cursor_of new loads))) (Replaying new loads)
-    in
-    subst (λ us. at us c.reserve.new.self.items) (sym back) (subst (at ts) (sym c.in_ok-reserve.ensures.items)
-    (stands_left x r0 loads new ts q why v (Fails why) s l h))
+    let us = c.set-in-Diverged.new.self in
+    let f = chunk-fell r0 x.progress ts q new us q k nothing_served nothing_served v why (left-judged r0 x.progress ts q new c.end_chunk.new.threads q k mid us nothing_served nothing_served v why back said) in
+    subst (λ cs. IsSphere s (sphere_with past.state.memory us cs past.state.last q (Replay (cursor_of new loads))) (Replaying new loads)) (sym c.in_ok-reserve.ensures.items)
+    (stands_left x r0 loads new us q why s f.replay f.threads h)

@@ -1,16 +1,17 @@
-use Rattle.std.proofs.Common.{◌≡◌, ◌∷◌, ◌++◌, [], List, Ok, Some, ap, length, refl, subst, sym, zero-add, ◌∙◌}
+use Rattle.std.proofs.Common.{◌≡◌, ◌∷◌, ◌++◌, [], List, Some, ap, length, refl, subst, sym, zero-add, ◌∙◌}
 use Rattle.dl_entry.specs.declared.Commit.{Commit}
 use Rattle.spec_isa.specs.declared.thread.Load.{Load}
 use Rattle.spec_play.specs.Effects.{dma_commit}
 use Rattle.spec_play.specs.Progress.{position}
-use Rattle.spec_play.specs.Transfers.{DmaVerdict, DmaFails, dma_verdict}
+use Rattle.spec_play.specs.Transfers.{DmaVerdict, dma_verdict}
 use Rattle.spec_protocol.specs.machine.Commits.{Diverged, Granted, MovedSphere, dma_by_verdict, dma_moved}
 use Rattle.spec_protocol.specs.machine.Spheres.{Replay}
-use Rattle.dl_replay.specs.Served.{nothing_served, served_stored}
+use Rattle.dl_replay.specs.Served.{nothing_served}
 use Rattle.dl_replay.specs.Replaying.{cursor_of}
 use Rattle.dl_sphere.specs.Inside.{cursor_in, replayed_at, sphere_with}
 use Rattle.dl_sphere.specs.Roles.{Replaying, IsSphere}
-use Rattle.dl_sphere.proofs.Replays.Moved.{dma_granted, dma_left, dma_stands, left, stands_left}
+use Rattle.dl_replay.proofs.Answered.{dma-gone, dma-fell}
+use Rattle.dl_sphere.proofs.Replays.Moved.{dma_granted, dma_stands, left, stands_left}
 use Rattle.dl_sphere.proofs.replaying.serve_dma.Goals as goal
 
 pub returns-in-Ok-clause-moved : goal.returns-in-Ok-clause-moved
@@ -35,7 +36,7 @@ returns-in-Ok-clause-moved c d =
       words = words.words;
       devices = d;
     })
-    ∙ dma_granted x r0 replay.loads.items new q v (served_stored (Ok words)) d said)
+    ∙ dma_granted x r0 replay.loads.items new q v words.words d (dma-gone r0 x.progress x.threads x.progress.request new x.threads q v words said))
 
 pub returns-in-Ok-clause-at : goal.returns-in-Ok-clause-at
 returns-in-Ok-clause-at c s h =
@@ -54,7 +55,7 @@ returns-in-Ok-clause-at c s h =
     λ cs loads. IsSphere s (sphere_with past.state.memory past.state.threads cs past.state.last q (Replay (cursor_of new loads))) (Replaying new loads)
     in
     subst (λ cs. at cs c.clear.new.self.items) (sym commits) (subst (at (past.commits.items ++ dma_commit ∷ [])) (sym c.clear.ensures.items)
-    (dma_stands x r0 replay.loads.items new q v (served_stored (Ok c.in-Ok.words)) s said h))
+    (dma_stands x r0 replay.loads.items new q v c.in-Ok.words.words s (dma-gone r0 x.progress x.threads x.progress.request new x.threads q v c.in-Ok.words said) h))
 
 pub returns-in-Err-clause-moved : goal.returns-in-Err-clause-moved
 unfolding dma_moved
@@ -70,7 +71,7 @@ returns-in-Err-clause-moved c d =
     let why = c.in-Err.why in
     let v = dma_verdict r0.log x.progress r0.used in
     let said = rw c.in-Err.is at (c.in_ok-words.ensures.judged x.progress c.requires.at.agrees refl) in
-    let l = dma_left x r0 new ts q v nothing_served why said in
+    let f = dma-fell r0 x.progress ts x.progress.request new ts q nothing_served nothing_served v why said in
     let done : c.count-done.result ≡ position x.progress = c.count-done.ensures ∙ ap length c.deref.ensures.value ∙ sym (zero-add (length past.commits.items)) in
     ap (λ (m : MovedSphere). Some m)
     ((λ i. record {
@@ -79,8 +80,8 @@ returns-in-Err-clause-moved c d =
       words = [];
       devices = d;
     })
-    ∙ left x r0 loads new ts q why v (DmaFails why) d c.requires.at.agrees.done l
-    ∙ ap (λ (o : DmaVerdict). dma_by_verdict (cursor_in replay) o d x) (sym l.verdict))
+    ∙ left x r0 loads new ts q why d c.requires.at.agrees.done f.1 refl f.2
+    ∙ ap (λ (o : DmaVerdict). dma_by_verdict (cursor_in replay) o d x) (sym f.0))
 
 pub returns-in-Err-clause-at : goal.returns-in-Err-clause-at
 returns-in-Err-clause-at c s h =
@@ -95,6 +96,6 @@ returns-in-Err-clause-at c s h =
     let why = c.in-Err.why in
     let v = dma_verdict r0.log x.progress r0.used in
     let said = rw c.in-Err.is at (c.in_ok-words.ensures.judged x.progress c.requires.at.agrees refl) in
-    let l = dma_left x r0 new ts q v nothing_served why said in
+    let f = dma-fell r0 x.progress ts x.progress.request new ts q nothing_served nothing_served v why said in
     subst (λ cs. IsSphere s (sphere_with past.state.memory ts cs past.state.last q (Replay (cursor_of new loads))) (Replaying new loads)) (sym c.in_ok-reserve.ensures.items)
-    (stands_left x r0 loads new ts q why v (DmaFails why) s l h)
+    (stands_left x r0 loads new ts q why s f.1 refl h)

@@ -1,17 +1,18 @@
-use Rattle.std.proofs.Common.{◌≡◌, ◌∷◌, ◌++◌, ◌≤◌, [], List, Ok, Some, ap, length, refl, subst, sym, zero-add, ◌∙◌}
+use Rattle.std.proofs.Common.{◌≡◌, ◌∷◌, ◌++◌, ◌≤◌, [], List, Some, ap, length, refl, subst, sym, zero-add, ◌∙◌}
 use Rattle.dl_entry.specs.declared.Commit.{Commit}
 use Rattle.spec_isa.specs.declared.thread.Load.{Load}
 use Rattle.spec_play.specs.Effects.{serial_commit}
 use Rattle.spec_play.specs.Progress.{position}
-use Rattle.spec_play.specs.Verdicts.{LogVerdict, Fails, serial_verdict}
+use Rattle.spec_play.specs.Verdicts.{LogVerdict, serial_verdict}
 use Rattle.spec_protocol.specs.machine.Commits.{Diverged, Granted, by_verdict, serial_moved}
 use Rattle.spec_protocol.specs.machine.Spheres.{Replay}
-use Rattle.dl_replay.specs.Served.{Served, nothing_served, served_left}
+use Rattle.dl_replay.specs.Served.{nothing_served}
 use Rattle.dl_replay.specs.Replaying.{cursor_of}
 use Rattle.dl_sphere.specs.Inside.{cursor_in, replayed_at, sphere_with}
 use Rattle.dl_sphere.specs.Roles.{Replaying, IsSphere}
 use Rattle.dl_sphere.proofs.Replays.Judging.{serial_commits}
-use Rattle.dl_sphere.proofs.Replays.Moved.{step_went, step_left, step_served, granted, left, stands_granted, stands_left}
+use Rattle.dl_replay.proofs.Answered.{step-gone, step-fell}
+use Rattle.dl_sphere.proofs.Replays.Moved.{granted, left, stands_granted, stands_left}
 use Rattle.dl_sphere.proofs.replaying.serve_step.Goals as goal
 
 pub returns-in-Ok-clause-moved : goal.returns-in-Ok-clause-moved
@@ -26,14 +27,12 @@ returns-in-Ok-clause-moved c moment t d is =
     let us = c.serve_step.new.threads in
     let q = c.serve_step.new.request in
     let left = c.in-Ok.left in
-    let s : Served = served_left (Ok left) in
     let v = serial_verdict r0.log x.progress r0.used k x.threads t x.memory in
     let said = rw c.in-Ok.is at (c.in_ok-left.ensures.judged x.progress t c.requires.at.agrees refl is) in
-    let w = step_went x r0 new us q k v s said in
-    let served = step_served x r0 new us q k v w.effect w.used s w.verdict said in
+    let g = step-gone r0 x.progress x.threads x.progress.request new us q k v left said in
+    let w = g.gone in
     let commit : w.effect.commit ≡ serial_commit k left.loads left.outputs =
-    serial_commits r0.log x.progress r0.used k x.threads t x.memory w.effect w.used w.verdict
-    ∙ (λ i. serial_commit k (sym served i).loads (sym served i).outputs)
+    serial_commits r0.log x.progress r0.used k x.threads t x.memory w.effect w.used w.verdict ∙ (λ i. serial_commit k (sym g.loads i) (sym g.outputs i))
     in
     let commits : c.push_reserved.new.self.items ≡ past.commits.items ++ serial_commit k left.loads left.outputs ∷ [] =
     c.push_reserved.ensures.items ∙ (λ i. c.in_ok-reserve.ensures.items i ++ c.serial_commit.ensures i ∷ [])
@@ -44,7 +43,7 @@ returns-in-Ok-clause-moved c moment t d is =
       words = left.words.words;
       devices = d;
     })
-    ∙ granted x r0 replay.loads.items new us q k v (serial_commit k left.loads left.outputs) left.words.words d w commit (ap (λ (y : Served). y.words) (sym served))
+    ∙ granted x r0 replay.loads.items new us q k v (serial_commit k left.loads left.outputs) left.words.words d w commit (sym g.words)
 
 pub returns-in-Ok-clause-at : goal.returns-in-Ok-clause-at
 returns-in-Ok-clause-at c s h =
@@ -59,7 +58,7 @@ returns-in-Ok-clause-at c s h =
     let t = c.thread_at.result in
     let v = serial_verdict r0.log x.progress r0.used k x.threads t x.memory in
     let said = rw c.in-Ok.is at (c.in_ok-left.ensures.judged x.progress t c.requires.at.agrees refl c.thread_at.ensures.thread) in
-    let w = step_went x r0 new us q k v (served_left (Ok c.in-Ok.left)) said in
+    let w = (step-gone r0 x.progress x.threads x.progress.request new us q k v c.in-Ok.left said).gone in
     let commits : c.push_reserved.new.self.items ≡ past.commits.items ++ c.serial_commit.result ∷ [] =
     c.push_reserved.ensures.items ∙ ap (λ (xs : List Commit). xs ++ c.serial_commit.result ∷ []) c.in_ok-reserve.ensures.items
     in
@@ -84,7 +83,7 @@ returns-in-Err-clause-moved c moment t d is =
     let why = c.in-Err.why in
     let v = serial_verdict r0.log x.progress r0.used k x.threads t x.memory in
     let said = rw c.in-Err.is at (c.in_ok-left.ensures.judged x.progress t c.requires.at.agrees refl is) in
-    let l = step_left x r0 new us q k v nothing_served why said in
+    let f = step-fell r0 x.progress x.threads x.progress.request new us q k nothing_served nothing_served v why said in
     let done : c.count-done.result ≡ position x.progress = c.count-done.ensures ∙ ap length c.deref.ensures.value ∙ sym (zero-add (length past.commits.items)) in
     (λ i. record {
       outcome = Diverged (done i) why;
@@ -92,8 +91,8 @@ returns-in-Err-clause-moved c moment t d is =
       words = [];
       devices = d;
     })
-    ∙ left x r0 loads new us q why v (Fails why) d c.requires.at.agrees.done l
-    ∙ ap (λ (o : LogVerdict). by_verdict (cursor_in replay) k o d x) (sym l.verdict)
+    ∙ left x r0 loads new us q why d c.requires.at.agrees.done f.replay f.threads f.request
+    ∙ ap (λ (o : LogVerdict). by_verdict (cursor_in replay) k o d x) (sym f.verdict)
 
 pub returns-in-Err-clause-at : goal.returns-in-Err-clause-at
 returns-in-Err-clause-at c s h =
@@ -110,6 +109,6 @@ returns-in-Err-clause-at c s h =
     let t = c.thread_at.result in
     let v = serial_verdict r0.log x.progress r0.used k x.threads t x.memory in
     let said = rw c.in-Err.is at (c.in_ok-left.ensures.judged x.progress t c.requires.at.agrees refl c.thread_at.ensures.thread) in
-    let l = step_left x r0 new us q k v nothing_served why said in
+    let f = step-fell r0 x.progress x.threads x.progress.request new us q k nothing_served nothing_served v why said in
     subst (λ cs. IsSphere s (sphere_with past.state.memory us cs past.state.last q (Replay (cursor_of new loads))) (Replaying new loads)) (sym c.in_ok-reserve.ensures.items)
-    (stands_left x r0 loads new us q why v (Fails why) s l h)
+    (stands_left x r0 loads new us q why s f.replay f.threads h)

@@ -1,4 +1,4 @@
--- By the replayer's answer a commit went as its verdict says, or the play ends before it.
+-- By the replayer's answer a commit went as its verdict says, or the replay leaves its log before it.
 use Rattle.std.proofs.Common.{◌≡◌, ℕ, Bool, true, false, List, [], Option, Some, None, Ok, refl, sym, ap, ◌∙◌}
 use Rattle.std.proofs.lemmas.Bool.{true≢false}
 use Rattle.dl_entry.specs.declared.Request.{Request}
@@ -45,8 +45,7 @@ pub record HasServed (r : Replaying) (p : Progress) (k : ℕ) (ts : List Parts) 
   pub outputs : left.outputs ≡ gone.effect.commit.outputs
 
 -- it didn't: only the end is noted, with the verdict's reason
-pub record Fell (r : Replaying) (ts : List Parts) (rq : Option Request) (v : LogVerdict) (new : Replaying) (us : List Parts) (q : Option Request) : Type 0 where
-  pub why : Why
+pub record Fell (r : Replaying) (ts : List Parts) (rq : Option Request) (v : LogVerdict) (new : Replaying) (us : List Parts) (q : Option Request) (why : Why) : Type 0 where
   pub verdict : v ≡ Fails why
   pub replay : new ≡ diverged why r
   pub threads : us ≡ ts
@@ -101,27 +100,27 @@ module _ (r : Replaying) (p : Progress) (ts : List Parts) (rq : Option Request) 
       }
 
   -- a chunk at which the replayer diverges has a verdict that fails, and only the end is noted
-  pub chunk-fell : (k : ℕ) (served s : Served) (v : LogVerdict) (because : Why) → answered (Verdict.Diverged because) s ≡ chunk_judged r p k ts ts rq served v → Fell r ts rq v new us q
-  unfolding went
+  pub chunk-fell : (k : ℕ) (served s : Served) (v : LogVerdict) (because : Why) → answered (Verdict.Diverged because) s ≡ chunk_judged r p k ts ts rq served v → Fell r ts rq v new us q because
+  unfolding went why_in
   chunk-fell k served s (Goes e u) because is = absurd (true≢false (sym (ap (λ (j : replay.Judged). went j.verdict) is)))
   chunk-fell k served s (Fails why) because is =
+      let same : why ≡ because = sym (ap (λ (j : replay.Judged). why_in because j.verdict) is) in
       record {
-        why = why;
-        verdict = refl;
-        replay = ap (λ (j : replay.Judged). j.replay) is;
+        verdict = ap (λ w. Fails w) same;
+        replay = ap (λ (j : replay.Judged). j.replay) is ∙ ap (λ w. diverged w r) same;
         threads = ap (λ (j : replay.Judged). j.threads) is;
         request = ap (λ (j : replay.Judged). j.request) is;
       }
 
   -- a serial step at which the replayer diverges has a verdict that fails, and only the end is noted
-  pub step-fell : (k : ℕ) (served s : Served) (v : LogVerdict) (because : Why) → answered (Verdict.Diverged because) s ≡ serial_judged r p k ts rq served v → Fell r ts rq v new us q
-  unfolding went
+  pub step-fell : (k : ℕ) (served s : Served) (v : LogVerdict) (because : Why) → answered (Verdict.Diverged because) s ≡ serial_judged r p k ts rq served v → Fell r ts rq v new us q because
+  unfolding went why_in
   step-fell k served s (Goes e u) because is = absurd (true≢false (sym (ap (λ (j : replay.Judged). went j.verdict) is)))
   step-fell k served s (Fails why) because is =
+      let same : why ≡ because = sym (ap (λ (j : replay.Judged). why_in because j.verdict) is) in
       record {
-        why = why;
-        verdict = refl;
-        replay = ap (λ (j : replay.Judged). j.replay) is;
+        verdict = ap (λ w. Fails w) same;
+        replay = ap (λ (j : replay.Judged). j.replay) is ∙ ap (λ w. diverged w r) same;
         threads = ap (λ (j : replay.Judged). j.threads) is;
         request = ap (λ (j : replay.Judged). j.request) is;
       }
