@@ -5,7 +5,8 @@ ghost use Rattle.dl_plan.specs.Files.{input_names};
 ghost use Rattle.dl_plan.specs.Values.{IsPlan, IsSchedule, AreMemories, plan_view, schedule_view, role_view, sphere_view};
 ghost use Rattle.spec_program.specs.Files.{plan_read, schedule_read, input_read, role_read, sphere_read, spheres_read};
 ghost use Rattle.dl_gather.specs.Halts.{Unread};
-ghost use Rattle.dl_gather.specs.Inputs.{AreOf, IsScheduleRead, HaveMemories, inputs_view, schedule_view as schedule_inputs, role_view as role_inputs, sphere_view as sphere_inputs};
+ghost use Rattle.dl_gather.specs.Inputs.{AreOf, IsScheduleRead, HaveMemories, inputs_view, schedule_view as schedule_inputs};
+ghost use Rattle.dl_gather.specs.Inputs.{role_view as role_inputs, sphere_view as sphere_inputs};
 ghost use Rattle.dl_gather.specs.Reads.{read_for_schedule, read_for_role, read_for_sphere};
 
 use crate::halt::Halt;

@@ -1,6 +1,8 @@
 //! The lines that say why a command stops.
 ghost use Rattle.std.specs.Prelude.{◌≡◌, IfOk};
-ghost use Rattle.spec_program.specs.Lines.{usage_line as usage_text, plan_line as plan_text, image_line as image_text, log_line as log_text, script_line as script_text, source_line as source_text, absent_line as absent_text, fault_line as fault_text, made_line as made_text, assembled_line as assembled_text};
+ghost use Rattle.spec_program.specs.Lines.{usage_line as usage_text, plan_line as plan_text, image_line as image_text, log_line as log_text};
+ghost use Rattle.spec_program.specs.Lines.{script_line as script_text, source_line as source_text, absent_line as absent_text};
+ghost use Rattle.spec_program.specs.Lines.{fault_line as fault_text, made_line as made_text, assembled_line as assembled_text};
 
 use std::alloc::{AllocError, Global};
 

@@ -19,11 +19,7 @@ use dl_words::Pair;
 use std::alloc::Global;
 
 /// The image in the one file, in a memory of that many bytes, and the log in the other. Both are read before one is looked at.
-pub fn read_pair<F: Files>(
-    alloc: Global,
-    files: &mut F,
-    pair: &Pair<'_>,
-) -> Result<PairRead, Halt>
+pub fn read_pair<F: Files>(alloc: Global, files: &mut F, pair: &Pair<'_>) -> Result<PairRead, Halt>
     ensures pair { IfOk result (λ read. (m : Contents) → (F.seen files.old).known ≡ Some m
         → pair_at m (named pair.now) ≡ Ok (pair_view read)) }
     ensures halt { IfErr result (Halts (λ m. pair_at m (named pair.now)) (λ m. pair_reads (named pair.now))

@@ -43,7 +43,12 @@ pub fn setups_of(
 }
 
 // The sphere of that number.
-fn setup_of(alloc: Global, number: usize, image: Image, input: SphereInputs) -> Result<SphereSetup, Halt>
+fn setup_of(
+    alloc: Global,
+    number: usize,
+    image: Image,
+    input: SphereInputs,
+) -> Result<SphereSetup, Halt>
     ensures sphere { IfOk result (λ sphere. sphere_of number (sphere_view input) image ≡ Ok (setup_view sphere)) }
     ensures halt { IfErr result (Refuses (sphere_of number (sphere_view input) image)) }
 {

@@ -68,7 +68,8 @@ pub fn outside_take(
     devices: &mut Devices,
 ) -> Result<(), OutOfMemory>
     requires { length outputs.now ≤ 1 }
-    ensures devices { (moment : ℕ) → OnOk result (devices.new ≡ console_written thread.now memory.now outputs.now (devices_left moment devices.old (need thread.now memory.now))) }
+    ensures devices { (moment : ℕ) → OnOk result (devices.new
+        ≡ console_written thread.now memory.now outputs.now (devices_left moment devices.old (need thread.now memory.now))) }
     ensures refused { OnErr result (devices.new ≡ devices.old) }
 {
     match next_kind(thread, memory) {

@@ -110,7 +110,8 @@ fn serve_call(
 ) -> Result<StepResult, OutOfMemory>
     requires { IfSome input (λ r. length r.now.bytes ≤ most_bytes) }
     ensures served { let s = step.now in
-        IfOk result (λ a. result_in a ≡ serve_kind most (Some Kind.Call) s.number s.threads.now s.request s.thread s.memory.now (option_map (λ r. r.now) input.entry)) }
+        IfOk result (λ a. result_in a
+        ≡ serve_kind most (Some Kind.Call) s.number s.threads.now s.request s.thread s.memory.now (option_map (λ r. r.now) input.entry)) }
     ensures room { IfOk result (λ a. OnSome a.spawned (length step.now.threads.now < most)) }
     ensures outputs { IfOk result (λ a. length a.outputs ≤ 1) }
 {

@@ -73,7 +73,8 @@ impl<G: Sig> State<G> {
             OnOk result (Some self.new ≡ option_map (λ h. left (ask_arbiter self.old core h how (asks_serial h.chunk role))) (at self.old.cores core)) }
         ensures err { OnErr result (self.new ≡ self.old) }
         ensures wanted { let role = (sphere_at self.old held.sphere).role in
-            OnErr result (Some true ≡ option_map (λ h. passes_checks (ask_arbiter self.old core h how (asks_serial h.chunk role)).reply) (at self.old.cores core)) }
+            OnErr result (Some true
+            ≡ option_map (λ h. passes_checks (ask_arbiter self.old core h how (asks_serial h.chunk role)).reply) (at self.old.cores core)) }
     {
         if self.asks_serial(core, held, how) {
             if let AskedSerial::SphereBusy(k) = ask_serial(held.sphere, &self.flights) {

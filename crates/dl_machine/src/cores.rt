@@ -58,7 +58,12 @@ impl<G: Sig> Cores<G> {
     ) -> Result<Cores<G>, AllocError>
         requires { IsWithin setup.now }
         ensures { let z = numbers_with setup.now spheres.now in
-            IfOk result (λ c. c ≡ record { capacity = setup.now.capacity; bits = setup.now.bits; depth = setup.now.depth; held = first_cores z 0 setup.now.cores spheres.now.spheres }) }
+            IfOk result (λ c. c ≡ record {
+              capacity = setup.now.capacity;
+              bits = setup.now.bits;
+              depth = setup.now.depth;
+              held = first_cores z 0 setup.now.cores spheres.now.spheres;
+            }) }
     {
         let mut row = Vec::with_capacity(alloc, setup.cores as usize)?;
         for core in 0..setup.cores {

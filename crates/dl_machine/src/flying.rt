@@ -1,7 +1,8 @@
 //! The events of flights: Drain, Deliver and Retire.
 ghost use Rattle.std.specs.Prelude.{◌≡◌, ◌<◌, false, true, length, IsSome};
 ghost use Rattle.spec_engine.specs.Flights.{at, is_full};
-ghost use Rattle.spec_protocol.specs.machine.Flying.{delivering, draining, hits_younger, reply_of_drain as drain_named, reply_of_retire as retire_named, retiring, told, younger_of};
+ghost use Rattle.spec_protocol.specs.machine.Flying.{delivering, draining, hits_younger, reply_of_drain as drain_named};
+ghost use Rattle.spec_protocol.specs.machine.Flying.{reply_of_retire as retire_named, retiring, told, younger_of};
 ghost use Rattle.spec_protocol.specs.machine.World.{flown};
 ghost use Rattle.dl_machine.specs.Ready.{IsReady};
 ghost use Rattle.dl_machine.specs.States.{left};

@@ -51,7 +51,8 @@ impl<G: Sig> Model for Core<G> {
 }
 
 impl<G: Sig> Core<G> {
-    ghost use Rattle.dl_machine.specs.Cores.{CanStepHeld, afresh, given_up, goes_on, holding, idle, numbers_of, pair_in, reads_in, seen, waits, with_pair, writes_in};
+    ghost use Rattle.dl_machine.specs.Cores.{CanStepHeld, afresh, given_up, goes_on, holding, idle, numbers_of, pair_in, reads_in, seen, waits};
+    ghost use Rattle.dl_machine.specs.Cores.{with_pair, writes_in};
 
     /// An idle core, which may have `depth` chunks that store `capacity` words each.
     pub(crate) fn new(

@@ -1,5 +1,6 @@
 //! The replayer of a sphere.
-ghost use Rattle.std.specs.Prelude.{◌≡◌, ℕ, List, Option, ◌+◌, ◌<◌, ◌≤◌, ◌^◌, [], ◌++◌, false, true, length, slice_get, slice_index, slice_set, Some, IfOk, IsOk, OnErr, OnSome};
+ghost use Rattle.std.specs.Prelude.{◌≡◌, ℕ, List, Option, ◌+◌, ◌<◌, ◌≤◌, ◌^◌, [], ◌++◌, false, true, length, slice_get, slice_index, slice_set, Some};
+ghost use Rattle.std.specs.Prelude.{IfOk, IsOk, OnErr, OnSome};
 ghost use Rattle.dl_entry.specs.Numbers.{most_threads};
 ghost use Rattle.spec_isa.specs.declared.thread.Parts.{Parts};
 ghost use Rattle.spec_isa.specs.declared.thread.Load.{Load};

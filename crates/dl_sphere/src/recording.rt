@@ -90,7 +90,8 @@ impl Recording {
         requires commit { CanCommit self.old.recorded.kept commit.now short }
         requires input { IfSome input (λ i. IsInput i.now) }
         requires dma { IfSome dma (λ bytes. AreFewBytes bytes.now) }
-        ensures ok { OnOk result (self.new.recorded ≡ with_commit commit.now short (option_map (λ i. i.now) input.entry) (option_map (λ b. b.now) dma.entry) self.old.recorded) }
+        ensures ok { OnOk result (self.new.recorded
+            ≡ with_commit commit.now short (option_map (λ i. i.now) input.entry) (option_map (λ b. b.now) dma.entry) self.old.recorded) }
         ensures err { OnErr result (self.new.recorded ≡ self.old.recorded) }
         ensures room { IsTrue self.old.room → IsOk result }
     {

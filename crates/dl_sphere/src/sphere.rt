@@ -61,7 +61,8 @@ impl Sphere {
         requires chunk { CanCommit self.old.s self.old.sphere thread how chunk.now.chunk }
         requires few { position self.old.sphere.progress < 2 ^ 24 }
         ensures ok { IfOk result (λ m. (d : Devices) →
-            came m self.new.sphere d ≡ chunk_moved thread (is_piece how) (is_short self.old.s how chunk.now.chunk.limit) chunk.now.chunk.done d self.old.sphere) }
+            came m self.new.sphere d
+            ≡ chunk_moved thread (is_piece how) (is_short self.old.s how chunk.now.chunk.limit) chunk.now.chunk.done d self.old.sphere) }
         ensures standard { self.new.s ≡ self.old.s }
         ensures err { OnErr result (self.new ≡ self.old) }
     {

@@ -3,7 +3,8 @@ ghost use Rattle.std.specs.Prelude.{◌≡◌, IfOk};
 ghost use Rattle.std.specs.Option.{option_and_then, option_map};
 ghost use Rattle.clap.specs.Walk.{texts};
 ghost use Rattle.clap.specs.Words.{found_of, rows_of, subcommand_rows_of};
-ghost use Rattle.dl_words.specs.Commands.{command_of, command_view, pair_view, named as named_by, pair_of, run_of, inspect_of, walk_of, make_of, drill_of, asm_of};
+ghost use Rattle.dl_words.specs.Commands.{command_of, command_view, pair_view, named as named_by, pair_of, run_of, inspect_of, walk_of, make_of};
+ghost use Rattle.dl_words.specs.Commands.{drill_of, asm_of};
 
 use crate::command::Command;
 use crate::matching::{find_matches, operand};

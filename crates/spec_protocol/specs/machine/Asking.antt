@@ -15,7 +15,8 @@ use Rattle.spec_engine.specs.Asking.{ask, ask_serial}
 use Rattle.spec_protocol.specs.declared.reply.Reply.{Reply}
 use Rattle.spec_protocol.specs.machine.Spheres.{turn_against, Role, Sphere, is_stopped, is_in_pieces}
 use Rattle.spec_protocol.specs.machine.Commits.{CommitOutcome, Granted, Piece, Diverged, MovedSphere, is_piece, chunk_moved, serial_moved}
-use Rattle.spec_protocol.specs.machine.World.{Numbers, World, Occupant, moment, sphere_at, with_sphere, with_core, thread_afresh, flown, What, OfChunk, OfSerial, Move, After, answered}
+use Rattle.spec_protocol.specs.machine.World.{Numbers, World, Occupant, moment, sphere_at, with_sphere, with_core, thread_afresh, flown, What}
+use Rattle.spec_protocol.specs.machine.World.{OfChunk, OfSerial, Move, After, answered}
 
 -- ---- a granted request
 
