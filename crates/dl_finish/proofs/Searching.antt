@@ -7,7 +7,7 @@ use Rattle.spec_engine.proofs.Searches.{first_is, first_is_none}
 use Rattle.spec_protocol.specs.declared.event.Event.{Event}
 use Rattle.spec_protocol.specs.machine.Spheres.{Role, Plain, Record, Replay, Sphere, no_sphere}
 use Rattle.spec_protocol.specs.machine.World.{World, Occupant, runs, core_of}
-use Rattle.spec_protocol.specs.machine.Finishing.{Who, untold, who_in, who_of, least, for_held, for_core}
+use Rattle.spec_protocol.specs.machine.Finishing.{SphereTurn, untold, who_in, who_of, least, for_held, for_core}
 use Rattle.dl_finish.specs.Turns.{turn_in, if_runs, on_core}
 
 -- ---- cores that were not told
@@ -30,7 +30,7 @@ untold_here c n t l told =
 
 -- ---- replays that go on
 
-who_turn : (i : ℕ) (role : Role) (others : Option Who) → who_of i role others ≡ who_in i (turn_in role) others
+who_turn : (i : ℕ) (role : Role) (others : Option SphereTurn) → who_of i role others ≡ who_in i (turn_in role) others
 who_turn i Plain others = refl
 who_turn i (Record recording) others = refl
 who_turn i (Replay b) others = refl

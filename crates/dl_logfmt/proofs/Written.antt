@@ -92,13 +92,13 @@ Gave-more {count} {k} {old} {next} {room} {into} {here} rest g f =
 Gave-both : {f k : ℕ} {a t room into here : List ℕ} → Filled f a room into → Filled k t (part f into) here
     → Gave (f + k) (a ++ t) (drop f a ++ drop k t) room (with_part f into here)
 Gave-both {f} {k} {a} {t} {room} {into} {here} first second =
-    let Given : List ℕ → Type 0 = λ (left : List ℕ). Gave f (a ++ t) left room into in
+    let TakenRecord : List ℕ → Type 0 = λ (left : List ℕ). Gave f (a ++ t) left room into in
     let there : f ≤ length a = omega (arith, first.most) in
     elim (eq-or-lt_of_le there) [
       | inl whole ↦
           let none : drop f a ≡ [] = drop_all f a (omega arith) in
           let left : drop f a ++ t ≡ t ++ [] = rw (none, append-nil t) refl in
-          rw (none, ← append-nil (drop k t)) (Gave-more [] (subst Given left (Gave-first t first)) second)
+          rw (none, ← append-nil (drop k t)) (Gave-more [] (subst TakenRecord left (Gave-first t first)) second)
       | inr less ↦
           let no_room : length (part f into) ≡ 0 = omega (arith, first.most, length-part f into, Filled-length first) in
           let stop : k ≡ 0 = omega (arith, second.most) in

@@ -16,7 +16,7 @@ use Rattle.spec_protocol.specs.declared.reply.Reply.{Reply}
 use Rattle.spec_protocol.specs.machine.Placing.{replays}
 use Rattle.spec_protocol.specs.machine.Spheres.{Role, is_stopped, limit_after, limit_after_in}
 use Rattle.spec_protocol.specs.machine.Stepping.{cut_held, cut_in, cutting, may_follow, reply_of_cut, reply_of_step, step_held, step_younger, stepping, younger_afresh, younger_for}
-use Rattle.spec_protocol.specs.machine.World.{After, Occupant, World, answered, sphere_at, with_core}
+use Rattle.spec_protocol.specs.machine.World.{EventOutcome, Occupant, World, answered, sphere_at, with_core}
 use Rattle.dl_chunk.specs.Pairs.{Pair, PairCutting, PairStepping, can_step, following, can_be_followed, pair_cut, pair_cut_of, pair_step, runs_younger, younger_or}
 use Rattle.dl_machine.specs.Cores.{CanStepHeld, Core, pair_in, seen, waits, waits_for, with_pair}
 use Rattle.dl_machine.specs.declared.one_core.Held.{Held as Seen}
@@ -82,7 +82,7 @@ follows_as w c h limit ready is le =
     λ i. fresh (sym g.chunk.reads_size i) h.chunk.sphere t (l i) (sym g.thread.halving i)
 
 -- what is left where a core answers so and its pair becomes that
-abbrev pub done_to : World → (core : ℕ) → (Occupant → Reply) → (Occupant → Pair) → Occupant → After
+abbrev pub done_to : World → (core : ℕ) → (Occupant → Reply) → (Occupant → Pair) → Occupant → EventOutcome
 done_to w c r f h = answered (with_core w c (Some (with_pair h (f h)))) (r h)
 
 -- the step of what a core holds, over this memory
@@ -90,7 +90,7 @@ abbrev pub stepped_pair : World → (core limit : ℕ) → List ℕ → Occupant
 stepped_pair w c limit m h = pair_step m w.slots c limit (pair_in (core_here w c) h)
 
 -- what it leaves
-abbrev pub pair_stepped : World → (core limit : ℕ) → List ℕ → Occupant → After
+abbrev pub pair_stepped : World → (core limit : ℕ) → List ℕ → Occupant → EventOutcome
 pair_stepped w c limit m = done_to w c (λ h. reply_of_step (stepped_pair w c limit m h).reply) (λ h. (stepped_pair w c limit m h).pair)
 
 younger_runs : (w : World) (c : ℕ) (h : Occupant) (limit : ℕ) (y : Option Chunk) → let p = sphere_at w h.chunk.sphere in waits_for w.numbers.depth (replays p.role) h y ≡ false → younger_afresh w.numbers p.role h ≡ following limit h.chunk
@@ -181,7 +181,7 @@ step_of_pair w c (Some h) held limit m ready is eh going runs has em =
     let same : held ≡ seen h = sym (same_Some _ _ eh) in
     let goes : is_stopped (sphere_at w h.chunk.sphere).role ≡ false = subst (λ (s : Seen). is_stopped (sphere_at w s.sphere).role ≡ false) same going in
     let limit_of : HasLimit w (seen h) limit = subst (λ (s : Seen). HasLimit w s limit) same has in
-    ap (λ (a : After). Some a)
+    ap (λ (a : EventOutcome). Some a)
     (ap (step_held w c) is
     ∙ step_by w c h limit goes (runs_of w c h held is same runs) (λ shut. follows_as w c h limit ready is (limit_of (ap not shut)))
     ∙ ap (λ (n : List ℕ). pair_stepped w c limit n h) (sym (em ∙ ap (λ (s : Seen). (sphere_at w s.sphere).memory) same)))
@@ -193,7 +193,7 @@ abbrev pub cut_pair : World → (core : ℕ) → Occupant → PairCutting
 cut_pair w c h = pair_cut (pair_in (core_here w c) h)
 
 -- what it leaves
-abbrev pub pair_cut_off : World → (core : ℕ) → Occupant → After
+abbrev pub pair_cut_off : World → (core : ℕ) → Occupant → EventOutcome
 pair_cut_off w c = done_to w c (λ h. reply_of_cut (cut_pair w c h).reply) (λ h. (cut_pair w c h).pair)
 
 cut_by : (w : World) (c : ℕ) (h : Occupant) (y : Option Chunk) → cut_in w c h y ≡ (let d = pair_cut_of (pair_in (core_here w c) h) y in answered (with_core w c (Some (with_pair h d.pair))) (reply_of_cut d.reply))
@@ -206,7 +206,7 @@ unfolding cutting
 cut_of_pair w c None held is eh going = absurd (none-some held eh)
 cut_of_pair w c (Some h) held is eh going =
     let goes : is_stopped (sphere_at w h.chunk.sphere).role ≡ false = subst (λ (s : Seen). is_stopped (sphere_at w s.sphere).role ≡ false) (sym (same_Some _ _ eh)) going in
-    ap (λ (a : After). Some a) (ap (cut_held w c) is ∙ rw goes (cut_by w c h h.younger))
+    ap (λ (a : EventOutcome). Some a) (ap (cut_held w c) is ∙ rw goes (cut_by w c h h.younger))
 
 -- ---- what the code has then
 
@@ -215,14 +215,14 @@ pub named : {A B : Type 0} (g : A → B) (r : Occupant → A) (o : Option Occupa
 named g r None x e = absurd (none-some x (sym e))
 named {B = B} g r (Some h) x e = ap (λ y. Some (g y)) (same_Some _ _ e)
 
-pub reply_done : (w : World) (c : ℕ) (r : Occupant → Reply) (f : Occupant → Pair) (o : Option Occupant) (reply : Reply) (a : After) → Some reply ≡ option_map r o → Some a ≡ option_map (done_to w c r f) o → reply ≡ a.reply
+pub reply_done : (w : World) (c : ℕ) (r : Occupant → Reply) (f : Occupant → Pair) (o : Option Occupant) (reply : Reply) (a : EventOutcome) → Some reply ≡ option_map r o → Some a ≡ option_map (done_to w c r f) o → reply ≡ a.reply
 reply_done w c r f None reply a er ea = absurd (none-some reply (sym er))
-reply_done w c r f (Some h) reply a er ea = same_Some _ _ er ∙ sym (ap (λ (b : After). b.reply) (same_Some _ _ ea))
+reply_done w c r f (Some h) reply a er ea = same_Some _ _ er ∙ sym (ap (λ (b : EventOutcome). b.reply) (same_Some _ _ ea))
 
 -- A machine has these parts.
 module _ (cores : Cores) (spheres : Spheres) (flights : Flights) (devices : Devices) (counts : Counts) (points : List Point) where
   -- where the core's pair has become that, the parts are the world after it
-  pub world_done : (c : ℕ) (r : Occupant → Reply) (f : Occupant → Pair) (o : Option Occupant) (next : Cores) (a : After) → next ≡ with_held c (option_map (λ h. with_pair h (f h)) o) cores
+  pub world_done : (c : ℕ) (r : Occupant → Reply) (f : Occupant → Pair) (o : Option Occupant) (next : Cores) (a : EventOutcome) → next ≡ with_held c (option_map (λ h. with_pair h (f h)) o) cores
       → Some a ≡ option_map (done_to (world_in cores spheres flights devices counts points) c r f) o → world_in next spheres flights devices counts points ≡ left a
   world_done c r f None next a en ea = absurd (none-some a (sym ea))
   world_done c r f (Some h) next a en ea =

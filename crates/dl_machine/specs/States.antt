@@ -4,7 +4,7 @@ use Rattle.dl_entry.specs.declared.Counts.{Counts}
 use Rattle.dl_entry.specs.declared.Point.{Point}
 use Rattle.spec_engine.specs.Flights.{Flights}
 use Rattle.spec_kernel.specs.Devices.{Devices}
-use Rattle.spec_protocol.specs.machine.World.{World, After}
+use Rattle.spec_protocol.specs.machine.World.{World, EventOutcome}
 use Rattle.spec_protocol.specs.machine.Machine.{with_point}
 use Rattle.dl_machine.specs.Rows.{Cores, Spheres}
 
@@ -27,5 +27,5 @@ pub record IsState (cores : Cores) (flights : Flights) : Type 0 where
   pub few : length cores.held ≤ 8
 
 -- the world that an event leaves, before it is counted
-abbrev pub left : After → World
+abbrev pub left : EventOutcome → World
 left a = record a.world { points = with_point a.point a.world.points }

@@ -19,7 +19,7 @@ use Rattle.spec_play.proofs.Positions.{position-more}
 use Rattle.spec_play.specs.Effects.{Effect, dma_commit, chunk_effect, serial_effect}
 use Rattle.spec_play.specs.Progress.{Progress, position, no_progress, with_effect, with_dma, Used, nothing_used, with_dma_used}
 use Rattle.spec_play.specs.Transfers.{DmaVerdict, DmaGoes}
-use Rattle.spec_play.specs.Turns.{Now, now_at, turn_of, at_end, is_size_used, are_sizes_used, has_left_over}
+use Rattle.spec_play.specs.Turns.{TurnOrEnd, now_at, turn_of, at_end, is_size_used, are_sizes_used, has_left_over}
 use Rattle.spec_play.specs.Verdicts.{LogVerdict, Goes}
 use Rattle.spec_protocol.proofs.Moves.Threads.{AreNew}
 use Rattle.dl_kernel.specs.Calls.{spawned_list}
@@ -49,12 +49,12 @@ one-more p c done d = omega (arith, position-more p c, d)
 pub committed-is : (r : Replaying) (p : Progress) (k : ℕ) (e : Effect) (u : Used) (ts : List Parts) → Agrees r p
     → advanced r.log (r.done + 1) (Some k) u ts ≡ committed r p k e u ts
 committed-is r p k e u ts a =
-    ap (λ (n : Now). record { log = r.log; used = u; now = n; total = 0; done = r.done + 1; last = Some k; commits = commits_of ts })
+    ap (λ (n : TurnOrEnd). record { log = r.log; used = u; now = n; total = 0; done = r.done + 1; last = Some k; commits = commits_of ts })
     (now-is r.log (with_effect k e p) u ts (r.done + 1) (Some k) (one-more p e.commit r.done a.done) refl)
 
 pub transferred-is : (r : Replaying) (p : Progress) (ts : List Parts) → Agrees r p → advanced r.log (r.done + 1) r.last (with_dma_used r.used) ts ≡ transferred r p ts
 transferred-is r p ts a =
-    ap (λ (n : Now). record { log = r.log; used = with_dma_used r.used; now = n; total = 0; done = r.done + 1; last = r.last; commits = commits_of ts })
+    ap (λ (n : TurnOrEnd). record { log = r.log; used = with_dma_used r.used; now = n; total = 0; done = r.done + 1; last = r.last; commits = commits_of ts })
     (now-is r.log (with_dma p) (with_dma_used r.used) ts (r.done + 1) r.last (one-more p dma_commit r.done a.done) a.last)
 
 one-used : (u : Used) → record u { dmas = u.dmas + 1 } ≡ with_dma_used u
@@ -206,5 +206,5 @@ now-any entry log false o = ap (at_end 0) (left-any entry log nothing_used)
 -- a replay begins the same, whatever the entry
 pub replay_start-is : (log : LogParts) (entry : ℕ) → advanced log 0 None nothing_used (started 0 ∷ []) ≡ replay_start log entry
 replay_start-is log entry =
-    ap (λ (n : Now). record { log = log; used = nothing_used; now = n; total = 0; done = 0; last = None; commits = 0 ∷ 0 ∷ 0 ∷ 0 ∷ 0 ∷ 0 ∷ 0 ∷ 0 ∷ 0 ∷ 0 ∷ 0 ∷ 0 ∷ 0 ∷ 0 ∷ 0 ∷ [] })
+    ap (λ (n : TurnOrEnd). record { log = log; used = nothing_used; now = n; total = 0; done = 0; last = None; commits = 0 ∷ 0 ∷ 0 ∷ 0 ∷ 0 ∷ 0 ∷ 0 ∷ 0 ∷ 0 ∷ 0 ∷ 0 ∷ 0 ∷ 0 ∷ 0 ∷ 0 ∷ [] })
     (now-any entry log (nat_lt 0 log.count) (head log 0 None (true ∷ [])) ∙ now-is log no_progress nothing_used (started entry ∷ []) 0 None refl refl)

@@ -14,7 +14,7 @@ use Rattle.spec_kernel.specs.Copies.{dma_words}
 use Rattle.spec_kernel.specs.Serving.{StepResult, serve}
 use Rattle.spec_play.specs.Effects.{chunk_effect, serial_effect}
 use Rattle.spec_play.specs.Progress.{Progress, position, Used}
-use Rattle.spec_play.specs.Verdicts.{LogVerdict, Fails, Given, unless, ended, chunk_why, chunk_verdict, serial_why, given, served_verdict, serial_verdict}
+use Rattle.spec_play.specs.Verdicts.{LogVerdict, Fails, TakenRecord, unless, ended, chunk_why, chunk_verdict, serial_why, given, served_verdict, serial_verdict}
 use Rattle.spec_play.specs.Transfers.{DmaGoes, DmaFails, dma_unless, is_for, transferred, dma_verdict}
 
 -- The next commit of the play with this log, which is as far as this progress and has used so much, is one of thread k.
@@ -30,7 +30,7 @@ module _ (log : LogParts) (p : Progress) (u : Used) (k : ℕ) where
   -- It is a serial step of that thread, which is t among these threads, over the memory m.
   module _ (threads : List Parts) (t : Parts) (m : List ℕ) where
     -- a serial step is judged by its logged size, and then by what it is given
-    pub serial-is : (why : Option Why) (g : Option Given)
+    pub serial-is : (why : Option Why) (g : Option TakenRecord)
         → why ≡ serial_why (size_in log (Actor.Thread k) t.commits) → g ≡ given (need t m) (slice_get log.inputs u.inputs) u
         → serial_verdict log p u k threads t m ≡ unless why (served_verdict log p k threads t m g)
     unfolding serial_verdict
@@ -42,7 +42,7 @@ module _ (log : LogParts) (p : Progress) (u : Used) (k : ℕ) where
     refused-is why e = rw (← e) refl
 
     -- a serial step that is done with the input that the log gives has the verdict of the definitions
-    pub step-is : (request : Option Request) (g : Given) (left : StepResult) (out : LogVerdict)
+    pub step-is : (request : Option Request) (g : TakenRecord) (left : StepResult) (out : LogVerdict)
         → p.request ≡ request → None ≡ serial_why (size_in log (Actor.Thread k) t.commits) → Some g ≡ given (need t m) (slice_get log.inputs u.inputs) u
         → left ≡ serve most_threads k threads request t m g.input → out ≡ ended log k (serial_effect k left) g.used → out ≡ serial_verdict log p u k threads t m
     step-is request g left out q e f l o =

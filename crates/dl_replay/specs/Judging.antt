@@ -3,7 +3,7 @@ use Rattle.std.specs.Prelude.{ℕ, Result, Ok, Err, option_copied}
 use Rattle.dl_entry.specs.declared.Why.{Why}
 use Rattle.dl_wbuf.specs.Buffers.{Words}
 use Rattle.spec_play.specs.Effects.{Effect, serial_effect}
-use Rattle.spec_play.specs.Verdicts.{LogVerdict, Goes, Fails, Given}
+use Rattle.spec_play.specs.Verdicts.{LogVerdict, Goes, Fails, TakenRecord}
 use Rattle.spec_play.specs.Transfers.{DmaVerdict, DmaGoes, DmaFails}
 use Rattle.dl_kernel.specs.StepResults.{result_in}
 use Rattle.dl_replay.specs.declared.judging.Finish.{Finish}
@@ -19,7 +19,7 @@ verdict_of (Ok f) e = Goes (record e { thread = f.thread }) (used_seen f.used)
 verdict_of (Err why) e = Fails why
 
 -- the record that a serial step takes
-abbrev pub given_by : Taken → Given
+abbrev pub given_by : Taken → TakenRecord
 given_by g = record { input = option_copied g.input; used = used_seen g.used }
 
 -- a serial step of thread k

@@ -7,13 +7,13 @@ use Rattle.spec_isa.specs.Numbers.{row_places}
 use Rattle.spec_isa.specs.Threads.{started}
 use Rattle.spec_log.specs.declared.LogParts.{LogParts}
 use Rattle.spec_play.specs.Progress.{Progress, no_progress, position, Used, nothing_used}
-use Rattle.spec_play.specs.Turns.{Now, Turn, TurnOfDma, Ended, now_at}
+use Rattle.spec_play.specs.Turns.{TurnOrEnd, Turn, TurnOfDma, Ended, now_at}
 use Rattle.spec_protocol.specs.machine.Spheres.{Cursor}
 
 pub record Replaying : Type 0 where
   pub log : LogParts
   pub used : Used
-  pub now : Now
+  pub now : TurnOrEnd
   -- the instructions of the pieces of the present commit
   pub total : ℕ
   -- the whole commits that are done, the thread that committed last, and how many each thread has done
@@ -53,7 +53,7 @@ replay_start log entry =
     }
 
 -- how it ended, if it did
-abbrev pub end_of : Now → Option End
+abbrev pub end_of : TurnOrEnd → Option End
 end_of (Turn thread) = None
 end_of TurnOfDma = None
 end_of (Ended how) = Some how

@@ -8,12 +8,12 @@ use Rattle.spec_kernel.specs.Interrupts.{is_live}
 use Rattle.spec_play.specs.Progress as play
 use Rattle.spec_play.specs.Turns as turns
 use Rattle.spec_protocol.specs.machine.Spheres.{is_over}
-use Rattle.dl_replay.specs.declared.now.Now.{Now}
+use Rattle.dl_replay.specs.declared.turn_or_end.TurnOrEnd.{TurnOrEnd}
 use Rattle.dl_replay.specs.declared.place.LogPlace.{LogPlace}
 use Rattle.dl_replay.specs.Seen.{now_seen, used_seen}
 use Rattle.dl_replay.specs.Replaying.{Replaying, commits_of}
 
-abbrev pub replaying : LogParts → LogPlace → Now → (total : ℕ) → (commits : List ℕ) → Replaying
+abbrev pub replaying : LogParts → LogPlace → TurnOrEnd → (total : ℕ) → (commits : List ℕ) → Replaying
 replaying log place now total commits =
     record {
       log = log;

@@ -2,14 +2,14 @@
 use Rattle.std.specs.Prelude.{None}
 use Rattle.spec_play.specs.Progress as play
 use Rattle.spec_play.specs.Turns as turns
-use Rattle.dl_replay.specs.declared.now.Now.{Now}
+use Rattle.dl_replay.specs.declared.turn_or_end.TurnOrEnd.{TurnOrEnd}
 use Rattle.dl_replay.specs.declared.place.Used.{Used}
 use Rattle.dl_replay.specs.declared.place.LogPlace.{LogPlace}
 
-abbrev pub now_seen : Now → turns.Now
-now_seen (Now.Turn thread) = turns.Turn thread
-now_seen Now.TurnOfDma = turns.TurnOfDma
-now_seen (Now.Ended how) = turns.Ended how
+abbrev pub now_seen : TurnOrEnd → turns.Now
+now_seen (TurnOrEnd.Turn thread) = turns.Turn thread
+now_seen TurnOrEnd.TurnOfDma = turns.TurnOfDma
+now_seen (TurnOrEnd.Ended how) = turns.Ended how
 
 abbrev pub used_seen : Used → play.Used
 used_seen u = record { inputs = u.inputs; interrupts = u.interrupts; dmas = u.dmas }

@@ -5,7 +5,7 @@ mod copying;
 mod counting;
 mod judging;
 mod lookup;
-mod now;
+mod turn_or_end;
 mod place;
 mod replayer;
 mod turning;

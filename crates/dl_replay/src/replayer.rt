@@ -25,7 +25,7 @@ ghost use Rattle.dl_replay.specs.Served.{Served, nothing_served, served_left, se
 use crate::counting::commits_of;
 use crate::judging::{Finish, judge_chunk, judge_dma, judge_step, transfer_of};
 use crate::lookup::Lookup;
-use crate::now::Now;
+use crate::turn_or_end::TurnOrEnd;
 use crate::place::{LogPlace, Used};
 use crate::turning::now_at;
 use crate::verdict::Verdict;
@@ -45,7 +45,7 @@ pub struct Replayer<M: Mode> {
     alloc: Global,
     log: Lookup<M>,
     place: LogPlace,
-    turn: Now,
+    turn: TurnOrEnd,
     total: u32,
     commits: [u32; PLACES],
 }
@@ -88,9 +88,9 @@ impl<M: Mode> Replayer<M> {
         ensures { result ≡ actor_of self.now.now }
     {
         match self.turn {
-            Now::Turn(thread) => Some(Actor::Thread(thread)),
-            Now::TurnOfDma => Some(Actor::Dma),
-            Now::Ended(_) => None,
+            TurnOrEnd::Turn(thread) => Some(Actor::Thread(thread)),
+            TurnOrEnd::TurnOfDma => Some(Actor::Dma),
+            TurnOrEnd::Ended(_) => None,
         }
     }
 
@@ -99,8 +99,8 @@ impl<M: Mode> Replayer<M> {
         ensures { result ≡ end_of self.now.now }
     {
         match self.turn {
-            Now::Ended(end) => Some(end),
-            Now::Turn(_) | Now::TurnOfDma => None,
+            TurnOrEnd::Ended(end) => Some(end),
+            TurnOrEnd::Turn(_) | TurnOrEnd::TurnOfDma => None,
         }
     }
 
@@ -135,8 +135,8 @@ impl<M: Mode> Replayer<M> {
         ensures { result ≡ pieces_of self.now.now thread self.now.total }
     {
         match self.turn {
-            Now::Turn(head) if head == thread => self.total,
-            Now::Turn(_) | Now::TurnOfDma | Now::Ended(_) => 0,
+            TurnOrEnd::Turn(head) if head == thread => self.total,
+            TurnOrEnd::Turn(_) | TurnOrEnd::TurnOfDma | TurnOrEnd::Ended(_) => 0,
         }
     }
 
@@ -330,7 +330,7 @@ impl<M: Mode> Replayer<M> {
         ensures verdict { result ≡ Verdict.Diverged why }
         ensures replay { self.new ≡ diverged why self.old }
     {
-        self.turn = Now::Ended(End::Diverged(self.place.done, why));
+        self.turn = TurnOrEnd::Ended(End::Diverged(self.place.done, why));
         Verdict::Diverged(why)
     }
 }

@@ -9,7 +9,7 @@ ghost use Rattle.dl_replay.specs.Replays.{now_for};
 
 use crate::counting::commits_of;
 use crate::lookup::Lookup;
-use crate::now::Now;
+use crate::turn_or_end::TurnOrEnd;
 use crate::place::{LogPlace, Used};
 use dl_entry::{Actor, End, Why};
 use dl_kernel::{live_of, lives};
@@ -17,7 +17,7 @@ use dl_mode::Mode;
 use dl_thread::Threads;
 
 /// Whose turn it is at a place in the log, with these threads.
-pub fn now_at<M: Mode>(log: &Lookup<M>, place: &LogPlace, threads: &Threads) -> Now
+pub fn now_at<M: Mode>(log: &Lookup<M>, place: &LogPlace, threads: &Threads) -> TurnOrEnd
     ensures now { let at = place.now in now_seen result ≡ now_for log.now at.done at.last (used_seen at.used) threads.now }
     ensures log { IsLog log.now }
 {
@@ -38,23 +38,23 @@ fn next_actor<M: Mode>(log: &Lookup<M>, place: &LogPlace, threads: &Threads) -> 
 }
 
 // A thread whose turn it is must live.
-fn turn_of(done: u32, threads: &Threads, actor: Option<Actor>) -> Now
+fn turn_of(done: u32, threads: &Threads, actor: Option<Actor>) -> TurnOrEnd
     ensures { now_seen result ≡ turn_of done threads.now actor }
 {
     match actor {
-        Some(Actor::Dma) => Now::TurnOfDma,
-        Some(Actor::Thread(number)) if lives(threads, number) => Now::Turn(number),
-        Some(Actor::Thread(_)) | None => Now::Ended(End::Diverged(done, Why::NoThread)),
+        Some(Actor::Dma) => TurnOrEnd::TurnOfDma,
+        Some(Actor::Thread(number)) if lives(threads, number) => TurnOrEnd::Turn(number),
+        Some(Actor::Thread(_)) | None => TurnOrEnd::Ended(End::Diverged(done, Why::NoThread)),
     }
 }
 
-fn at_end(done: u32, left_over: bool) -> Now
+fn at_end(done: u32, left_over: bool) -> TurnOrEnd
     ensures { now_seen result ≡ at_end done left_over }
 {
     if left_over {
-        Now::Ended(End::Diverged(done, Why::LeftOver))
+        TurnOrEnd::Ended(End::Diverged(done, Why::LeftOver))
     } else {
-        Now::Ended(End::Complete(done))
+        TurnOrEnd::Ended(End::Complete(done))
     }
 }
 

@@ -13,7 +13,7 @@ use Rattle.spec_log.specs.declared.LogParts.{LogParts}
 use Rattle.spec_log.specs.Bytes.{log_bytes}
 use Rattle.spec_kernel.specs.Devices.{Devices}
 use Rattle.spec_play.specs.Progress.{position}
-use Rattle.spec_play.specs.Turns.{Now, Turn, TurnOfDma, Ended}
+use Rattle.spec_play.specs.Turns.{TurnOrEnd, Turn, TurnOfDma, Ended}
 use Rattle.spec_protocol.specs.declared.event.Event.{Event}
 use Rattle.spec_protocol.specs.machine.Spheres.{Role, Plain, Record, Replay, Cursor, is_over}
 use Rattle.spec_protocol.specs.machine.Placing.{replays}
@@ -93,7 +93,7 @@ few_commits es r i over inside live =
 
 -- ---- ends
 
-end_now : (b : Cursor) (now : Now) (how : End) → end_in (Replay (record b { now = now })) ≡ Some how → how ≡ end_of now
+end_now : (b : Cursor) (now : TurnOrEnd) (how : End) → end_in (Replay (record b { now = now })) ≡ Some how → how ≡ end_of now
 end_now b (Turn k) how e = absurd (none-some how e)
 end_now b TurnOfDma how e = absurd (none-some how e)
 end_now b (Ended x) how e = cc
@@ -104,7 +104,7 @@ end-some Plain n how e = absurd (none-some how e)
 end-some (Record recording) n how e = absurd (none-some how e)
 end-some (Replay b) n how e = end_now b b.now how e
 
-none_now : (b : Cursor) (now : Now) → is_over now ≡ true → end_in (Replay (record b { now = now })) ≡ None → ⊥
+none_now : (b : Cursor) (now : TurnOrEnd) → is_over now ≡ true → end_in (Replay (record b { now = now })) ≡ None → ⊥
 none_now b (Turn k) end e = true≢false (sym end)
 none_now b TurnOfDma end e = true≢false (sym end)
 none_now b (Ended x) end e = none-some x (sym e)

@@ -21,7 +21,7 @@ use Rattle.spec_kernel.specs.Interrupts.{takes_interrupt, interrupted}
 use Rattle.spec_play.specs.Effects.{Effect, chunk_commit, chunk_effect, serial_commit, serial_effect}
 use Rattle.spec_play.specs.Progress.{Progress, Used, with_input, with_interrupt}
 use Rattle.spec_play.specs.Transfers.{DmaVerdict, DmaGoes, dma_verdict}
-use Rattle.spec_play.specs.Verdicts.{LogVerdict, Goes, Fails, Given, given, with_interrupted, interrupt_at, chunk_verdict, unless, served_verdict, serial_verdict}
+use Rattle.spec_play.specs.Verdicts.{LogVerdict, Goes, Fails, TakenRecord, given, with_interrupted, interrupt_at, chunk_verdict, unless, served_verdict, serial_verdict}
 use Rattle.spec_protocol.specs.promises.Sound.{IsSoundIf}
 use Rattle.spec_protocol.proofs.Invariants.Cores.{branch}
 use Rattle.spec_protocol.proofs.Sound.Threads.{BringsIf}
@@ -98,7 +98,7 @@ left-like size k ts t e f commit sound like =
     }
 
 -- what is given is no longer than what is wanted
-abbrev IfBrings : Option Need → Option Given → Type 0
+abbrev IfBrings : Option Need → Option TakenRecord → Type 0
 IfBrings o None = Unit {0}
 IfBrings o (Some g) = BringsIf o g.input
 
@@ -114,7 +114,7 @@ pub record CanStep (ts : List Parts) (t : Parts) (m : List ℕ) (request : Optio
   pub few : length ts ≤ 15
   pub request_sound : IsSoundIf (length m) request
 
-served-left : (log : LogParts) (p : Progress) (k : ℕ) (ts : List Parts) (t : Parts) (m : List ℕ) (o : Option Given) (f : Effect) (w : Used) → CanStep ts t m p.request → IfBrings (need t m) o → served_verdict log p k ts t m o ≡ Goes f w → LeftByStep (length m) k f
+served-left : (log : LogParts) (p : Progress) (k : ℕ) (ts : List Parts) (t : Parts) (m : List ℕ) (o : Option TakenRecord) (f : Effect) (w : Used) → CanStep ts t m p.request → IfBrings (need t m) o → served_verdict log p k ts t m o ≡ Goes f w → LeftByStep (length m) k f
 unfolding goes
 served-left log p k ts t m None f w can brings is = absurd (true≢false (sym (ap goes is)))
 served-left log p k ts t m (Some g) f w can brings is =

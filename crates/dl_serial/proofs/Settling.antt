@@ -15,7 +15,7 @@ use Rattle.spec_engine.specs.Flights.{AreInside}
 use Rattle.spec_play.specs.Effects.{Effect, chunk_commit, serial_commit, dma_commit}
 use Rattle.spec_play.specs.Progress.{Progress, position, with_effect, Used, with_dma, with_dma_used}
 use Rattle.spec_play.specs.Plays.{with_threads, settled, dma_settled}
-use Rattle.spec_play.specs.Turns.{Now, Turn, Ended, now_at}
+use Rattle.spec_play.specs.Turns.{TurnOrEnd, Turn, Ended, now_at}
 use Rattle.spec_play.proofs.Going.{turn-lives}
 use Rattle.spec_play.specs.Transfers.{DmaVerdict, DmaFails}
 use Rattle.spec_play.specs.Verdicts.{LogVerdict, Fails, chunk_verdict, serial_verdict}
@@ -33,7 +33,7 @@ use Rattle.dl_replay.proofs.Answered.{HasGone, HasServed, Fell, HasTransferred}
 -- ---- turns
 
 -- a thread whose turn it is is there
-pub named : (log : LogParts) (p : Progress) (u : Used) (ts us : List Parts) {now : Now} (k : ℕ) → now ≡ now_at log p u ts → us ≡ ts → now ≡ Turn k → k < length us
+pub named : (log : LogParts) (p : Progress) (u : Used) (ts us : List Parts) {now : TurnOrEnd} (k : ℕ) → now ≡ now_at log p u ts → us ≡ ts → now ≡ Turn k → k < length us
 named log p u ts us k is same e =
     let lives = turn-lives log p u ts k (sym is ∙ e) in
     subst (λ (xs : List Parts). k < length xs) (sym same) (slice_get_within ts k lives.thread lives.is)

@@ -8,7 +8,7 @@ use Rattle.spec_log.specs.declared.LogParts.{LogParts}
 use Rattle.spec_log.specs.Size.{size_in}
 use Rattle.spec_kernel.specs.Needs.{next_kind}
 use Rattle.spec_play.specs.Progress.{Progress, Used}
-use Rattle.spec_play.specs.Turns.{Now, Turn, TurnOfDma, Ended}
+use Rattle.spec_play.specs.Turns.{TurnOrEnd, Turn, TurnOfDma, Ended}
 use Rattle.spec_play.specs.Verdicts.{chunk_verdict}
 use Rattle.spec_play.specs.Plays.{Played, size_or_standard, thread_verdict}
 use Rattle.spec_protocol.specs.machine.Spheres.{Cursor, Replay, whole_limit, pieces_of, limit_of}
@@ -22,7 +22,7 @@ if_zero : (b : Bool) → let none : ℕ = 0 in cond b none none ≡ none
 if_zero true = refl
 if_zero false = refl
 
-no_pieces : (now : Now) (k : ℕ) → pieces_of now k 0 ≡ 0
+no_pieces : (now : TurnOrEnd) (k : ℕ) → pieces_of now k 0 ≡ 0
 no_pieces (Turn j) k = if_zero (eqb j k)
 no_pieces TurnOfDma k = refl
 no_pieces (Ended how) k = refl

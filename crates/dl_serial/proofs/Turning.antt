@@ -6,7 +6,7 @@ use Rattle.spec_isa.specs.declared.thread.Parts.{Parts}
 use Rattle.spec_isa.specs.Runs.{run}
 use Rattle.spec_log.specs.declared.LogParts.{LogParts}
 use Rattle.spec_kernel.specs.Needs.{next_kind}
-use Rattle.spec_play.specs.Turns.{Now, Turn, TurnOfDma, Ended}
+use Rattle.spec_play.specs.Turns.{TurnOrEnd, Turn, TurnOfDma, Ended}
 use Rattle.spec_play.specs.Transfers.{dma_verdict}
 use Rattle.spec_play.specs.Verdicts.{chunk_verdict, serial_verdict}
 use Rattle.spec_play.specs.Plays.{Played, settled, dma_settled, thread_verdict, play_thread, play_now, play_one, plays}
@@ -70,7 +70,7 @@ on-both (Err e) P Q R f g p q = g q
 -- ---- the end
 
 -- a play that has ended stays
-pub over-played : (log : LogParts) (start : Played) (i to : ℕ) (now : Now) → i ≤ to → IsSome (end_of now) → (plays log start i).now ≡ now → plays log start i ≡ plays log start to
+pub over-played : (log : LogParts) (start : Played) (i to : ℕ) (now : TurnOrEnd) → i ≤ to → IsSome (end_of now) → (plays log start i).now ≡ now → plays log start i ≡ plays log start to
 over-played log start i to (Turn k) l some is = absurd (true≢false (sym some))
 over-played log start i to TurnOfDma l some is = absurd (true≢false (sym some))
 over-played log start i to (Ended how) l some is =

@@ -9,7 +9,7 @@ use Rattle.spec_engine.specs.Chunks.{is_open}
 use Rattle.spec_protocol.specs.machine.Spheres.{Cursor, Role, Plain, Record, Replay, Sphere, is_over}
 use Rattle.spec_protocol.specs.machine.World.{World, Occupant, core_of}
 use Rattle.spec_protocol.specs.machine.Machine.{first_played, SphereSetup, Setup}
-use Rattle.spec_protocol.specs.machine.Finishing.{Who, least, standing}
+use Rattle.spec_protocol.specs.machine.Finishing.{SphereTurn, least, standing}
 use Rattle.spec_finishing.specs.Work.{commits_work}
 
 -- ---- flights
@@ -74,7 +74,7 @@ abbrev pub actor_under_way : World → (i : ℕ) → Actor → ℕ
 actor_under_way w i Actor.Dma = 0
 actor_under_way w i (Actor.Thread k) = core_under_way w (core_of w i k)
 
-abbrev pub who_under_way : World → Option Who → ℕ
+abbrev pub who_under_way : World → Option SphereTurn → ℕ
 who_under_way w None = 0
 who_under_way w (Some who) = actor_under_way w who.sphere who.actor
 

@@ -6,13 +6,13 @@ use Rattle.spec_isa.specs.Runs.{run}
 use Rattle.spec_log.specs.declared.LogParts.{LogParts}
 use Rattle.spec_kernel.specs.Devices.{Devices}
 use Rattle.spec_kernel.specs.Needs.{next_kind}
-use Rattle.spec_play.specs.Turns.{Now, Turn, TurnOfDma, Ended}
+use Rattle.spec_play.specs.Turns.{TurnOrEnd, Turn, TurnOfDma, Ended}
 use Rattle.spec_play.specs.Verdicts.{LogVerdict, Goes, Fails, serial_verdict}
 use Rattle.spec_play.specs.Transfers.{DmaVerdict, DmaGoes, DmaFails, dma_verdict}
 use Rattle.spec_play.specs.Plays.{Played, opened, size_or_standard, plays}
 use Rattle.spec_protocol.specs.machine.Spheres.{Role, Plain, Record, Replay, Sphere}
 use Rattle.spec_protocol.specs.machine.Commits.{MovedSphere, serial_moved, dma_moved}
-use Rattle.spec_protocol.specs.machine.World.{Numbers, What, OfChunk, OfSerial, OfDma, OfRaise, Move}
+use Rattle.spec_protocol.specs.machine.World.{Numbers, MoveKind, OfChunk, OfSerial, OfDma, OfRaise, Move}
 use Rattle.spec_protocol.specs.machine.Machine.{first_played, RoleSetup, IsPlain, IsRecorded, IsReplayed, SphereSetup}
 use Rattle.spec_protocol.specs.machine.Serial.{SerialState}
 use Rattle.spec_protocol.specs.machine.Moves.{do_move}
@@ -38,7 +38,7 @@ abbrev pub turn_work : LogParts → Played → (thread : ℕ) → Option Parts �
 turn_work log y k None = 0
 turn_work log y k (Some t) = suc (thread_work log y k t (next_kind t y.memory))
 
-abbrev pub now_work : LogParts → Played → Now → ℕ
+abbrev pub now_work : LogParts → Played → TurnOrEnd → ℕ
 now_work log y (Ended how) = 0
 now_work log y TurnOfDma = suc (dma_stored (dma_verdict log y.progress y.used))
 now_work log y (Turn k) = turn_work log y k (slice_get y.threads k)
@@ -74,7 +74,7 @@ dma_work None = 0
 dma_work (Some v) = suc (length v.words)
 
 -- a commit counts as one, with a chunk's instructions, or the words of a serial step or a DMA
-abbrev pub what_work : Sphere → Devices → (moment : ℕ) → What → ℕ
+abbrev pub what_work : Sphere → Devices → (moment : ℕ) → MoveKind → ℕ
 what_work p devices moment (OfChunk k how n limit) = suc n
 what_work p devices moment (OfSerial k) = serial_work p devices moment k (slice_get p.threads k)
 what_work p devices moment OfDma = dma_work (dma_moved devices p)

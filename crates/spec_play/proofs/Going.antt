@@ -13,7 +13,7 @@ use Rattle.spec_kernel.specs.Interrupts.{is_live}
 use Rattle.spec_kernel.specs.Needs.{next_kind}
 use Rattle.spec_play.specs.Effects.{dma_commit}
 use Rattle.spec_play.specs.Progress.{Progress, position, Used}
-use Rattle.spec_play.specs.Turns.{Now, Turn, TurnOfDma, Ended, has_left_over, at_end, turn_of_thread, turn_of, next_actor, now_at}
+use Rattle.spec_play.specs.Turns.{TurnOrEnd, Turn, TurnOfDma, Ended, has_left_over, at_end, turn_of_thread, turn_of, next_actor, now_at}
 use Rattle.spec_play.specs.Verdicts.{LogVerdict, Goes, Fails}
 use Rattle.spec_play.specs.Transfers.{DmaVerdict, DmaGoes, DmaFails, dma_verdict}
 use Rattle.spec_play.specs.Plays.{Played, opened, settled, thread_verdict, play_thread, dma_settled, play_now, play_one, plays, play}
@@ -73,7 +73,7 @@ dma_more : (log : LogParts) (y : Played) (v : DmaVerdict) → OneMore y (dma_set
 dma_more log y (DmaGoes words) = one_more y (dma_settled log y (DmaGoes words)) dma_commit refl refl
 dma_more log y (DmaFails why) = no_more y (dma_settled log y (DmaFails why)) refl
 
-now_more : (log : LogParts) (y : Played) (now : Now) → OneMore y (play_now log y now)
+now_more : (log : LogParts) (y : Played) (now : TurnOrEnd) → OneMore y (play_now log y now)
 now_more log y (Ended how) = no_more y y refl
 now_more log y TurnOfDma = dma_more log y (dma_verdict log y.progress y.used)
 now_more log y (Turn k) = thread_more log y k (slice_get y.threads k)
@@ -162,7 +162,7 @@ pub turn-lives : (log : LogParts) (p : Progress) (u : Used) (ts : List Parts) (k
 unfolding now_at
 turn-lives log p u ts k e = turn_below (position p) k ts (next_actor log p ts) (nat_lt (position p) log.count) (has_left_over log u ts) e
 
-now_goes : (log : LogParts) (y : Played) (i : ℕ) (now : Now) → y.now ≡ now → GoesOn log y i → EndsOr log (play_now log y now) (suc i)
+now_goes : (log : LogParts) (y : Played) (i : ℕ) (now : TurnOrEnd) → y.now ≡ now → GoesOn log y i → EndsOr log (play_now log y now) (suc i)
 now_goes log y i (Ended how) is g = inl (how, is)
 now_goes log y i TurnOfDma is g = dma_goes log y i (dma_verdict log y.progress y.used) g.done
 now_goes log y i (Turn k) is g =

@@ -16,8 +16,8 @@ use Rattle.spec_kernel.specs.Interrupts.{takes_interrupt, interrupted}
 use Rattle.spec_kernel.specs.Serving.{serve}
 use Rattle.spec_play.specs.Effects.{Effect, chunk_effect, serial_effect, dma_commit}
 use Rattle.spec_play.specs.Progress.{Progress, thread_of, last_thread, with_effect, with_dma, Used, with_interrupt}
-use Rattle.spec_play.specs.Turns.{Now, Turn, TurnOfDma, Ended}
-use Rattle.spec_play.specs.Verdicts.{LogVerdict, Goes, Fails, unless, interrupt_at, with_interrupted, ended, chunk_why, chunk_verdict, Given, given, serial_why, served_verdict, serial_verdict}
+use Rattle.spec_play.specs.Turns.{TurnOrEnd, Turn, TurnOfDma, Ended}
+use Rattle.spec_play.specs.Verdicts.{LogVerdict, Goes, Fails, unless, interrupt_at, with_interrupted, ended, chunk_why, chunk_verdict, TakenRecord, given, serial_why, served_verdict, serial_verdict}
 use Rattle.spec_play.specs.Transfers.{DmaVerdict, DmaGoes, DmaFails, dma_verdict}
 use Rattle.spec_play.specs.Plays.{Played, opened, settled, size_or_standard, thread_verdict, play_thread, dma_settled, play_now, play_one, plays}
 use Rattle.spec_play.specs.Lasts.{IsOfCommits, PlaysKeepLasts}
@@ -66,7 +66,7 @@ chunk-of log p u k r =
     let e = chunk_effect k p.request r in
     unless_of k (chunk_why (size_in log (Actor.Thread k) r.thread.commits) r.n) (ended log k e u) (interrupted_of k (interrupt_at log.interrupts k e.thread.commits) e u refl)
 
-served_of : (log : LogParts) (p : Progress) (k : ℕ) (ts : List Parts) (t : Parts) (m : List ℕ) (o : Option Given) → IsOf k (served_verdict log p k ts t m o)
+served_of : (log : LogParts) (p : Progress) (k : ℕ) (ts : List Parts) (t : Parts) (m : List ℕ) (o : Option TakenRecord) → IsOf k (served_verdict log p k ts t m o)
 served_of log p k ts t m None = tt
 served_of log p k ts t m (Some g) =
     let e = serial_effect k (serve most_threads k ts p.request t m g.input) in
@@ -97,7 +97,7 @@ dma_last : (log : LogParts) (y : Played) (v : DmaVerdict) → IsOfCommits y.prog
 dma_last log y (DmaGoes words) last = last-dma y.progress last
 dma_last log y (DmaFails why) last = last
 
-now_last : (log : LogParts) (y : Played) (now : Now) → IsOfCommits y.progress → IsOfCommits (play_now log y now).progress
+now_last : (log : LogParts) (y : Played) (now : TurnOrEnd) → IsOfCommits y.progress → IsOfCommits (play_now log y now).progress
 now_last log y (Ended how) last = last
 now_last log y TurnOfDma last = dma_last log y (dma_verdict log y.progress y.used) last
 now_last log y (Turn k) last = thread_last log y k (slice_get y.threads k) last

@@ -9,7 +9,7 @@ use Rattle.dl_entry.specs.declared.End.{End}
 use Rattle.spec_log.specs.declared.LogParts.{LogParts}
 use Rattle.spec_play.specs.declared.walk_end.WalkEnd.{WalkEnd}
 use Rattle.spec_play.specs.Progress.{position}
-use Rattle.spec_play.specs.Turns.{Now, Turn, TurnOfDma, Ended}
+use Rattle.spec_play.specs.Turns.{TurnOrEnd, Turn, TurnOfDma, Ended}
 use Rattle.spec_play.specs.Plays.{Played, opened, plays, play}
 use Rattle.spec_play.specs.Walks.{is_looked_at, walk_end, walked, IsWalk, WalksArePlays}
 use Rattle.spec_play.proofs.Going.{plays-first, GoesOn, IsBehind, plays-behind, plays-most, plays-go, over-at, last-is}
@@ -124,7 +124,7 @@ going_walk log memory entry to g going stops =
 
 -- ---- both
 
-turn_walk : (log : LogParts) (memory : List ℕ) (entry to : ℕ) (now : Now) → (plays log (opened log memory entry) to).now ≡ now → IsWalk log (walked log memory entry to) (play log memory entry) to
+turn_walk : (log : LogParts) (memory : List ℕ) (entry to : ℕ) (now : TurnOrEnd) → (plays log (opened log memory entry) to).now ≡ now → IsWalk log (walked log memory entry to) (play log memory entry) to
 turn_walk log memory entry to (Ended how) is = over_walk log memory entry to how is
 turn_walk log memory entry to (Turn k) is =
     let y : Played = plays log (opened log memory entry) to in

@@ -12,7 +12,7 @@ use Rattle.spec_log.specs.Size.{size_in}
 use Rattle.spec_kernel.specs.Needs.{next_kind}
 use Rattle.spec_play.specs.Effects.{Effect}
 use Rattle.spec_play.specs.Progress.{Progress, no_progress, position, with_effect, with_dma, Used, nothing_used, with_dma_used}
-use Rattle.spec_play.specs.Turns.{Now, Turn, TurnOfDma, Ended, now_at}
+use Rattle.spec_play.specs.Turns.{TurnOrEnd, Turn, TurnOfDma, Ended, now_at}
 use Rattle.spec_play.specs.Verdicts.{LogVerdict, Goes, Fails, chunk_verdict, serial_verdict}
 use Rattle.spec_play.specs.Transfers.{DmaVerdict, DmaGoes, DmaFails, dma_verdict}
 
@@ -22,7 +22,7 @@ pub record Played : Type 0 where
   pub threads : List Parts
   pub progress : Progress
   pub used : Used
-  pub now : Now
+  pub now : TurnOrEnd
 
 -- before the first commit: a memory, and thread 0 alone at an entry
 abbrev pub opened : LogParts → (memory : List ℕ) → (entry : ℕ) → Played
@@ -82,7 +82,7 @@ dma_settled log y (DmaGoes words) =
       now = now_at log progress used y.threads;
     }
 
-abbrev pub play_now : LogParts → Played → Now → Played
+abbrev pub play_now : LogParts → Played → TurnOrEnd → Played
 play_now log y (Ended how) = y
 play_now log y TurnOfDma = dma_settled log y (dma_verdict log y.progress y.used)
 play_now log y (Turn k) = play_thread log y k (slice_get y.threads k)

@@ -12,10 +12,10 @@ use Rattle.spec_log.specs.Head.{head}
 use Rattle.spec_kernel.specs.Interrupts.{is_live}
 use Rattle.spec_play.specs.Progress.{Progress, position, Used}
 
-pub data Now : Type 0 where
-  Turn : (thread : ℕ) → Now
-  TurnOfDma : Now
-  Ended : (how : End) → Now
+pub data TurnOrEnd : Type 0 where
+  Turn : (thread : ℕ) → TurnOrEnd
+  TurnOfDma : TurnOrEnd
+  Ended : (how : End) → TurnOrEnd
 
 -- ---- at the end of the log
 
@@ -39,18 +39,18 @@ has_left_over log u threads =
     else nat_lt u.dmas (length log.dmas)
     else true
 
-abbrev pub at_end : (commits : ℕ) → (left_over : Bool) → Now
+abbrev pub at_end : (commits : ℕ) → (left_over : Bool) → TurnOrEnd
 at_end i true = Ended (End.Diverged i Why.LeftOver)
 at_end i false = Ended (End.Complete i)
 
 -- ---- before the end of the log
 
 -- a thread whose turn it is must be live
-abbrev pub turn_of_thread : (commits thread : ℕ) → Option Parts → Now
+abbrev pub turn_of_thread : (commits thread : ℕ) → Option Parts → TurnOrEnd
 turn_of_thread i k None = Ended (End.Diverged i Why.NoThread)
 turn_of_thread i k (Some t) = if is_live t then Turn k else Ended (End.Diverged i Why.NoThread)
 
-abbrev pub turn_of : (commits : ℕ) → List Parts → Option Actor → Now
+abbrev pub turn_of : (commits : ℕ) → List Parts → Option Actor → TurnOrEnd
 turn_of i threads None = Ended (End.Diverged i Why.NoThread)
 turn_of i threads (Some Actor.Dma) = TurnOfDma
 turn_of i threads (Some (Actor.Thread k)) = turn_of_thread i k (slice_get threads k)
@@ -59,7 +59,7 @@ turn_of i threads (Some (Actor.Thread k)) = turn_of_thread i k (slice_get thread
 abbrev pub next_actor : LogParts → Progress → List Parts → Option Actor
 next_actor log p threads = head log (position p) p.last (map is_live threads)
 
-unfoldable pub now_at : LogParts → Progress → Used → List Parts → Now
+unfoldable pub now_at : LogParts → Progress → Used → List Parts → TurnOrEnd
 now_at log p u threads =
     if nat_lt (position p) log.count
     then turn_of (position p) threads (next_actor log p threads)

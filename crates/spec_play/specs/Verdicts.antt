@@ -64,17 +64,17 @@ serial_why None = None
 serial_why (Some z) = if nat_eq z 0 then None else Some (Why.SizeOfSerial z)
 
 -- the record for a serial step, if it needs one, and how much of the log is used then
-pub record Given : Type 0 where
+pub record TakenRecord : Type 0 where
   pub input : Option Input
   pub used : Used
 
 -- the next record, if the step needs one and this one fits
-abbrev pub given : Option Need → Option Input → Used → Option Given
+abbrev pub given : Option Need → Option Input → Used → Option TakenRecord
 given None next u = Some (record { input = None; used = u })
 given (Some need) None u = None
 given (Some need) (Some r) u = if fits need r then Some (record { input = Some r; used = with_input u }) else None
 
-abbrev pub served_verdict : LogParts → Progress → (thread : ℕ) → List Parts → Parts → List ℕ → Option Given → LogVerdict
+abbrev pub served_verdict : LogParts → Progress → (thread : ℕ) → List Parts → Parts → List ℕ → Option TakenRecord → LogVerdict
 served_verdict log p k threads t m None = Fails Why.Input
 served_verdict log p k threads t m (Some g) =
     ended log k (serial_effect k (serve most_threads k threads p.request t m g.input)) g.used

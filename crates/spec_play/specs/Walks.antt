@@ -7,7 +7,7 @@ use Rattle.spec_isa.specs.declared.thread.Parts.{Parts}
 use Rattle.spec_log.specs.declared.LogParts.{LogParts}
 use Rattle.spec_play.specs.declared.walk_end.WalkEnd.{WalkEnd}
 use Rattle.spec_play.specs.Progress.{position}
-use Rattle.spec_play.specs.Turns.{Now, Turn, TurnOfDma, Ended}
+use Rattle.spec_play.specs.Turns.{TurnOrEnd, Turn, TurnOfDma, Ended}
 use Rattle.spec_play.specs.Plays.{Played, opened, plays, play}
 
 -- what a walk leaves
@@ -22,7 +22,7 @@ pub record Walked : Type 0 where
 abbrev pub is_looked_at : LogParts → (to i : ℕ) → Bool
 is_looked_at log to i = nat_lt i to || nat_le log.count to
 
-abbrev pub walk_end : LogParts → (to i : ℕ) → Now → WalkEnd
+abbrev pub walk_end : LogParts → (to i : ℕ) → TurnOrEnd → WalkEnd
 walk_end log to i (Ended how) = if is_looked_at log to i then WalkEnd.Ended how else WalkEnd.Reached i
 walk_end log to i (Turn k) = WalkEnd.Reached i
 walk_end log to i TurnOfDma = WalkEnd.Reached i

@@ -4,7 +4,7 @@ use Rattle.std.specs.Prelude.{slice_get}
 use Rattle.std.proofs.lemmas.Option.{none-some, same_Some}
 use Rattle.spec_log.specs.declared.LogParts.{LogParts}
 use Rattle.spec_log.specs.declared.ModeName.{ModeName}
-use Rattle.spec_play.specs.Turns.{Now}
+use Rattle.spec_play.specs.Turns.{TurnOrEnd}
 use Rattle.spec_protocol.specs.machine.Machine.{ReplaySetup, IsRecorded, IsReplayed, SphereSetup}
 use Rattle.spec_finishing.specs.Ending.{CanFinish}
 use Rattle.spec_run.specs.Runs.{end_of, has_diverged}
@@ -37,4 +37,4 @@ pub drill_reproduced : (v : ℕ) → IsReproduced v
 unfolding account_text
 drill_reproduced v =
     let reproduced = recordings_reproduced (recording v) (recording_events v) 0 (recorded v) (record { mode = ModeName.OrderOnly }) (can_finish v) refl refl in
-    record { account = reproduced.account; complete = ap (λ (n : Now). has_diverged (end_of n) || false) reproduced.fits }
+    record { account = reproduced.account; complete = ap (λ (n : TurnOrEnd). has_diverged (end_of n) || false) reproduced.fits }

@@ -23,7 +23,7 @@ use Rattle.spec_kernel.specs.Records.{fits}
 use Rattle.spec_kernel.specs.Serving.{serve, console_written}
 use Rattle.spec_play.specs.Plays.{play_one}
 use Rattle.spec_play.specs.Transfers.{dma_verdict}
-use Rattle.spec_play.specs.Turns.{Now, Turn, Ended, has_left_over, now_at}
+use Rattle.spec_play.specs.Turns.{TurnOrEnd, Turn, Ended, has_left_over, now_at}
 use Rattle.spec_play.specs.Verdicts.{chunk_verdict, serial_verdict}
 use Rattle.spec_play.proofs.Programs.{image}
 use Rattle.spec_engine.specs.Choices.{on_option, choose}
@@ -66,13 +66,13 @@ abbrev replies : World → List Event → List Reply
 replies w [] = []
 replies w (e ∷ es) = let a = happens w e in a.reply ∷ replies a.world es
 
-abbrev now_in : Role → Option Now
+abbrev now_in : Role → Option TurnOrEnd
 now_in Plain = None
 now_in (Record recording) = None
 now_in (Replay b) = Some b.now
 
 -- whose turn it is then, or how the replay has ended
-abbrev now_after : World → List Event → Option Now
+abbrev now_after : World → List Event → Option TurnOrEnd
 now_after w es = now_in (sphere_at (world_after w es) 0).role
 
 abbrev commits_after : World → List Event → List Commit

@@ -8,7 +8,7 @@ use Rattle.spec_isa.specs.Runs.{run}
 use Rattle.spec_log.specs.declared.LogParts.{LogParts}
 use Rattle.spec_kernel.specs.Interrupts.{is_live}
 use Rattle.spec_play.specs.Progress.{position}
-use Rattle.spec_play.specs.Turns.{Now, Turn, TurnOfDma, Ended}
+use Rattle.spec_play.specs.Turns.{TurnOrEnd, Turn, TurnOfDma, Ended}
 use Rattle.spec_play.specs.Plays.{Played, play_one}
 use Rattle.spec_protocol.specs.machine.Spheres.{Cursor, Replay, Sphere, whole_limit}
 
@@ -33,7 +33,7 @@ pub record IsMovedOn (log : LogParts) (y : Played) (k : ℕ) (t : Parts) (p : Sp
   pub within : b.total < whole_limit log k t.commits
 
 -- by whose turn it is in the play: only a thread's commits come in pieces
-abbrev pub StandsAt : LogParts → Played → Now → Sphere → Cursor → Type 0
+abbrev pub StandsAt : LogParts → Played → TurnOrEnd → Sphere → Cursor → Type 0
 StandsAt log y (Turn k) p b = (t : Parts) × IsMovedOn log y k t p b
 StandsAt log y TurnOfDma p b = IsWhole y p b
 StandsAt log y (Ended how) p b = IsWhole y p b

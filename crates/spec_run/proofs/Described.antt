@@ -8,7 +8,7 @@ use Rattle.dl_entry.specs.declared.End.{End}
 use Rattle.spec_log.specs.declared.ModeName.{ModeName}
 use Rattle.spec_log.specs.declared.LogParts.{LogParts}
 use Rattle.spec_play.specs.Progress.{position}
-use Rattle.spec_play.specs.Turns.{Now, Turn, TurnOfDma, Ended}
+use Rattle.spec_play.specs.Turns.{TurnOrEnd, Turn, TurnOfDma, Ended}
 use Rattle.spec_play.specs.Plays.{Played, play}
 use Rattle.spec_protocol.specs.declared.event.Event.{Event}
 use Rattle.spec_protocol.specs.machine.Spheres.{Recording, Role, Plain, Record, Replay, Cursor, Sphere, no_sphere, is_over}
@@ -147,7 +147,7 @@ held_executed : (p : Sphere) → replays p.role ≡ false → account_held p ≡
 held_executed p live =
     ap (account_of p.progress.commits p.threads p.progress.request p.memory) (live_end p.role (position p.progress) live)
 
-over_how : (now : Now) → is_over now ≡ true → (how : End) × (now ≡ Ended how)
+over_how : (now : TurnOrEnd) → is_over now ≡ true → (how : End) × (now ≡ Ended how)
 over_how (Turn k) e = absurd (true≢false (sym e))
 over_how TurnOfDma e = absurd (true≢false (sym e))
 over_how (Ended how) e = (how, refl)

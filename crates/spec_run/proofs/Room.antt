@@ -24,7 +24,7 @@ use Rattle.spec_engine.specs.Chunks.{fresh}
 use Rattle.spec_protocol.specs.declared.event.Event.{Event}
 use Rattle.spec_protocol.specs.machine.Spheres.{Cursor, Role, Plain, Record, Replay, Sphere, no_sphere, limit_of, halves}
 use Rattle.spec_protocol.specs.machine.Commits.{MovedSphere, granted_as, by_verdict, joined, replayed_chunk, chunk_in, chunk_moved, serial_in, serial_moved, live_dma, dma_log, dma_by_verdict, dma_in, dma_moved, role_raised, raised}
-use Rattle.spec_protocol.specs.machine.World.{Numbers, Occupant, World, After, moment, sphere_at, with_sphere, thread_afresh, core_of}
+use Rattle.spec_protocol.specs.machine.World.{Numbers, Occupant, World, EventOutcome, moment, sphere_at, with_sphere, thread_afresh, core_of}
 use Rattle.spec_protocol.specs.machine.Flying.{drain_slot, reads_of, writes_of, told, delivering, retiring, younger_of, hits_younger}
 use Rattle.spec_protocol.specs.machine.Placing.{replays, with_renewed, raise_in}
 use Rattle.spec_protocol.specs.machine.Machine.{SphereSetup, Setup, sphere_of, world_of, act, happens, world_after}
@@ -184,7 +184,7 @@ new-set (p ∷ ps) (suc i) q new old zero = old zero
 new-set (p ∷ ps) (suc i) q new old (suc j) = new-set ps i q new (λ n. old (suc n)) j
 
 -- the spheres after the event are
-abbrev Then : After → Type 0
+abbrev Then : EventOutcome → Type 0
 Then a = AreNew a.world.spheres
 
 drain-then : (w : World) (k : ℕ) (f : Flight) → AreNew w.spheres → Then (drain_slot w k (Some f))

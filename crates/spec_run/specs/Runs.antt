@@ -5,7 +5,7 @@ use Rattle.dl_entry.specs.declared.End.{End}
 use Rattle.dl_entry.specs.declared.Point.{Point}
 use Rattle.dl_entry.specs.declared.Counts.{Counts}
 use Rattle.spec_log.specs.declared.LogParts.{LogParts}
-use Rattle.spec_play.specs.Turns.{Now, Turn, TurnOfDma, Ended}
+use Rattle.spec_play.specs.Turns.{TurnOrEnd, Turn, TurnOfDma, Ended}
 use Rattle.spec_play.specs.Plays.{Played, play}
 use Rattle.spec_protocol.specs.declared.event.Event.{Event}
 use Rattle.spec_protocol.specs.machine.Machine.{last_played, RoleSetup, IsPlain, IsRecorded, IsReplayed, SphereSetup, Setup}
@@ -34,7 +34,7 @@ abbrev pub played : LogParts → SphereSetup → Played
 played log image = last_played image log
 
 -- how a whole play ended, as each has
-abbrev pub end_of : Now → End
+abbrev pub end_of : TurnOrEnd → End
 end_of (Ended how) = how
 end_of (Turn thread) = End.Complete 0
 end_of TurnOfDma = End.Complete 0

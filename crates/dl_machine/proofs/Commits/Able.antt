@@ -7,7 +7,7 @@ use Rattle.dl_entry.specs.declared.Actor.{Actor}
 use Rattle.dl_entry.specs.declared.Request.{Request}
 use Rattle.spec_isa.specs.declared.thread.Parts.{Parts}
 use Rattle.spec_play.specs.Progress.{position}
-use Rattle.spec_play.specs.Turns.{Now, Turn, TurnOfDma, Ended}
+use Rattle.spec_play.specs.Turns.{TurnOrEnd, Turn, TurnOfDma, Ended}
 use Rattle.spec_engine.specs.declared.answers.How.{How}
 use Rattle.spec_engine.specs.Chunks.{Chunk, is_serial}
 use Rattle.spec_engine.specs.Flights.{at}
@@ -44,7 +44,7 @@ only_if : (same : Bool) (a : Option Actor) (actor : Actor) → (if same then Non
 only_if true a actor e = refl
 only_if false a actor e = cc
 
-turn_now : (now : Now) (k : ℕ) → is_over now ≡ false → other_than (Actor.Thread k) (actor_of now) ≡ None → now ≡ Turn k
+turn_now : (now : TurnOrEnd) (k : ℕ) → is_over now ≡ false → other_than (Actor.Thread k) (actor_of now) ≡ None → now ≡ Turn k
 turn_now (Turn j) k going free = ap Turn (eqb-true j k (only_if (nat_eq j k) None (Actor.Thread j) free))
 turn_now TurnOfDma k going free = cc
 turn_now (Ended how) k going free = cc
@@ -59,7 +59,7 @@ pub turn_of : (p : Sphere) (k : ℕ) → is_stopped p.role ≡ false → turn_ag
 unfolding turn_against
 turn_of p k going free = thread_turn p.role p k going free
 
-dma_now : (now : Now) → is_over now ≡ false → other_than Actor.Dma (actor_of now) ≡ None → now ≡ TurnOfDma
+dma_now : (now : TurnOrEnd) → is_over now ≡ false → other_than Actor.Dma (actor_of now) ≡ None → now ≡ TurnOfDma
 dma_now (Turn j) going free = cc
 dma_now TurnOfDma going free = refl
 dma_now (Ended how) going free = cc

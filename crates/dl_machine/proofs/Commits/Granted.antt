@@ -16,7 +16,7 @@ use Rattle.spec_engine.specs.Chunks.{Chunk}
 use Rattle.spec_engine.specs.Flights.{Flights, at}
 use Rattle.spec_protocol.specs.machine.Spheres.{Sphere}
 use Rattle.spec_protocol.specs.machine.Commits.{CommitOutcome, Granted, Piece, Diverged, MovedSphere, is_piece, chunk_moved, serial_moved}
-use Rattle.spec_protocol.specs.machine.World.{After, Numbers, Occupant, World, OfChunk, OfSerial, moment, sphere_at, held_afresh, flown, with_core}
+use Rattle.spec_protocol.specs.machine.World.{EventOutcome, Numbers, Occupant, World, OfChunk, OfSerial, moment, sphere_at, held_afresh, flown, with_core}
 use Rattle.spec_protocol.specs.machine.Asking.{CommitRequest, is_short, granted, grant_chunk, grant_serial, promoted}
 use Rattle.spec_protocol.specs.machine.Flying.{younger_of}
 use Rattle.dl_machine.specs.declared.one_core.Held.{Held as Seen}
@@ -108,9 +108,9 @@ module _ (cores : Cores) (spheres : Spheres) (flights : Flights) (devices : Devi
 -- ---- under what a core holds
 
 -- what is read of the event of what a core holds is read of the event
-pub held_after : {A : Type 0} (g : After → A) (f : Occupant → After) (o : Option Occupant) (a : After) → Some a ≡ option_map f o → Some (g a) ≡ option_map (λ h. g (f h)) o
+pub held_after : {A : Type 0} (g : EventOutcome → A) (f : Occupant → EventOutcome) (o : Option Occupant) (a : EventOutcome) → Some a ≡ option_map f o → Some (g a) ≡ option_map (λ h. g (f h)) o
 held_after g f None a e = absurd (none-some a (sym e))
-held_after g f (Some h) a e = ap (λ (b : After). Some (g b)) (same_Some _ _ e)
+held_after g f (Some h) a e = ap (λ (b : EventOutcome). Some (g b)) (same_Some _ _ e)
 
 -- the chunk that a core holds was closed as the core says
 pub closed_is : (o : Option Occupant) (ch : Chunk) (how : How) → option_map closed_by o ≡ Some (Some how) → Some ch ≡ option_map chunk_of o → ch.closed ≡ Some how
@@ -158,7 +158,7 @@ chunk_after w c how (Some h) held ch y marks v eh ec ey em ev =
     ∙ ap (λ (z : Option Chunk). Some (let u = moved_by w held how ch in granted w c (chunk_asked w held how ch z) h.chunk.writes u u.outcome)) younger
     ∙ ap (λ (d : Chunk). Some (let u = moved_by w held how d in granted w c (chunk_asked w held how d h.younger) h.chunk.writes u u.outcome)) same
     ∙ ap (λ (s : Seen). Some (let u = moved_by w s how h.chunk in granted w c (chunk_asked w s how h.chunk h.younger) h.chunk.writes u u.outcome)) seen_
-    ∙ ap (λ (a : After). Some a) (sym (chunk_is w c h how))
+    ∙ ap (λ (a : EventOutcome). Some a) (sym (chunk_is w c h how))
 
 -- ---- a serial step
 
@@ -178,7 +178,7 @@ serial_is : (w : World) (c : ℕ) (h : Occupant) → grant_serial w c h ≡ (let
 unfolding grant_serial
 serial_is w c h = refl
 
-abbrev pub serial_after_of : World → (core : ℕ) → Seen → MovedSphere → After
+abbrev pub serial_after_of : World → (core : ℕ) → Seen → MovedSphere → EventOutcome
 serial_after_of w c held v = granted w c (serial_asked held) (signed held.sphere v.words (nothing w.numbers.bits)) v v.outcome
 
 -- a serial step's request comes to what the move of its sphere makes of the world
@@ -194,7 +194,7 @@ serial_after w c (Some h) held v ready eo eh ev =
     let whole : v ≡ serial_moved h.thread (moment w) h.chunk.start w.devices (sphere_at w h.chunk.sphere) = moved ∙ serial_cut h.thread (moment w) h.chunk.start w.devices (sphere_at w h.chunk.sphere) in
     ap (λ (s : Seen). Some (serial_after_of w c s v)) seen_
     ∙ ap (λ (u : MovedSphere). Some (serial_after_of w c (seen h) u)) whole
-    ∙ ap (λ (a : After). Some a) (sym (serial_is w c h))
+    ∙ ap (λ (a : EventOutcome). Some a) (sym (serial_is w c h))
 
 -- where a serial step diverges, the devices stay as they are
 pub serial_still : (w : World) (c : ℕ) (o : Option Occupant) (held : Seen) (v : MovedSphere) → IsReady w → at w.cores c ≡ o → option_map seen o ≡ Some held
@@ -219,10 +219,10 @@ granted_passes w c q marks v (Diverged i why) = refl
 pub chunk_passes : (w : World) (c : ℕ) (h : Occupant) (how : How) → passes_checks (grant_chunk w c h how).reply ≡ true
 chunk_passes w c h how =
     let v = moved_by w (seen h) how h.chunk in
-    ap (λ (a : After). passes_checks a.reply) (chunk_is w c h how) ∙ granted_passes w c (chunk_asked w (seen h) how h.chunk h.younger) h.chunk.writes v v.outcome
+    ap (λ (a : EventOutcome). passes_checks a.reply) (chunk_is w c h how) ∙ granted_passes w c (chunk_asked w (seen h) how h.chunk h.younger) h.chunk.writes v v.outcome
 
 -- a granted serial step answers as what passed every check
 pub serial_passes : (w : World) (c : ℕ) (h : Occupant) → passes_checks (grant_serial w c h).reply ≡ true
 serial_passes w c h =
     let v = serial_moved h.thread (moment w) h.chunk.start w.devices (sphere_at w h.chunk.sphere) in
-    ap (λ (a : After). passes_checks a.reply) (serial_is w c h) ∙ granted_passes w c (serial_asked (seen h)) (signed h.chunk.sphere v.words (nothing w.numbers.bits)) v v.outcome
+    ap (λ (a : EventOutcome). passes_checks a.reply) (serial_is w c h) ∙ granted_passes w c (serial_asked (seen h)) (signed h.chunk.sphere v.words (nothing w.numbers.bits)) v v.outcome

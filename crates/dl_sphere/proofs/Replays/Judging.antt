@@ -11,7 +11,7 @@ use Rattle.spec_kernel.specs.Interrupts.{takes_interrupt, interrupted}
 use Rattle.spec_play.specs.Effects.{Effect, chunk_commit, chunk_effect, serial_commit, serial_effect}
 use Rattle.spec_kernel.specs.Serving.{serve}
 use Rattle.spec_play.specs.Progress.{Progress, Used, with_interrupt}
-use Rattle.spec_play.specs.Verdicts.{LogVerdict, Goes, Fails, Given, with_interrupted, interrupt_at, chunk_verdict, unless, served_verdict, serial_verdict}
+use Rattle.spec_play.specs.Verdicts.{LogVerdict, Goes, Fails, TakenRecord, with_interrupted, interrupt_at, chunk_verdict, unless, served_verdict, serial_verdict}
 
 -- ---- the commit of a verdict
 
@@ -62,7 +62,7 @@ chunk_words log p u k r f w is =
     let e : Effect = chunk_effect k p.request r in
     words-keep (interrupt_at log.interrupts k e.thread.commits) e u f w (unless-keeps _ _ f w is)
 
-served-commits : (log : LogParts) (p : Progress) (k : ℕ) (ts : List Parts) (t : Parts) (m : List ℕ) (o : Option Given) (f : Effect) (w : Used) → served_verdict log p k ts t m o ≡ Goes f w
+served-commits : (log : LogParts) (p : Progress) (k : ℕ) (ts : List Parts) (t : Parts) (m : List ℕ) (o : Option TakenRecord) (f : Effect) (w : Used) → served_verdict log p k ts t m o ≡ Goes f w
     → f.commit ≡ serial_commit k f.commit.loads f.commit.outputs
 unfolding goes
 served-commits log p k ts t m None f w is = absurd (true≢false (sym (ap goes is)))

@@ -22,8 +22,8 @@ use Rattle.spec_kernel.specs.Calls.{called}
 use Rattle.spec_kernel.specs.Serving.{StepResult, copy_of, outside_called, inside_called, is_outside, device_loaded, device_stored, serve_kind, serve}
 use Rattle.spec_play.specs.Effects.{Effect, serial_effect}
 use Rattle.spec_play.specs.Progress.{Progress, position, Used}
-use Rattle.spec_play.specs.Turns.{Now, Turn, TurnOfDma, Ended}
-use Rattle.spec_play.specs.Verdicts.{LogVerdict, Goes, Fails, unless, interrupt_at, with_interrupted, Given, given, serial_why, served_verdict, serial_verdict}
+use Rattle.spec_play.specs.Turns.{TurnOrEnd, Turn, TurnOfDma, Ended}
+use Rattle.spec_play.specs.Verdicts.{LogVerdict, Goes, Fails, unless, interrupt_at, with_interrupted, TakenRecord, given, serial_why, served_verdict, serial_verdict}
 use Rattle.spec_play.specs.Transfers.{DmaVerdict, DmaGoes, DmaFails, is_for, transferred, dma_unless, dma_verdict}
 use Rattle.spec_play.specs.Plays.{Played, size_or_standard, plays}
 use Rattle.spec_kernel.specs.Records.{fits}
@@ -123,7 +123,7 @@ unless-words : (o : Option Why) (x : LogVerdict) → words_stored x ≤ 4096 →
 unless-words None x few = few
 unless-words (Some why) x few = omega arith
 
-abbrev GivenFew : Option Need → Option Given → Type 0
+abbrev GivenFew : Option Need → Option TakenRecord → Type 0
 GivenFew o None = Unit {0}
 GivenFew o (Some g) = FewIf o g.input
 
@@ -132,7 +132,7 @@ given-few log None next u few = tt
 given-few log (Some n) None u few = tt
 given-few log (Some n) (Some r) u few = branch (GivenFew (Some n)) (fits n r) (Some (record { input = Some r; used = _ })) None (λ _. record-few (Some n) r (few r refl)) (λ _. tt)
 
-served-words : (log : LogParts) (p : Progress) (k : ℕ) (ts : List Parts) (t : Parts) (m : List ℕ) (o : Option Given) → GivenFew (need t m) o → words_stored (served_verdict log p k ts t m o) ≤ 4096
+served-words : (log : LogParts) (p : Progress) (k : ℕ) (ts : List Parts) (t : Parts) (m : List ℕ) (o : Option TakenRecord) → GivenFew (need t m) o → words_stored (served_verdict log p k ts t m o) ≤ 4096
 served-words log p k ts t m None few = omega arith
 served-words log p k ts t m (Some g) few =
     let e = serial_effect k (serve most_threads k ts p.request t m g.input) in
@@ -186,7 +186,7 @@ turn-few : (log : LogParts) (y : Played) (k : ℕ) (o : Option Parts) → IsLog 
 turn-few log y k None is = omega arith
 turn-few log y k (Some t) is = let l = thread-few log y k t (next_kind t y.memory) is in omega (arith, l)
 
-now-few : (log : LogParts) (y : Played) (now : Now) → IsLog log → now_work log y now ≤ 4101
+now-few : (log : LogParts) (y : Played) (now : TurnOrEnd) → IsLog log → now_work log y now ≤ 4101
 now-few log y (Ended how) is = omega arith
 now-few log y TurnOfDma is = let l = dma-verdict-words log y.progress y.used is in omega (arith, l)
 now-few log y (Turn k) is = turn-few log y k (slice_get y.threads k) is

@@ -17,7 +17,7 @@ use Rattle.spec_protocol.specs.declared.event.Event.{Event}
 use Rattle.spec_protocol.specs.machine.Spheres.{Role, Plain, Record, Replay, Sphere, limit_of}
 use Rattle.spec_protocol.specs.machine.Commits.{serial_in, serial_moved, live_dma, dma_log, dma_in, dma_moved}
 use Rattle.spec_protocol.specs.machine.Placing.{replays}
-use Rattle.spec_protocol.specs.machine.World.{Numbers, World, What, OfChunk, OfSerial, OfDma, OfRaise, Move, sphere_at}
+use Rattle.spec_protocol.specs.machine.World.{Numbers, World, MoveKind, OfChunk, OfSerial, OfDma, OfRaise, Move, sphere_at}
 use Rattle.spec_protocol.specs.machine.Machine.{first_played, RoleSetup, IsPlain, IsRecorded, IsReplayed, SphereSetup, Setup, world_of, happens, moves}
 use Rattle.spec_protocol.specs.machine.Serial.{SerialState}
 use Rattle.spec_protocol.specs.machine.Shown.{words_of, flying, shown_of}
@@ -139,7 +139,7 @@ dma-moved-few : (z : Numbers) (devices : Devices) (p : Sphere) → replays p.rol
 unfolding dma_moved
 dma-moved-few z devices p live few = dma-in-few z p.role devices p live few
 
-what-few : (z : Numbers) (devices : Devices) (p : Sphere) (moment : ℕ) (a : What) → replays p.role ≡ false → IsFew z devices p → FitsWhat z devices p a → what_work p devices moment a ≤ 4101
+what-few : (z : Numbers) (devices : Devices) (p : Sphere) (moment : ℕ) (a : MoveKind) → replays p.role ≡ false → IsFew z devices p → FitsWhat z devices p a → what_work p devices moment a ≤ 4101
 what-few z devices p moment (OfChunk k how n limit) live few fits = chunk-few z devices p k how n limit (slice_get p.threads k) few fits
 what-few z devices p moment (OfSerial k) live few fits = serial-few z devices p moment k (slice_get p.threads k) live few
 what-few z devices p moment OfDma live few fits = dma-moved-few z devices p live few

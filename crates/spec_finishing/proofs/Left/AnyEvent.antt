@@ -2,7 +2,7 @@
 use Rattle.std.proofs.Common.{◌≡◌, ℕ, ◌+◌, ◌≤◌, Option, Some, None, refl, ap, arith}
 use Rattle.spec_isa.specs.declared.thread.Parts.{Parts}
 use Rattle.spec_protocol.specs.declared.reply.Reply.{Reply}
-use Rattle.spec_protocol.specs.machine.World.{World, Move, After, sphere_at, with_sphere, core_of, answered}
+use Rattle.spec_protocol.specs.machine.World.{World, Move, EventOutcome, sphere_at, with_sphere, core_of, answered}
 use Rattle.spec_protocol.specs.machine.Serial.{SerialState}
 use Rattle.spec_protocol.specs.machine.Shown.{shown_of}
 use Rattle.spec_protocol.specs.machine.Commits.{raised}
@@ -20,7 +20,7 @@ if_most c x None = 0
 if_most c x (Some m) = move_most c x m
 
 -- the flights may have more left than before, by the flight of the move
-abbrev pub Flies : (c : ℕ) → World → After → Type 0
+abbrev pub Flies : (c : ℕ) → World → EventOutcome → Type 0
 Flies c w a = flights_rank c a.world.slots ≤ flights_rank c w.slots + if_most c (shown_of w) a.move
 
 -- an event that only answers leaves the flights as they are
@@ -39,7 +39,7 @@ cut-flies c w d = any-cut w (Flies c w) (λ r none. still_flies c w r) d (λ h i
 
 -- ---- flights
 
-flies_from : (c : ℕ) (w : World) (a : After) → flights_rank c a.world.slots ≤ flights_rank c w.slots → Flies c w a
+flies_from : (c : ℕ) (w : World) (a : EventOutcome) → flights_rank c a.world.slots ≤ flights_rank c w.slots → Flies c w a
 flies_from c w a l = omega (arith, l)
 
 -- a drain adds nothing to what is left of the flights

@@ -5,7 +5,7 @@ use Rattle.spec_engine.specs.declared.answers.Deliver.{Deliver}
 use Rattle.spec_engine.specs.declared.answers.Retire.{Retire}
 use Rattle.spec_engine.specs.Signatures.{Signature}
 use Rattle.spec_engine.specs.Flights.{Flight, at, told_at, tell, meets_chunk, drain_words, deliver, Delivered, is_done, retire, Retired}
-use Rattle.spec_protocol.specs.machine.World.{World, Occupant, After, sphere_at, with_slot}
+use Rattle.spec_protocol.specs.machine.World.{World, Occupant, EventOutcome, sphere_at, with_slot}
 use Rattle.spec_protocol.specs.machine.Flying.{drain_slot, draining, reads_of, writes_of, told, deliver_to, delivering, retiring, younger_of, hits_younger}
 use Rattle.spec_protocol.proofs.Memory.Slots.{at_within}
 use Rattle.spec_protocol.proofs.Invariants.Cores.{branch}
@@ -15,7 +15,7 @@ use Rattle.spec_finishing.proofs.Left.Slots.{flights-set, untold-less}
 -- ---- no more
 
 -- the flights have no more left than before
-abbrev pub NoMore : (cores : ℕ) → World → After → Type 0
+abbrev pub NoMore : (cores : ℕ) → World → EventOutcome → Type 0
 NoMore c w a = flights_rank c a.world.slots ≤ flights_rank c w.slots
 
 -- a slot that holds a flight has no more left

@@ -4,7 +4,7 @@ use Rattle.std.specs.Prelude.{slice_get}
 use Rattle.std.proofs.lemmas.Option.{none-some}
 use Rattle.spec_protocol.specs.declared.event.Event.{Event}
 use Rattle.spec_protocol.specs.machine.Spheres.{Cursor, Replay, Sphere}
-use Rattle.spec_protocol.specs.machine.World.{Numbers, World, Move, After}
+use Rattle.spec_protocol.specs.machine.World.{Numbers, World, Move, EventOutcome}
 use Rattle.spec_protocol.specs.machine.Machine.{Setup, core_no, sphere_no, slot_no, act, happens}
 use Rattle.spec_protocol.specs.machine.Serial.{SerialState}
 use Rattle.spec_protocol.specs.machine.Shown.{shown_of}
@@ -67,7 +67,7 @@ happens-spends s w e known =
     let same = ap (λ (x : SerialState). spheres_rank s.cores s.spheres x.spheres) kept.whole in
     omega (arith, flies, pays, now, was, same)
 
-moves_more : (s : Setup) (w : World) (a : After) (m : Move) (o : Option Move) (p : Sphere) (b : Cursor) → o ≡ Some m → a.move ≡ o → Known s w → Preserved w a → Flies s.cores w a → slice_get (shown_of w).spheres m.sphere ≡ Some p → p.role ≡ Replay b
+moves_more : (s : Setup) (w : World) (a : EventOutcome) (m : Move) (o : Option Move) (p : Sphere) (b : Cursor) → o ≡ Some m → a.move ≡ o → Known s w → Preserved w a → Flies s.cores w a → slice_get (shown_of w).spheres m.sphere ≡ Some p → p.role ≡ Replay b
     → potential s a.world + what_more m.what ≤ potential s w
 moves_more s w a m None p b e move known kept flies is role = absurd (none-some m e)
 moves_more s w a m (Some n) p b e move known kept flies is role =

@@ -15,10 +15,10 @@ use Rattle.spec_engine.proofs.Searches.{first_some}
 use Rattle.spec_protocol.specs.declared.event.Event.{Event}
 use Rattle.spec_protocol.specs.declared.reply.Reply.{Reply}
 use Rattle.spec_protocol.specs.machine.Spheres.{is_stopped}
-use Rattle.spec_protocol.specs.machine.World.{World, Occupant, After, sphere_at, runs, core_of, answered}
+use Rattle.spec_protocol.specs.machine.World.{World, Occupant, EventOutcome, sphere_at, runs, core_of, answered}
 use Rattle.spec_protocol.specs.machine.Stepping.{reply_of_step, stepped, step_held, stepping, younger_for, step_younger}
 use Rattle.spec_protocol.specs.machine.Machine.{core_no, act, with_event, happens}
-use Rattle.spec_protocol.specs.machine.Finishing.{Who, least, standing, untold, deliver_or_retire, for_flight, for_held, for_core, for_actor, for_who, for_slot, for_standing, next}
+use Rattle.spec_protocol.specs.machine.Finishing.{SphereTurn, least, standing, untold, deliver_or_retire, for_flight, for_held, for_core, for_actor, for_who, for_slot, for_standing, next}
 use Rattle.spec_protocol.proofs.Memory.Slots.{at-set_same, at_within}
 use Rattle.spec_finishing.proofs.Next.Turns.{no-flight}
 use Rattle.spec_finishing.proofs.Next.UnderWay.{OnCore, on-core}
@@ -125,7 +125,7 @@ actor_next : (w : World) (i d : ℕ) (actor : Actor) → standing w ≡ None →
 actor_next w i d Actor.Dma none turn same = absurd (cc)
 actor_next w i d (Actor.Thread k) none turn same = core_next w i k d (core_of w i k) none turn refl same
 
-who_next : (w : World) (d : ℕ) (o : Option Who) → standing w ≡ None → least 0 w.spheres ≡ o → for_who w o ≡ Some (Event.Step d) → StepIsNext w d
+who_next : (w : World) (d : ℕ) (o : Option SphereTurn) → standing w ≡ None → least 0 w.spheres ≡ o → for_who w o ≡ Some (Event.Step d) → StepIsNext w d
 who_next w d None none turn same = absurd (none-some _ same)
 who_next w d (Some who) none turn same = actor_next w who.sphere d who.actor none turn same
 
@@ -158,7 +158,7 @@ ran_is (Stepped.Closed how) e = absurd (cc)
 ran_is (Stepped.Bounced k) e = absurd (cc)
 
 -- what a step that ran leaves has the same step next
-abbrev Again : (c : ℕ) → After → Type 0
+abbrev Again : (c : ℕ) → EventOutcome → Type 0
 Again c a = a.reply ≡ Reply.Ran → next (with_event a) ≡ Some (Event.Step c)
 
 stopped_is : (w : World) (c : ℕ) (h : Occupant) → at w.cores c ≡ Some h → is_stopped (sphere_at w h.chunk.sphere).role ≡ true → stepping w c ≡ answered w Reply.Stopped

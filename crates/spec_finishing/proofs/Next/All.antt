@@ -12,13 +12,13 @@ use Rattle.spec_engine.proofs.Searches.{first_some}
 use Rattle.spec_protocol.specs.declared.event.Event.{Event}
 use Rattle.spec_protocol.specs.machine.Spheres.{Sphere}
 use Rattle.spec_protocol.specs.machine.Placing.{replays}
-use Rattle.spec_protocol.specs.machine.World.{World, Occupant, After, sphere_at, core_of}
+use Rattle.spec_protocol.specs.machine.World.{World, Occupant, EventOutcome, sphere_at, core_of}
 use Rattle.spec_protocol.specs.machine.Stepping.{stepping}
 use Rattle.spec_protocol.specs.machine.Asking.{asking}
 use Rattle.spec_protocol.specs.machine.Transferring.{transferring}
 use Rattle.spec_protocol.specs.machine.Machine.{Setup, core_no, sphere_no, act, happens}
 use Rattle.spec_protocol.specs.machine.Shown.{shown_of}
-use Rattle.spec_protocol.specs.machine.Finishing.{Who, least, standing, for_flight, for_held, for_core, for_actor, for_who, for_slot, for_standing, next}
+use Rattle.spec_protocol.specs.machine.Finishing.{SphereTurn, least, standing, for_flight, for_held, for_core, for_actor, for_who, for_slot, for_standing, next}
 use Rattle.spec_protocol.proofs.Memory.Slots.{at_within}
 use Rattle.spec_protocol.proofs.Moves.AnyEvent.{any-step}
 use Rattle.spec_finishing.specs.Rank.{held_under_way, core_under_way, actor_under_way, under_way}
@@ -33,7 +33,7 @@ use Rattle.spec_finishing.proofs.Next.Commits.{Commits, ask-commits, dma-commits
 use Rattle.spec_finishing.proofs.Next.Events.{Lowers, words_fall, rose_falls, place_act}
 
 -- what is under way on the core of the thread whose turn it is
-under_way_on : (w : World) (who : Who) (k c : ℕ) (h : Occupant) → standing w ≡ None → least 0 w.spheres ≡ Some who → who.actor ≡ Actor.Thread k → core_of w who.sphere k ≡ Some c → at w.cores c ≡ Some h → under_way w ≡ held_under_way (Some h)
+under_way_on : (w : World) (who : SphereTurn) (k c : ℕ) (h : Occupant) → standing w ≡ None → least 0 w.spheres ≡ Some who → who.actor ≡ Actor.Thread k → core_of w who.sphere k ≡ Some c → at w.cores c ≡ Some h → under_way w ≡ held_under_way (Some h)
 under_way_on w who k c h none is thread found there =
     under_way-actor w who none is ∙ ap (actor_under_way w who.sphere) thread ∙ ap (core_under_way w) found ∙ ap held_under_way there
 
@@ -43,9 +43,9 @@ core_is w c h there = mod-eq_of_lt (at_within w.cores c h there)
 -- ---- Step
 
 step_move : (w : World) (c : ℕ) → (stepping w c).move ≡ None
-step_move w c = any-step w (λ (a : After). a.move ≡ None) (λ r none. refl) c (λ h is opened. refl) (λ h y is e opened. refl)
+step_move w c = any-step w (λ (a : EventOutcome). a.move ≡ None) (λ r none. refl) c (λ h is opened. refl) (λ h y is e opened. refl)
 
-step_act : (s : Setup) (w : World) (who : Who) (k c : ℕ) (h : Occupant) → Known s w → Known s (happens w (Event.Step c)).world → standing w ≡ None → least 0 w.spheres ≡ Some who → who.actor ≡ Actor.Thread k → core_of w who.sphere k ≡ Some c → OnCore w who.sphere k c h → is_open h.chunk ≡ true
+step_act : (s : Setup) (w : World) (who : SphereTurn) (k c : ℕ) (h : Occupant) → Known s w → Known s (happens w (Event.Step c)).world → standing w ≡ None → least 0 w.spheres ≡ Some who → who.actor ≡ Actor.Thread k → core_of w who.sphere k ≡ Some c → OnCore w who.sphere k c h → is_open h.chunk ≡ true
     → Lowers s w (Event.Step c)
 unfolding act
 step_act s w who k c h known next_known none is thread found on open_ =
@@ -64,7 +64,7 @@ move_is : (w : World) (e : Event) (i n : ℕ) → Commits i n (act w e) → Comm
 unfolding happens
 move_is w e i n c = record { done = c.done; move = c.move; is = c.is; sphere = c.sphere; more = c.more }
 
-commit_falls : (s : Setup) (w : World) (e : Event) (who : Who) (n : ℕ) → Known s w → Known s (happens w e).world → standing w ≡ None → least 0 w.spheres ≡ Some who → Commits who.sphere n (act w e) → under_way w ≤ n + 2 → Lowers s w e
+commit_falls : (s : Setup) (w : World) (e : Event) (who : SphereTurn) (n : ℕ) → Known s w → Known s (happens w e).world → standing w ≡ None → least 0 w.spheres ≡ Some who → Commits who.sphere n (act w e) → under_way w ≤ n + 2 → Lowers s w e
 commit_falls s w e who n known next_known none is commits few =
     let a = has-actor s w who known none is in
     let c = move_is w e who.sphere n commits in
@@ -84,7 +84,7 @@ closed_is ch e =
       | Some how ↦ λ h. (how, refl)
     ] e
 
-ask_act : (s : Setup) (w : World) (who : Who) (k c : ℕ) (h : Occupant) → Known s w → Known s (happens w (Event.Ask c)).world → 0 < s.window → standing w ≡ None → least 0 w.spheres ≡ Some who → who.actor ≡ Actor.Thread k → core_of w who.sphere k ≡ Some c → OnCore w who.sphere k c h → is_open h.chunk ≡ false
+ask_act : (s : Setup) (w : World) (who : SphereTurn) (k c : ℕ) (h : Occupant) → Known s w → Known s (happens w (Event.Ask c)).world → 0 < s.window → standing w ≡ None → least 0 w.spheres ≡ Some who → who.actor ≡ Actor.Thread k → core_of w who.sphere k ≡ Some c → OnCore w who.sphere k c h → is_open h.chunk ≡ false
     → Lowers s w (Event.Ask c)
 unfolding act
 ask_act s w who k c h known next_known window none is thread found on closed =
@@ -98,7 +98,7 @@ ask_act s w who k c h known next_known window none is thread found on closed =
     let one = one_at_most (is_open h.chunk) in
     commit_falls s w (Event.Ask c) who h.chunk.done.n known next_known none is commits (omega (arith, was, one))
 
-dma_act : (s : Setup) (w : World) (who : Who) → Known s w → Known s (happens w (Event.Dma who.sphere)).world → 0 < s.window → standing w ≡ None → least 0 w.spheres ≡ Some who → who.actor ≡ Actor.Dma → Lowers s w (Event.Dma who.sphere)
+dma_act : (s : Setup) (w : World) (who : SphereTurn) → Known s w → Known s (happens w (Event.Dma who.sphere)).world → 0 < s.window → standing w ≡ None → least 0 w.spheres ≡ Some who → who.actor ≡ Actor.Dma → Lowers s w (Event.Dma who.sphere)
 unfolding act
 dma_act s w who known next_known window none is dma =
     let a : HasActor s w who.sphere Actor.Dma = subst (HasActor s w who.sphere) dma (has-actor s w who known none is) in
@@ -119,11 +119,11 @@ pub record Goes (s : Setup) (w : World) : Type 0 where
   pub cores : 0 < s.cores
   pub window : 0 < s.window
 
-open_falls : (s : Setup) (w : World) (who : Who) (k c : ℕ) (h : Occupant) (e : Event) (b : Bool) → Goes s w → standing w ≡ None → least 0 w.spheres ≡ Some who → who.actor ≡ Actor.Thread k → core_of w who.sphere k ≡ Some c → OnCore w who.sphere k c h → is_open h.chunk ≡ b → cond b (Event.Step c) (Event.Ask c) ≡ e → Lowers s w e
+open_falls : (s : Setup) (w : World) (who : SphereTurn) (k c : ℕ) (h : Occupant) (e : Event) (b : Bool) → Goes s w → standing w ≡ None → least 0 w.spheres ≡ Some who → who.actor ≡ Actor.Thread k → core_of w who.sphere k ≡ Some c → OnCore w who.sphere k c h → is_open h.chunk ≡ b → cond b (Event.Step c) (Event.Ask c) ≡ e → Lowers s w e
 open_falls s w who k c h e true g none is thread found on open_ same = subst (Lowers s w) same (step_act s w who k c h g.known (g.next_known (Event.Step c)) none is thread found on open_)
 open_falls s w who k c h e false g none is thread found on open_ same = subst (Lowers s w) same (ask_act s w who k c h g.known (g.next_known (Event.Ask c)) g.window none is thread found on open_)
 
-core_falls : (s : Setup) (w : World) (who : Who) (k : ℕ) (e : Event) (o : Option ℕ) → Goes s w → standing w ≡ None → least 0 w.spheres ≡ Some who → who.actor ≡ Actor.Thread k → core_of w who.sphere k ≡ o → for_core w who.sphere k o ≡ Some e → Lowers s w e
+core_falls : (s : Setup) (w : World) (who : SphereTurn) (k : ℕ) (e : Event) (o : Option ℕ) → Goes s w → standing w ≡ None → least 0 w.spheres ≡ Some who → who.actor ≡ Actor.Thread k → core_of w who.sphere k ≡ o → for_core w who.sphere k o ≡ Some e → Lowers s w e
 core_falls s w who k e None g none is thread found same =
     let h : Event.Place 0 who.sphere k ≡ e = cc in
     subst (Lowers s w) h (place_act s w who k g.known (g.next_known (Event.Place 0 who.sphere k)) g.cores none is thread found)
@@ -132,13 +132,13 @@ core_falls s w who k e (Some c) g none is thread found same =
     let h : Some (cond (is_open on.0.chunk) (Event.Step c) (Event.Ask c)) ≡ Some e = sym (ap (for_held c) on.1.there) ∙ same in
     open_falls s w who k c on.0 e (is_open on.0.chunk) g none is thread found on.1 refl (let x : cond (is_open on.0.chunk) (Event.Step c) (Event.Ask c) ≡ e = cc in x)
 
-actor_falls : (s : Setup) (w : World) (who : Who) (e : Event) (actor : Actor) → Goes s w → standing w ≡ None → least 0 w.spheres ≡ Some who → who.actor ≡ actor → for_actor w who.sphere actor ≡ Some e → Lowers s w e
+actor_falls : (s : Setup) (w : World) (who : SphereTurn) (e : Event) (actor : Actor) → Goes s w → standing w ≡ None → least 0 w.spheres ≡ Some who → who.actor ≡ actor → for_actor w who.sphere actor ≡ Some e → Lowers s w e
 actor_falls s w who e Actor.Dma g none is turn same =
     let h : Event.Dma who.sphere ≡ e = cc in
     subst (Lowers s w) h (dma_act s w who g.known (g.next_known (Event.Dma who.sphere)) g.window none is turn)
 actor_falls s w who e (Actor.Thread k) g none is turn same = core_falls s w who k e (core_of w who.sphere k) g none is turn refl same
 
-who_falls : (s : Setup) (w : World) (e : Event) (o : Option Who) → Goes s w → standing w ≡ None → least 0 w.spheres ≡ o → for_who w o ≡ Some e → Lowers s w e
+who_falls : (s : Setup) (w : World) (e : Event) (o : Option SphereTurn) → Goes s w → standing w ≡ None → least 0 w.spheres ≡ o → for_who w o ≡ Some e → Lowers s w e
 who_falls s w e None g none is same = absurd (none-some e same)
 who_falls s w e (Some who) g none is same = actor_falls s w who e who.actor g none is refl same
 
@@ -164,7 +164,7 @@ actor_next w i (Actor.Thread k) e = core_next w i k (core_of w i k) refl e
     core_next w i k None found e = none-some _ (sym e)
     core_next w i k (Some c) found e = let on = on-core w i k c found in none-some _ (sym (sym (ap (for_held c) on.1.there) ∙ e))
 
-who_next : (w : World) (o : Option Who) → for_who w o ≡ None → o ≡ None
+who_next : (w : World) (o : Option SphereTurn) → for_who w o ≡ None → o ≡ None
 who_next w None e = refl
 who_next w (Some who) e = absurd (actor_next w who.sphere who.actor e)
 

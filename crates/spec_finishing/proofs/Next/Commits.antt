@@ -12,7 +12,7 @@ use Rattle.spec_play.specs.Transfers.{dma_verdict}
 use Rattle.spec_protocol.specs.declared.reply.Reply.{Reply}
 use Rattle.spec_protocol.specs.machine.Spheres.{other_than, turn_in, turn_against, Cursor, Role, Replay, Sphere, is_stopped, actor_of, head_in, head_of}
 use Rattle.spec_protocol.specs.machine.Commits.{CommitOutcome, Granted, Piece, Diverged, MovedSphere, is_piece, chunk_moved, serial_moved, dma_by_verdict, dma_in, dma_moved}
-use Rattle.spec_protocol.specs.machine.World.{World, Occupant, Move, After, moment, sphere_at, answered}
+use Rattle.spec_protocol.specs.machine.World.{World, Occupant, Move, EventOutcome, moment, sphere_at, answered}
 use Rattle.spec_protocol.specs.machine.Asking.{CommitRequest, move_at, granted, chunk_request, grant_chunk, serial_request, grant_serial, unless_denied, unless_busy, asks_serial, ask_arbiter, unless_turn, ask_closed, ask_held, asking}
 use Rattle.spec_protocol.specs.machine.Transferring.{dma_move, dma_done, transfer, dma_with, dma_if, transferring}
 use Rattle.spec_protocol.specs.machine.Machine.{Setup}
@@ -24,7 +24,7 @@ use Rattle.spec_finishing.proofs.Next.UnderWay.{OnCore}
 use Rattle.spec_finishing.proofs.Next.StepRises.{none_found}
 
 -- the event is done, and has a move in sphere i, which pays for n events and three
-pub record Commits (i n : ℕ) (a : After) : Type 0 where
+pub record Commits (i n : ℕ) (a : EventOutcome) : Type 0 where
   pub done : furthers_finishing a.reply ≡ true
   pub move : Move
   pub is : a.move ≡ Some move
@@ -40,11 +40,11 @@ not_full xs (Some k) e none l = refl
 room_there : (xs : List (Option Flight)) → ((k : ℕ) → at xs k ≡ None) → 0 < length xs → is_full xs ≡ false
 room_there xs none l = not_full xs (free_slot xs) refl none l
 
-not_denied : (w : World) (a : After) (reads writes : Signature) → ((k : ℕ) → at w.slots k ≡ None) → unless_denied (ask reads writes w.slots) w a ≡ a
+not_denied : (w : World) (a : EventOutcome) (reads writes : Signature) → ((k : ℕ) → at w.slots k ≡ None) → unless_denied (ask reads writes w.slots) w a ≡ a
 not_denied w a reads writes none =
     ap (λ (o : Option ℕ). unless_denied (denied_by o) w a) (none_found (meets_chunk reads writes) w.slots (first_slot (meets_chunk reads writes) w.slots) refl none)
 
-not_busy : (w : World) (a : After) (i : ℕ) → ((k : ℕ) → at w.slots k ≡ None) → unless_busy (ask_serial i w.slots) w a ≡ a
+not_busy : (w : World) (a : EventOutcome) (i : ℕ) → ((k : ℕ) → at w.slots k ≡ None) → unless_busy (ask_serial i w.slots) w a ≡ a
 not_busy w a i none =
     ap (λ (o : Option ℕ). unless_busy (busy_by o) w a) (none_found (is_of_sphere i) w.slots (first_slot (is_of_sphere i) w.slots) refl none)
 

@@ -12,7 +12,7 @@ use Rattle.spec_engine.specs.Chunks.{step, is_open, fresh}
 use Rattle.spec_engine.proofs.Searches.{first_least, first_is}
 use Rattle.spec_protocol.specs.declared.reply.Reply.{Reply}
 use Rattle.spec_protocol.specs.machine.Spheres.{Sphere, is_stopped, limit_of, halves}
-use Rattle.spec_protocol.specs.machine.World.{World, Occupant, After, sphere_at, with_core, thread_afresh, held_afresh, runs, core_of, answered}
+use Rattle.spec_protocol.specs.machine.World.{World, Occupant, EventOutcome, sphere_at, with_core, thread_afresh, held_afresh, runs, core_of, answered}
 use Rattle.spec_protocol.specs.machine.Stepping.{stepped, step_held, stepping, younger_for, step_younger}
 use Rattle.spec_protocol.specs.machine.Placing.{unless_elsewhere, place_thread, placing}
 use Rattle.spec_protocol.specs.machine.Machine.{Setup}
@@ -51,7 +51,7 @@ runs_it i k h sphere thread = and_from (eqb h.chunk.sphere i) (eqb h.thread k) (
 -- ---- one core changes
 
 -- the event is done, changes only core c, which then runs the thread, and more is under way
-pub record Rose (w : World) (i k : ℕ) (a : After) : Type 0 where
+pub record Rose (w : World) (i k : ℕ) (a : EventOutcome) : Type 0 where
   pub done : furthers_finishing a.reply ≡ true
   pub core : ℕ
   pub held : Occupant
@@ -73,7 +73,7 @@ step_is w c h is going open_ =
     ∙ ap {A = Bool} (λ b. cond b (stepped w c h s) closed) open_
 
 -- the step's chunk has got further
-pub record StepRose (w : World) (i k : ℕ) (n : ℕ) (a : After) : Type 0 where
+pub record StepRose (w : World) (i k : ℕ) (n : ℕ) (a : EventOutcome) : Type 0 where
   pub rose : Rose w i k a
   pub more : suc n < held_under_way (Some rose.held)
 

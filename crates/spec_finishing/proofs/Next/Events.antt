@@ -6,14 +6,14 @@ use Rattle.spec_isa.specs.Words.{Stored}
 use Rattle.spec_engine.specs.declared.answers.Deliver.{Deliver}
 use Rattle.spec_engine.specs.Flights.{Flight, at, deliver}
 use Rattle.spec_protocol.specs.declared.event.Event.{Event}
-use Rattle.spec_protocol.specs.machine.World.{World, Occupant, After, with_slot, core_of}
+use Rattle.spec_protocol.specs.machine.World.{World, Occupant, EventOutcome, with_slot, core_of}
 use Rattle.spec_protocol.specs.machine.Flying.{drain_slot, draining, told, delivering, reads_of, writes_of, retiring, younger_of, hits_younger}
 use Rattle.spec_protocol.specs.machine.Placing.{placing}
 use Rattle.spec_protocol.specs.machine.Machine.{Setup, core_no, sphere_no, slot_no, act, with_event, happens}
 use Rattle.spec_protocol.specs.machine.Serial.{SerialState}
 use Rattle.spec_protocol.specs.machine.Shown.{shown_of}
 use Rattle.spec_protocol.specs.machine.Moves.{do_if}
-use Rattle.spec_protocol.specs.machine.Finishing.{untold, deliver_or_retire, for_flight, Who, least, standing}
+use Rattle.spec_protocol.specs.machine.Finishing.{untold, deliver_or_retire, for_flight, SphereTurn, least, standing}
 use Rattle.spec_protocol.proofs.Memory.Slots.{at_within}
 use Rattle.spec_protocol.proofs.Moves.AnyEvent.{any-place}
 use Rattle.spec_protocol.proofs.Invariants.Schedules.{happens-preserved}
@@ -115,14 +115,14 @@ words_fall s w k f (x ∷ xs) known stands is words = drain_act s w k f x xs kno
 
 -- ---- a thread's core
 
-rose_under_way : (w : World) (who : Who) (k : ℕ) (a : After) → standing w ≡ None → least 0 w.spheres ≡ Some who → who.actor ≡ Actor.Thread k → (r : Rose w who.sphere k a) → under_way (with_event a) ≡ held_under_way (Some r.held)
+rose_under_way : (w : World) (who : SphereTurn) (k : ℕ) (a : EventOutcome) → standing w ≡ None → least 0 w.spheres ≡ Some who → who.actor ≡ Actor.Thread k → (r : Rose w who.sphere k a) → under_way (with_event a) ≡ held_under_way (Some r.held)
 rose_under_way w who k a none e thread r =
     under_way-actor (with_event a) who (ap standing r.is ∙ none) (ap (λ (v : World). least 0 v.spheres) r.is ∙ e)
     ∙ ap (actor_under_way (with_event a) who.sphere) thread
     ∙ ap (core_under_way (with_event a)) r.found
     ∙ ap held_under_way r.there
 
-rose_potential : (s : Setup) (w : World) (i k : ℕ) (a : After) → Rose w i k a → potential s (with_event a) ≡ potential s w
+rose_potential : (s : Setup) (w : World) (i k : ℕ) (a : EventOutcome) → Rose w i k a → potential s (with_event a) ≡ potential s w
 rose_potential s w i k a r = ap (potential s) r.is
 
 world_happens : (w : World) (e : Event) → (happens w e).world ≡ with_event (act w e)
@@ -134,7 +134,7 @@ unfolding happens
 reply_happens w e = refl
 
 -- an event by which a thread's chunk has got further, and which moves nothing, leaves less
-pub rose_falls : (s : Setup) (w : World) (who : Who) (k : ℕ) (e : Event) → Known s w → Known s (happens w e).world → standing w ≡ None → least 0 w.spheres ≡ Some who → who.actor ≡ Actor.Thread k → (r : Rose w who.sphere k (act w e)) → (act w e).move ≡ None → under_way w < held_under_way (Some r.held) → Lowers s w e
+pub rose_falls : (s : Setup) (w : World) (who : SphereTurn) (k : ℕ) (e : Event) → Known s w → Known s (happens w e).world → standing w ≡ None → least 0 w.spheres ≡ Some who → who.actor ≡ Actor.Thread k → (r : Rose w who.sphere k (act w e)) → (act w e).move ≡ None → under_way w < held_under_way (Some r.held) → Lowers s w e
 rose_falls s w who k e known next_known none is thread r no_move more =
     let now = ap under_way (world_happens w e) ∙ rose_under_way w who k (act w e) none is thread r in
     let same = ap (potential s) (world_happens w e) ∙ rose_potential s w who.sphere k (act w e) r in
@@ -142,10 +142,10 @@ rose_falls s w who k e known next_known none is thread r no_move more =
     record { done = ap furthers_finishing (reply_happens w e) ∙ r.done; less = omega (arith, now, same, most, more); alone = nothing_alone w e no_move }
 
 place_move : (w : World) (c i k : ℕ) → (placing w c i k).move ≡ None
-place_move w c i k = any-place w (λ (a : After). a.move ≡ None) (λ r none. refl) c i k (λ t is live none. refl)
+place_move w c i k = any-place w (λ (a : EventOutcome). a.move ≡ None) (λ r none. refl) c i k (λ t is live none. refl)
 
 -- placing the thread whose turn it is leaves less
-pub place_act : (s : Setup) (w : World) (who : Who) (k : ℕ) → Known s w → Known s (happens w (Event.Place 0 who.sphere k)).world → 0 < s.cores → standing w ≡ None → least 0 w.spheres ≡ Some who → who.actor ≡ Actor.Thread k → core_of w who.sphere k ≡ None → Lowers s w (Event.Place 0 who.sphere k)
+pub place_act : (s : Setup) (w : World) (who : SphereTurn) (k : ℕ) → Known s w → Known s (happens w (Event.Place 0 who.sphere k)).world → 0 < s.cores → standing w ≡ None → least 0 w.spheres ≡ Some who → who.actor ≡ Actor.Thread k → core_of w who.sphere k ≡ None → Lowers s w (Event.Place 0 who.sphere k)
 unfolding act
 place_act s w who k known next_known some none is thread free =
     let i = who.sphere in

@@ -7,7 +7,7 @@ use Rattle.spec_engine.specs.declared.answers.Deliver.{Deliver}
 use Rattle.spec_engine.specs.declared.answers.Retire.{Retire}
 use Rattle.spec_engine.specs.Flights.{Flight, at, told_at, all_told, tell, meets_chunk, has_none, deliver, Delivered, is_done, retire, Retired}
 use Rattle.spec_engine.proofs.Searches.{all_told-from}
-use Rattle.spec_protocol.specs.machine.World.{World, Occupant, After, with_slot, answered}
+use Rattle.spec_protocol.specs.machine.World.{World, Occupant, EventOutcome, with_slot, answered}
 use Rattle.spec_protocol.specs.machine.Flying.{drain_slot, draining, reads_of, writes_of, told, deliver_to, delivering, reply_of_retire, retiring, younger_of, hits_younger}
 use Rattle.spec_protocol.specs.machine.Finishing.{untold}
 use Rattle.spec_protocol.proofs.Memory.Slots.{at_within}
@@ -17,7 +17,7 @@ use Rattle.spec_finishing.proofs.Left.Slots.{flights-set, untold-tell}
 use Rattle.spec_finishing.proofs.Left.Flying.{told_world}
 
 -- the event is done, and the flights have less left
-pub record FlightFalls (c : ℕ) (w : World) (a : After) : Type 0 where
+pub record FlightFalls (c : ℕ) (w : World) (a : EventOutcome) : Type 0 where
   pub done : furthers_finishing a.reply ≡ true
   pub less : flights_rank c a.world.slots < flights_rank c w.slots
 

@@ -7,12 +7,12 @@ use Rattle.dl_entry.specs.declared.Actor.{Actor}
 use Rattle.spec_isa.specs.Words.{lays}
 use Rattle.spec_engine.specs.Flights.{Flight, at}
 use Rattle.spec_engine.proofs.Searches.{first_none}
-use Rattle.spec_play.specs.Turns.{Now, Turn, TurnOfDma, Ended}
+use Rattle.spec_play.specs.Turns.{TurnOrEnd, Turn, TurnOfDma, Ended}
 use Rattle.spec_protocol.specs.machine.Spheres.{Cursor, Role, Plain, Record, Replay, Sphere, no_sphere, is_over, actor_of}
 use Rattle.spec_protocol.specs.machine.World.{World, sphere_at}
 use Rattle.spec_protocol.specs.machine.Machine.{SphereSetup, Setup}
 use Rattle.spec_protocol.specs.machine.Shown.{flying, shown, shown_from, shown_of}
-use Rattle.spec_protocol.specs.machine.Finishing.{Who, who_in, who_of, least, standing}
+use Rattle.spec_protocol.specs.machine.Finishing.{SphereTurn, who_in, who_of, least, standing}
 use Rattle.spec_finishing.specs.Ending.{IsAtEnd}
 use Rattle.spec_finishing.proofs.Paying.GoingOn.{GoesOn}
 use Rattle.spec_finishing.proofs.Left.AnyAsk.{nothing_flies}
@@ -20,7 +20,7 @@ use Rattle.spec_finishing.proofs.Ending.Knowing.{Known}
 
 -- ---- the lowest replay that still goes on
 
-pub record FoundIn (i : ℕ) (ps : List Sphere) (who : Who) : Type 0 where
+pub record FoundIn (i : ℕ) (ps : List Sphere) (who : SphereTurn) : Type 0 where
   pub index : ℕ
   pub sphere : Sphere
   pub cursor : Cursor
@@ -29,7 +29,7 @@ pub record FoundIn (i : ℕ) (ps : List Sphere) (who : Who) : Type 0 where
   pub role : sphere.role ≡ Replay cursor
   pub actor : actor_of cursor.now ≡ Some who.actor
 
-found_later : (i : ℕ) (p : Sphere) (ps : List Sphere) (who : Who) → FoundIn (suc i) ps who → FoundIn i (p ∷ ps) who
+found_later : (i : ℕ) (p : Sphere) (ps : List Sphere) (who : SphereTurn) → FoundIn (suc i) ps who → FoundIn i (p ∷ ps) who
 found_later i p ps who f =
     record {
       index = suc f.index;
@@ -41,7 +41,7 @@ found_later i p ps who f =
       actor = f.actor;
     }
 
-found_now : (i : ℕ) (p : Sphere) (ps : List Sphere) (who : Who) (b : Cursor) (o : Option Actor) → p.role ≡ Replay b → actor_of b.now ≡ o → who_in i o (least (suc i) ps) ≡ Some who → (least (suc i) ps ≡ Some who → FoundIn i (p ∷ ps) who) → FoundIn i (p ∷ ps) who
+found_now : (i : ℕ) (p : Sphere) (ps : List Sphere) (who : SphereTurn) (b : Cursor) (o : Option Actor) → p.role ≡ Replay b → actor_of b.now ≡ o → who_in i o (least (suc i) ps) ≡ Some who → (least (suc i) ps ≡ Some who → FoundIn i (p ∷ ps) who) → FoundIn i (p ∷ ps) who
 found_now i p ps who b None role is e later = later e
 found_now i p ps who b (Some actor) role is e later =
     let h : record { sphere = i; actor = actor } ≡ who = cc in
@@ -49,31 +49,31 @@ found_now i p ps who b (Some actor) role is e later =
       index = 0;
       sphere = p;
       cursor = b;
-      is = (let x = ap (λ (y : Who). y.sphere) h in omega (arith, x));
+      is = (let x = ap (λ (y : SphereTurn). y.sphere) h in omega (arith, x));
       there = refl;
       role = role;
-      actor = is ∙ ap (λ (y : Who). Some y.actor) h;
+      actor = is ∙ ap (λ (y : SphereTurn). Some y.actor) h;
     }
 
-found_by : (i : ℕ) (p : Sphere) (ps : List Sphere) (who : Who) (role : Role) → p.role ≡ role → who_of i role (least (suc i) ps) ≡ Some who → (least (suc i) ps ≡ Some who → FoundIn i (p ∷ ps) who) → FoundIn i (p ∷ ps) who
+found_by : (i : ℕ) (p : Sphere) (ps : List Sphere) (who : SphereTurn) (role : Role) → p.role ≡ role → who_of i role (least (suc i) ps) ≡ Some who → (least (suc i) ps ≡ Some who → FoundIn i (p ∷ ps) who) → FoundIn i (p ∷ ps) who
 found_by i p ps who Plain is e later = later e
 found_by i p ps who (Record recording) is e later = later e
 found_by i p ps who (Replay b) is e later = found_now i p ps who b (actor_of b.now) is refl e later
 
-pub least-some : (i : ℕ) (ps : List Sphere) (who : Who) → least i ps ≡ Some who → FoundIn i ps who
+pub least-some : (i : ℕ) (ps : List Sphere) (who : SphereTurn) → least i ps ≡ Some who → FoundIn i ps who
 least-some i [] who e = absurd (none-some who e)
 least-some i (p ∷ ps) who e = found_by i p ps who p.role refl e (λ h. found_later i p ps who (least-some (suc i) ps who h))
 
-over_now : (now : Now) → actor_of now ≡ None → is_over now ≡ true
+over_now : (now : TurnOrEnd) → actor_of now ≡ None → is_over now ≡ true
 over_now (Turn k) e = absurd (none-some (Actor.Thread k) (sym e))
 over_now TurnOfDma e = absurd (none-some Actor.Dma (sym e))
 over_now (Ended how) e = refl
 
-ends_in : (i : ℕ) (b : Cursor) (o : Option Actor) (others : Option Who) → actor_of b.now ≡ o → who_in i o others ≡ None → IsAtEnd (Replay b) × (others ≡ None)
+ends_in : (i : ℕ) (b : Cursor) (o : Option Actor) (others : Option SphereTurn) → actor_of b.now ≡ o → who_in i o others ≡ None → IsAtEnd (Replay b) × (others ≡ None)
 ends_in i b None others is e = (over_now b.now is, e)
 ends_in i b (Some actor) others is e = absurd (none-some _ (sym e))
 
-ends_of : (i : ℕ) (role : Role) (others : Option Who) → who_of i role others ≡ None → IsAtEnd role × (others ≡ None)
+ends_of : (i : ℕ) (role : Role) (others : Option SphereTurn) → who_of i role others ≡ None → IsAtEnd role × (others ≡ None)
 ends_of i Plain others e = (tt, e)
 ends_of i (Record recording) others e = (tt, e)
 ends_of i (Replay b) others e = ends_in i b (actor_of b.now) others refl e
@@ -130,13 +130,13 @@ pub record HasActor (s : Setup) (w : World) (i : ℕ) (actor : Actor) : Type 0 w
   pub going : is_over cursor.now ≡ false
   pub goes : GoesOn image sphere cursor
 
-going_now : (now : Now) (actor : Actor) → actor_of now ≡ Some actor → is_over now ≡ false
+going_now : (now : TurnOrEnd) (actor : Actor) → actor_of now ≡ Some actor → is_over now ≡ false
 going_now (Turn k) actor e = refl
 going_now TurnOfDma actor e = refl
 going_now (Ended how) actor e = absurd (none-some actor e)
 
 -- the replay that is to go on next has the actor whose turn it is
-pub has-actor : (s : Setup) (w : World) (who : Who) → Known s w → standing w ≡ None → least 0 w.spheres ≡ Some who → HasActor s w who.sphere who.actor
+pub has-actor : (s : Setup) (w : World) (who : SphereTurn) → Known s w → standing w ≡ None → least 0 w.spheres ≡ Some who → HasActor s w who.sphere who.actor
 has-actor s w who known none e =
     let f = least-some 0 w.spheres who e in
     let same : who.sphere ≡ f.index = (let x = f.is in omega (arith, x)) in
@@ -160,7 +160,7 @@ has-actor s w who known none e =
       goes = known.stands.goes who.sphere image.0 f.sphere f.cursor image.1 shows f.role going;
     }
 
-thread_turn : (now : Now) (k : ℕ) → actor_of now ≡ Some (Actor.Thread k) → now ≡ Turn k
+thread_turn : (now : TurnOrEnd) (k : ℕ) → actor_of now ≡ Some (Actor.Thread k) → now ≡ Turn k
 thread_turn (Turn j) k e = let h : j ≡ k = cc in ap Turn h
 thread_turn TurnOfDma k e = cc
 thread_turn (Ended how) k e = absurd (none-some (Actor.Thread k) e)

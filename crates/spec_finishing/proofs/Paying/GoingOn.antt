@@ -8,7 +8,7 @@ use Rattle.spec_isa.specs.Runs.{run}
 use Rattle.spec_kernel.specs.Interrupts.{is_live}
 use Rattle.spec_log.specs.declared.LogParts.{LogParts}
 use Rattle.spec_play.specs.Progress.{position}
-use Rattle.spec_play.specs.Turns.{Now, Turn, TurnOfDma}
+use Rattle.spec_play.specs.Turns.{TurnOrEnd, Turn, TurnOfDma}
 use Rattle.spec_play.specs.Plays.{Played, opened, plays}
 use Rattle.spec_protocol.specs.machine.Spheres.{Cursor, Replay, Sphere, is_over, whole_limit, limit_of}
 use Rattle.spec_protocol.specs.machine.Machine.{first_played, SphereSetup}
@@ -104,11 +104,11 @@ moved_on image p b k turn s =
 pub has-run : (image : SphereSetup) (p : Sphere) (b : Cursor) (k : ℕ) → GoesOn image p b → b.now ≡ Turn k → (t : Parts) × HasPieces image p b k t
 has-run image p b k g turn =
     let now = sym g.now ∙ turn in
-    moved_on image p b k now (subst (λ (n : Now). StandsAt b.log (play_of image b p) n p b) now g.state)
+    moved_on image p b k now (subst (λ (n : TurnOrEnd). StandsAt b.log (play_of image b p) n p b) now g.state)
 
 -- at a DMA's turn no piece of a commit is done
 pub is-whole : (image : SphereSetup) (p : Sphere) (b : Cursor) → GoesOn image p b → b.now ≡ TurnOfDma → IsWhole (play_of image b p) p b
-is-whole image p b g turn = subst (λ (n : Now). StandsAt b.log (play_of image b p) n p b) (sym g.now ∙ turn) g.state
+is-whole image p b g turn = subst (λ (n : TurnOrEnd). StandsAt b.log (play_of image b p) n p b) (sym g.now ∙ turn) g.state
 
 -- the thread as it is now
 pub thread-now : (image : SphereSetup) (p : Sphere) (b : Cursor) (k : ℕ) (t : Parts) → HasPieces image p b k t → slice_get p.threads k ≡ Some (run (play_of image b p).memory t b.total).thread

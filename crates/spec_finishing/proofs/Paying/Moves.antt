@@ -8,7 +8,7 @@ use Rattle.spec_engine.specs.declared.answers.How.{How}
 use Rattle.spec_protocol.specs.machine.Spheres.{Cursor, Replay, Sphere, is_over, is_stopped}
 use Rattle.spec_protocol.specs.machine.Commits.{MovedSphere, is_piece, chunk_moved, serial_moved, dma_moved, raised}
 use Rattle.spec_protocol.specs.machine.Placing.{replays}
-use Rattle.spec_protocol.specs.machine.World.{Numbers, What, OfChunk, OfSerial, OfDma, OfRaise, Move}
+use Rattle.spec_protocol.specs.machine.World.{Numbers, MoveKind, OfChunk, OfSerial, OfDma, OfRaise, Move}
 use Rattle.spec_protocol.specs.machine.Asking.{is_short}
 use Rattle.spec_protocol.specs.machine.Machine.{SphereSetup}
 use Rattle.spec_protocol.specs.machine.Serial.{SerialState, laid, do_serial, do_dma, do_raise}
@@ -35,7 +35,7 @@ dma_most c None = 0
 dma_most c (Some v) = length v.words + c + 1
 
 -- the most that the flight of a move has left, by what it does
-abbrev pub what_most : (c : ℕ) → Sphere → Devices → (moment : ℕ) → What → ℕ
+abbrev pub what_most : (c : ℕ) → Sphere → Devices → (moment : ℕ) → MoveKind → ℕ
 what_most c p devices moment (OfChunk k how n limit) = n + c + 1
 what_most c p devices moment (OfSerial k) = serial_most c p devices moment k (slice_get p.threads k)
 what_most c p devices moment OfDma = dma_most c (dma_moved devices p)
@@ -51,7 +51,7 @@ abbrev pub move_most : (c : ℕ) → SerialState → Move → ℕ
 move_most c x m = sphere_most c x.devices m (slice_get x.spheres m.sphere)
 
 -- what a replay pays beyond that: for a chunk's instructions, and three more
-abbrev pub what_more : What → ℕ
+abbrev pub what_more : MoveKind → ℕ
 what_more (OfChunk k how n limit) = n + 3
 what_more (OfSerial k) = 3
 what_more OfDma = 3
@@ -96,7 +96,7 @@ module _ (c : ℕ) (images : List SphereSetup) (x : SerialState) (i : ℕ) (imag
         own_pays (raised k value t p) 0 (price c 0) (raised-kind k value t p ∙ live) (omega arith)
 
     -- a move of a sphere that isn't replayed pays for its flight with its own work
-    pub what_own : (z : Numbers) (moment : ℕ) (a : What)
+    pub what_own : (z : Numbers) (moment : ℕ) (a : MoveKind)
         → spheres_rank c images (do_what z x moment i p a).spheres + what_most c p x.devices moment a ≤ spheres_rank c images x.spheres + price c (what_work p x.devices moment a)
     what_own z moment (OfChunk k how n limit) = chunk_own z k how n limit (slice_get p.threads k)
     what_own z moment (OfSerial k) = serial_own k moment (slice_get p.threads k)

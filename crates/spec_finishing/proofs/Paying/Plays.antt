@@ -5,7 +5,7 @@ use Rattle.std.proofs.lemmas.Bool.{true≢false, cases_lt, le-ltb}
 use Rattle.spec_isa.specs.declared.thread.Parts.{Parts}
 use Rattle.spec_log.specs.declared.LogParts.{LogParts}
 use Rattle.spec_play.specs.Progress.{Progress, position, Used}
-use Rattle.spec_play.specs.Turns.{Now, Turn, TurnOfDma, Ended, at_end, turn_of, next_actor, has_left_over, now_at}
+use Rattle.spec_play.specs.Turns.{TurnOrEnd, Turn, TurnOfDma, Ended, at_end, turn_of, next_actor, has_left_over, now_at}
 use Rattle.spec_play.specs.Verdicts.{LogVerdict, Goes, Fails}
 use Rattle.spec_play.specs.Transfers.{DmaVerdict, DmaGoes, DmaFails, dma_verdict}
 use Rattle.spec_play.specs.Plays.{Played, opened, settled, thread_verdict, play_thread, dma_settled, play_now, play_one, plays}
@@ -36,7 +36,7 @@ dma_looked : (log : LogParts) (y : Played) (v : DmaVerdict) → IsLooked log (dm
 dma_looked log y (DmaGoes words) = inl refl
 dma_looked log y (DmaFails why) = inr refl
 
-now_looked : (log : LogParts) (y : Played) (now : Now) → IsLooked log y → IsLooked log (play_now log y now)
+now_looked : (log : LogParts) (y : Played) (now : TurnOrEnd) → IsLooked log y → IsLooked log (play_now log y now)
 now_looked log y (Ended how) looked = looked
 now_looked log y TurnOfDma looked = dma_looked log y (dma_verdict log y.progress y.used)
 now_looked log y (Turn k) looked = thread_looked log y k (slice_get y.threads k) looked

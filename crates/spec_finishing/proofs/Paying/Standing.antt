@@ -7,7 +7,7 @@ use Rattle.spec_kernel.specs.Devices.{Devices}
 use Rattle.spec_protocol.specs.machine.Spheres.{Cursor, Role, Plain, Record, Replay, Sphere, is_over, is_stopped}
 use Rattle.spec_protocol.specs.machine.Commits.{dma_moved}
 use Rattle.spec_protocol.specs.machine.Placing.{replays}
-use Rattle.spec_protocol.specs.machine.World.{Numbers, What, OfChunk, OfSerial, OfDma, OfRaise, Move}
+use Rattle.spec_protocol.specs.machine.World.{Numbers, MoveKind, OfChunk, OfSerial, OfDma, OfRaise, Move}
 use Rattle.spec_protocol.specs.machine.Machine.{SphereSetup, Setup}
 use Rattle.spec_protocol.specs.machine.Serial.{SerialState}
 use Rattle.spec_protocol.specs.machine.Moves.{do_what, do_at, do_move, FitsWhat, FitsAt, Fits}
@@ -29,7 +29,7 @@ not_none : {A : Type 0} (o : Option A) → IsSome o → o ≡ None → ⊥
 not_none None some e = true≢false (sym some)
 not_none (Some x) some e = none-some x (sym e)
 
-what_paid : (c : ℕ) (images : List SphereSetup) (z : Numbers) (x : SerialState) (moment i : ℕ) (image : SphereSetup) (p : Sphere) (b : Cursor) (a : What) → 0 < z.capacity → slice_get images i ≡ Some image → slice_get x.spheres i ≡ Some p → p.role ≡ Replay b
+what_paid : (c : ℕ) (images : List SphereSetup) (z : Numbers) (x : SerialState) (moment i : ℕ) (image : SphereSetup) (p : Sphere) (b : Cursor) (a : MoveKind) → 0 < z.capacity → slice_get images i ≡ Some image → slice_get x.spheres i ≡ Some p → p.role ≡ Replay b
     → (is_over b.now ≡ false → GoesOn image p b) → FitsWhat z x.devices p a → spheres_rank c images (do_what z x moment i p a).spheres + (what_most c p x.devices moment a + what_more a) ≤ spheres_rank c images x.spheres + 0
 what_paid c images z x moment i image p b (OfChunk k how n limit) positive there is role goes fits = chunk_paid c images x i image p there is b role goes z k how n limit (slice_get p.threads k) positive refl fits
 what_paid c images z x moment i image p b (OfSerial k) positive there is role goes fits = serial_paid c images x i image p there is b role goes k moment (slice_get p.threads k) refl fits

@@ -18,7 +18,7 @@ use Rattle.spec_protocol.specs.declared.reply.Reply.{Reply}
 use Rattle.spec_protocol.specs.machine.Spheres.{other_than, turn_in, turn_against, Role, Plain, Record, Replay, Sphere, is_stopped, recording_turn, head_in, head_of}
 use Rattle.spec_protocol.specs.machine.Placing.{replays}
 use Rattle.spec_protocol.specs.machine.Commits.{CommitOutcome, Granted, Piece, Diverged, MovedSphere, is_piece, chunk_moved, serial_moved}
-use Rattle.spec_protocol.specs.machine.World.{Occupant, World, moment, sphere_at, After, answered}
+use Rattle.spec_protocol.specs.machine.World.{Occupant, World, moment, sphere_at, EventOutcome, answered}
 use Rattle.spec_protocol.specs.machine.Asking.{CommitRequest, chunk_request, granted, grant_chunk, unless_denied, serial_request, grant_serial, unless_busy, asks_serial, ask_arbiter, unless_turn, ask_closed, ask_held, asking}
 use Rattle.spec_protocol.specs.machine.Machine.{world_of, core_no, act, happens, world_after}
 use Rattle.spec_protocol.specs.promises.Invariants.{IsGoodHeld, IsGood}
@@ -44,7 +44,7 @@ not_full : (w : World) (o : Option ℕ) → free_slot w.slots ≡ o → Empty w 
 not_full w None e m = absurd (true≢false (sym (ap is_none (m.none 0)) ∙ full_at w.slots e 0 m.some_slot))
 not_full w (Some k) e m = refl
 
-abbrev IsGrantedOr : World → Occupant → After → Type 0
+abbrev IsGrantedOr : World → Occupant → EventOutcome → Type 0
 IsGrantedOr w h a = (a.reply ≡ Reply.Granted) ⊎ ((actor : Actor) × (a.reply ≡ Reply.NotTurn actor) × IsInTurns (sphere_at w h.chunk.sphere).role)
 
 granted_reply : (w : World) (c : ℕ) (q : CommitRequest) (writes : Signature) (v : MovedSphere) (o : CommitOutcome) → o ≡ Granted → (granted w c q writes v o).reply ≡ Reply.Granted
@@ -65,11 +65,11 @@ serial_reply w c h live =
     let v = serial_moved h.thread (moment w) h.chunk.start w.devices (sphere_at w h.chunk.sphere) in
     granted_reply w c (serial_request h) (signed h.chunk.sphere v.words (nothing w.numbers.bits)) v _ (serial-lives h.thread (moment w) h.chunk.start w.devices (sphere_at w h.chunk.sphere) live)
 
-denied_reply : (w : World) (a : After) (o : Option ℕ) → o ≡ None → a.reply ≡ Reply.Granted → (unless_denied (denied_by o) w a).reply ≡ Reply.Granted
+denied_reply : (w : World) (a : EventOutcome) (o : Option ℕ) → o ≡ None → a.reply ≡ Reply.Granted → (unless_denied (denied_by o) w a).reply ≡ Reply.Granted
 denied_reply w a None e g = g
 denied_reply w a (Some k) e g = absurd (none-some k (sym e))
 
-busy_reply : (w : World) (a : After) (o : Option ℕ) → o ≡ None → a.reply ≡ Reply.Granted → (unless_busy (busy_by o) w a).reply ≡ Reply.Granted
+busy_reply : (w : World) (a : EventOutcome) (o : Option ℕ) → o ≡ None → a.reply ≡ Reply.Granted → (unless_busy (busy_by o) w a).reply ≡ Reply.Granted
 busy_reply w a None e g = g
 busy_reply w a (Some k) e g = absurd (none-some k (sym e))
 
@@ -94,7 +94,7 @@ in_turns Plain p k actor live e = none-some actor e
 in_turns (Record recording) p k actor live e = recorded_turn recording.log.mode p k actor e
 in_turns (Replay b) p k actor live e = absurd (true≢false live)
 
-turn_reply : (w : World) (h : Occupant) (a : After) (o : Option Actor) → ((actor : Actor) → o ≡ Some actor → IsInTurns (sphere_at w h.chunk.sphere).role) → IsGrantedOr w h a → IsGrantedOr w h (unless_turn o w a)
+turn_reply : (w : World) (h : Occupant) (a : EventOutcome) (o : Option Actor) → ((actor : Actor) → o ≡ Some actor → IsInTurns (sphere_at w h.chunk.sphere).role) → IsGrantedOr w h a → IsGrantedOr w h (unless_turn o w a)
 turn_reply w h a None turns g = g
 turn_reply w h a (Some actor) turns g = inr (actor, refl, turns actor refl)
 
@@ -151,7 +151,7 @@ chunk_clear w c h k f good held there same none =
       loads = uncovered_loads h.chunk.sphere h.chunk.reads f.writes h.chunk.done.loads f.words (held.chunk.reads_size ∙ sym cov.size) held.chunk.loads (λ a e. uncovered-lacks h.chunk.sphere a f.writes f.words words e) miss.0;
     }
 
-abbrev Clear : World → Occupant → After → Type 0
+abbrev Clear : World → Occupant → EventOutcome → Type 0
 Clear w h a = makes_point a.reply ≡ true → (k : ℕ) (f : Flight) → at w.slots k ≡ Some f → f.sphere ≡ h.chunk.sphere → IsClearOf h f
 
 closed_clear : (w : World) (c : ℕ) (h : Occupant) → IsGood w → at w.cores c ≡ Some h → Clear w h (ask_closed w c h h.chunk.closed)

@@ -9,7 +9,7 @@ use Rattle.spec_engine.specs.declared.answers.How.{How}
 use Rattle.spec_engine.specs.declared.answers.CutReply.{CutReply}
 use Rattle.spec_engine.specs.Flights.{Flight, at}
 use Rattle.spec_engine.specs.Chunks.{Chunk, step, Cutting, cut_open}
-use Rattle.spec_protocol.specs.machine.World.{Occupant, World, Move, After, sphere_at, with_core, answered}
+use Rattle.spec_protocol.specs.machine.World.{Occupant, World, Move, EventOutcome, sphere_at, with_core, answered}
 use Rattle.spec_protocol.specs.machine.Shown.{shown_of, flying}
 use Rattle.spec_protocol.specs.machine.Moves.{do_if, FitsIf}
 use Rattle.spec_protocol.proofs.Moves.AnyEvent.{any-step, any-cut}
@@ -75,7 +75,7 @@ core-good w c o good new other =
     }
 
 -- such a change of one core, which moves no sphere and makes no point, keeps the invariant
-pub core-preserved : (w : World) (c : ℕ) (o : Option Occupant) (a : After) → a.world ≡ with_core w c o → a.move ≡ None → a.point ≡ None → IsGood (with_core w c o) → Preserved w a
+pub core-preserved : (w : World) (c : ℕ) (o : Option Occupant) (a : EventOutcome) → a.world ≡ with_core w c o → a.move ≡ None → a.point ≡ None → IsGood (with_core w c o) → Preserved w a
 core-preserved w c o a world move point good =
     record {
       good = subst IsGood (sym world) good;
@@ -118,17 +118,17 @@ others-differ w c h x good is same thread_same k e d g ne there sphere thread =
     ne (good.alone d c g h there is (sym sphere ∙ ap (λ (y : Occupant). y.chunk.sphere) (sym q) ∙ same) (sym thread ∙ ap (λ (y : Occupant). y.thread) (sym q) ∙ thread_same))
 
 -- core c holds its thread still, and what it holds is good
-held_preserved : (w : World) (c : ℕ) (h x : Occupant) (a : After) → IsGood w → at w.cores c ≡ Some h → x.chunk.sphere ≡ h.chunk.sphere → x.thread ≡ h.thread → IsGoodHeld w c x → a.world ≡ with_core w c (Some x) → a.move ≡ None → a.point ≡ None → Preserved w a
+held_preserved : (w : World) (c : ℕ) (h x : Occupant) (a : EventOutcome) → IsGood w → at w.cores c ≡ Some h → x.chunk.sphere ≡ h.chunk.sphere → x.thread ≡ h.thread → IsGoodHeld w c x → a.world ≡ with_core w c (Some x) → a.move ≡ None → a.point ≡ None → Preserved w a
 held_preserved w c h x a good is sphere thread held world move point =
     core-preserved w c (Some x) a world move point
     (core-good w c (Some x) good (λ k e. subst (IsGoodHeld w c) (let q : x ≡ k = cc in q) held) (others-differ w c h x good is sphere thread))
 
-chunk_preserved : (w : World) (c : ℕ) (h : Occupant) (dh : Chunk) (a : After) → IsGood w → at w.cores c ≡ Some h → h.younger ≡ None → SameBase h.chunk dh → IsGoodOver w c h.chunk.sphere [] dh
+chunk_preserved : (w : World) (c : ℕ) (h : Occupant) (dh : Chunk) (a : EventOutcome) → IsGood w → at w.cores c ≡ Some h → h.younger ≡ None → SameBase h.chunk dh → IsGoodOver w c h.chunk.sphere [] dh
     → a.world ≡ with_chunk w c h dh → a.move ≡ None → a.point ≡ None → Preserved w a
 chunk_preserved w c h dh a good is none base chunk =
     held_preserved w c h (record h { chunk = dh }) a good is base.sphere refl (held-same w c h dh (good.held c h is) none base chunk)
 
-younger_preserved : (w : World) (c : ℕ) (h : Occupant) (y : Chunk) (a : After) → IsGood w → at w.cores c ≡ Some h → IsYounger w c h y → a.world ≡ with_younger w c h y → a.move ≡ None → a.point ≡ None → Preserved w a
+younger_preserved : (w : World) (c : ℕ) (h : Occupant) (y : Chunk) (a : EventOutcome) → IsGood w → at w.cores c ≡ Some h → IsYounger w c h y → a.world ≡ with_younger w c h y → a.move ≡ None → a.point ≡ None → Preserved w a
 younger_preserved w c h y a good is younger =
     held_preserved w c h (record h { younger = Some y }) a good is refl refl (younger-held w c h y (good.held c h is) younger)
 

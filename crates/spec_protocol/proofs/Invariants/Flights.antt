@@ -16,7 +16,7 @@ use Rattle.spec_engine.proofs.Searches.{told-tell_other, all_told-at}
 use Rattle.spec_protocol.specs.declared.reply.Reply.{Reply}
 use Rattle.spec_protocol.specs.machine.Spheres.{Role, Plain, Record, Replay, Sphere, halves}
 use Rattle.spec_protocol.specs.machine.Placing.{replays}
-use Rattle.spec_protocol.specs.machine.World.{Occupant, World, Move, After, sphere_at, with_memory, with_core, with_slot, answered, Numbers}
+use Rattle.spec_protocol.specs.machine.World.{Occupant, World, Move, EventOutcome, sphere_at, with_memory, with_core, with_slot, answered, Numbers}
 use Rattle.spec_protocol.specs.machine.Shown.{words_of, flying, shown, shown_of}
 use Rattle.spec_protocol.specs.machine.Moves.{do_if, FitsIf}
 use Rattle.spec_protocol.specs.machine.Flying.{reply_of_drain, drain_slot, draining, reads_of, writes_of, squashed, told, delivering, reply_of_retire, retiring, younger_of, hits_younger, squashed_younger}
@@ -72,7 +72,7 @@ without_first b h s ss apart =
 drained_world : World → ℕ → Flight → Stored → List Stored → World
 drained_world w k f s ss = with_slot (with_memory w f.sphere (lay (sphere_at w f.sphere).memory s)) k (Some (record f { words = ss }))
 
-drained_preserved : (w : World) (k : ℕ) (f : Flight) (s : Stored) (ss : List Stored) (a : After) → IsGood w → at w.slots k ≡ Some f → f.words ≡ s ∷ ss → a.world ≡ drained_world w k f s ss → a.move ≡ None → a.point ≡ None → Preserved w a
+drained_preserved : (w : World) (k : ℕ) (f : Flight) (s : Stored) (ss : List Stored) (a : EventOutcome) → IsGood w → at w.slots k ≡ Some f → f.words ≡ s ∷ ss → a.world ≡ drained_world w k f s ss → a.move ≡ None → a.point ≡ None → Preserved w a
 unfolding drained_world shown
 drained_preserved w k f s ss a good is words world move point =
     let i = f.sphere in
@@ -231,7 +231,7 @@ retired_quiet w k f i c reads is all l q =
       ];
     }
 
-retired_preserved : (w : World) (k : ℕ) (f : Flight) (a : After) → IsGood w → at w.slots k ≡ Some f → is_done (length w.cores) f ≡ true → a.world ≡ with_slot w k None → a.move ≡ None → a.point ≡ None → Preserved w a
+retired_preserved : (w : World) (k : ℕ) (f : Flight) (a : EventOutcome) → IsGood w → at w.slots k ≡ Some f → is_done (length w.cores) f ≡ true → a.world ≡ with_slot w k None → a.move ≡ None → a.point ≡ None → Preserved w a
 retired_preserved w k f a good is done world move point =
     let p = and_parts (has_none f.words) (all_told (length w.cores) f.told) done in
     let within = at_within w.slots k f is in

@@ -19,7 +19,7 @@ use Rattle.spec_play.proofs.Lasts.{IsOf, last-effect, last-dma, chunk-of, serial
 use Rattle.spec_engine.specs.declared.answers.How.{How}
 use Rattle.spec_protocol.specs.machine.Spheres.{Cursor, Role, Plain, Record, Replay, Sphere, no_sphere}
 use Rattle.spec_protocol.specs.machine.Commits.{MovedSphere, by_verdict, joined, replayed_chunk, chunk_in, chunk_moved, is_piece, serial_in, serial_moved, live_dma, dma_log, dma_by_verdict, dma_in, dma_moved, raised}
-use Rattle.spec_protocol.specs.machine.World.{Numbers, World, Move, What, OfChunk, OfSerial, OfDma, OfRaise, sphere_at}
+use Rattle.spec_protocol.specs.machine.World.{Numbers, World, Move, MoveKind, OfChunk, OfSerial, OfDma, OfRaise, sphere_at}
 use Rattle.spec_protocol.specs.machine.Asking.{is_short}
 use Rattle.spec_protocol.specs.machine.Machine.{SphereSetup, Setup, sphere_of, world_of, moves}
 use Rattle.spec_protocol.specs.machine.Serial.{SerialState, serial_start, laid, do_serial, do_dma, do_raise}
@@ -108,7 +108,7 @@ unfolding raised
 raise_all x i k value p None is all = all
 raise_all x i k value p (Some t) is all = set_last x.spheres i p (raised k value t p) is all (all i p is)
 
-what_all : (z : Numbers) (x : SerialState) (moment i : ℕ) (p : Sphere) (what : What) → slice_get x.spheres i ≡ Some p → AreLast x.spheres → AreLast (do_what z x moment i p what).spheres
+what_all : (z : Numbers) (x : SerialState) (moment i : ℕ) (p : Sphere) (what : MoveKind) → slice_get x.spheres i ≡ Some p → AreLast x.spheres → AreLast (do_what z x moment i p what).spheres
 unfolding dma_moved
 what_all z x moment i p (OfChunk k how n limit) is all = chunk_all z x i k how n limit p (slice_get p.threads k) is all
 what_all z x moment i p (OfSerial k) is all = serial_all x i k moment p (slice_get p.threads k) is all

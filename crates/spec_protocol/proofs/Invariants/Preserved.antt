@@ -9,7 +9,7 @@ use Rattle.spec_isa.specs.Words.{lays}
 use Rattle.spec_engine.specs.Flights.{Flight}
 use Rattle.spec_protocol.specs.machine.Spheres.{Sphere, no_sphere}
 use Rattle.spec_protocol.specs.machine.Placing.{replays}
-use Rattle.spec_protocol.specs.machine.World.{Numbers, World, What, OfChunk, OfSerial, OfDma, OfRaise, Move, After, sphere_at}
+use Rattle.spec_protocol.specs.machine.World.{Numbers, World, MoveKind, OfChunk, OfSerial, OfDma, OfRaise, Move, EventOutcome, sphere_at}
 use Rattle.spec_protocol.specs.machine.Shown.{flying, shown, shown_from, shown_of}
 use Rattle.spec_protocol.specs.machine.Moves.{do_if, FitsIf}
 use Rattle.spec_protocol.specs.promises.Invariants.{IsGood}
@@ -24,7 +24,7 @@ pub record SameSizes (w v : World) : Type 0 where
   pub slots : length v.slots ≡ length w.slots
 
 -- the point that a move makes where the sphere is plain or recorded
-abbrev pub point_for : Numbers → (moment i : ℕ) → What → Point
+abbrev pub point_for : Numbers → (moment i : ℕ) → MoveKind → Point
 point_for z now i (OfChunk k how n limit) = Point.Commit now i (Actor.Thread k) CommitKind.Chunk n (is_short z.s how limit)
 point_for z now i (OfSerial k) = Point.Commit now i (Actor.Thread k) CommitKind.Serial 0 false
 point_for z now i OfDma = Point.Commit now i Actor.Dma CommitKind.Dma 0 false
@@ -51,7 +51,7 @@ PointIs w None o = o ≡ None
 PointIs w (Some m) o = PointOf w.numbers (replays (sphere_at w m.sphere).role) m o
 
 -- what an event at w leaves: a good world of the same sizes, whose move is done whole on what is shown
-pub record Preserved (w : World) (a : After) : Type 0 where
+pub record Preserved (w : World) (a : EventOutcome) : Type 0 where
   pub good : IsGood a.world
   pub sizes : SameSizes w a.world
   pub point : PointIs w a.move a.point
@@ -131,7 +131,7 @@ shown-unmoved xs ys i ps p same e =
 
 -- ---- points
 
-sphere_for : (z : Numbers) (now i : ℕ) (what : What) → sphere_of_point (point_for z now i what) ≡ i
+sphere_for : (z : Numbers) (now i : ℕ) (what : MoveKind) → sphere_of_point (point_for z now i what) ≡ i
 sphere_for z now i (OfChunk k how n limit) = refl
 sphere_for z now i (OfSerial k) = refl
 sphere_for z now i OfDma = refl
@@ -150,7 +150,7 @@ point-other z false m o replayed is = absurd (replayed refl)
 -- ---- an event that answers and does nothing
 
 -- an event that leaves the world as it was keeps the invariant
-pub unchanged-preserved : (w : World) (a : After) → a.world ≡ w → a.move ≡ None → a.point ≡ None → IsGood w → Preserved w a
+pub unchanged-preserved : (w : World) (a : EventOutcome) → a.world ≡ w → a.move ≡ None → a.point ≡ None → IsGood w → Preserved w a
 unchanged-preserved w a world move point good =
     record {
       good = subst IsGood (sym world) good;

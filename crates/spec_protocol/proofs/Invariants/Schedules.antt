@@ -5,7 +5,7 @@ use Rattle.spec_isa.specs.Words.{lays, Apart}
 use Rattle.spec_engine.specs.Flights.{Flight, at}
 use Rattle.spec_protocol.specs.declared.event.Event.{Event}
 use Rattle.spec_protocol.specs.machine.Spheres.{Sphere, no_sphere}
-use Rattle.spec_protocol.specs.machine.World.{Numbers, Occupant, World, Move, After, held_afresh, sphere_at}
+use Rattle.spec_protocol.specs.machine.World.{Numbers, Occupant, World, Move, EventOutcome, held_afresh, sphere_at}
 use Rattle.spec_protocol.specs.machine.Machine.{SphereSetup, Setup, first_cores, world_of, core_no, sphere_no, slot_no, act, with_event, happens, world_after, with_move, moves, sphere_of}
 use Rattle.spec_protocol.specs.machine.Serial.{SerialState, serial_start}
 use Rattle.spec_protocol.specs.machine.Shown.{flying, shown, shown_from, shown_of}
@@ -36,11 +36,11 @@ act_preserved w (Event.Raise i k value) good = raise-preserved w (sphere_no w i)
 act_preserved w (Event.Dma i) good = dma-preserved w (sphere_no w i) good
 
 -- counts and points are no part of what is kept
-held_counted : (a : After) (c : ℕ) (h : Occupant) → IsGoodHeld a.world c h → IsGoodHeld (with_event a) c h
+held_counted : (a : EventOutcome) (c : ℕ) (h : Occupant) → IsGoodHeld a.world c h → IsGoodHeld (with_event a) c h
 held_counted a c h g =
     record { sphere = g.sphere; thread = g.thread; chunk = g.chunk; follows = g.follows; younger = g.younger }
 
-good_counted : (a : After) → IsGood a.world → IsGood (with_event a)
+good_counted : (a : EventOutcome) → IsGood a.world → IsGood (with_event a)
 good_counted a g =
     record {
       buffer = g.buffer;

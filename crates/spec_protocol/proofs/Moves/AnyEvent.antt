@@ -19,7 +19,7 @@ use Rattle.spec_protocol.specs.declared.event.Event.{Event}
 use Rattle.spec_protocol.specs.declared.reply.Reply.{Reply}
 use Rattle.spec_protocol.specs.machine.Spheres.{turn_against, Sphere, no_sphere, is_stopped}
 use Rattle.spec_protocol.specs.machine.Commits.{CommitOutcome, Granted, Piece, Diverged, MovedSphere, dma_in, dma_moved}
-use Rattle.spec_protocol.specs.machine.World.{Occupant, World, After, sphere_at, with_core, held_afresh, core_of, answered}
+use Rattle.spec_protocol.specs.machine.World.{Occupant, World, EventOutcome, sphere_at, with_core, held_afresh, core_of, answered}
 use Rattle.spec_protocol.specs.machine.Stepping.{stepped, step_held, stepping, cut_to, cut_held, cutting, stepped_younger, younger_for, step_younger, cut_younger, cut_in}
 use Rattle.spec_protocol.specs.machine.Flying.{drain_slot, draining, delivering, retiring}
 use Rattle.spec_protocol.specs.machine.Asking.{grant_chunk, grant_serial, unless_denied, unless_busy, asks_serial, ask_arbiter, unless_turn, ask_closed, ask_held, asking}
@@ -60,45 +60,45 @@ pub record Transfers (w : World) (i : ℕ) (v : MovedSphere) : Type 0 where
 
 -- ---- each thing that is done, and what a predicate of it is to hold of
 
-abbrev pub AfterStep : World → (After → Type 0) → (core : ℕ) → Occupant → Type 0
+abbrev pub AfterStep : World → (EventOutcome → Type 0) → (core : ℕ) → Occupant → Type 0
 AfterStep w Q c h = at w.cores c ≡ Some h → h.chunk.closed ≡ None → Q (stepped w c h (step w.numbers.capacity (sphere_at w h.chunk.sphere).memory w.slots c h.chunk))
 
 -- of the younger chunk, that there is or that begins
-abbrev pub AfterStepYounger : World → (After → Type 0) → (core : ℕ) → Occupant → Chunk → Type 0
+abbrev pub AfterStepYounger : World → (EventOutcome → Type 0) → (core : ℕ) → Occupant → Chunk → Type 0
 AfterStepYounger w Q c h y =
     let p = sphere_at w h.chunk.sphere in
     at w.cores c ≡ Some h → younger_for w.numbers p.role h h.younger ≡ Some y → y.closed ≡ None
     → Q (stepped_younger w c h (step w.numbers.capacity (lays p.memory h.chunk.done.words) w.slots c y))
 
-abbrev pub AfterCut : World → (After → Type 0) → (core : ℕ) → Occupant → Type 0
+abbrev pub AfterCut : World → (EventOutcome → Type 0) → (core : ℕ) → Occupant → Type 0
 AfterCut w Q c h = at w.cores c ≡ Some h → h.younger ≡ None → Q (cut_to w c h (cut h.chunk))
 
-abbrev pub AfterCutYounger : World → (After → Type 0) → (core : ℕ) → Occupant → Chunk → Type 0
+abbrev pub AfterCutYounger : World → (EventOutcome → Type 0) → (core : ℕ) → Occupant → Chunk → Type 0
 AfterCutYounger w Q c h y = at w.cores c ≡ Some h → h.younger ≡ Some y → Q (cut_younger w c h (cut y))
 
 -- a chunk that meets no flight
-abbrev pub AfterChunk : World → (After → Type 0) → (core : ℕ) → Occupant → How → Type 0
+abbrev pub AfterChunk : World → (EventOutcome → Type 0) → (core : ℕ) → Occupant → How → Type 0
 AfterChunk w Q c h how = MayAsk w c h how → asks_serial h.chunk (sphere_at w h.chunk.sphere).role ≡ false → first_slot (meets_chunk h.chunk.reads h.chunk.writes) w.slots ≡ None → Q (grant_chunk w c h how)
 
 -- a serial step of a sphere that no flight is of
-abbrev pub AfterSerial : World → (After → Type 0) → (core : ℕ) → Occupant → How → Type 0
+abbrev pub AfterSerial : World → (EventOutcome → Type 0) → (core : ℕ) → Occupant → How → Type 0
 AfterSerial w Q c h how = MayAsk w c h how → asks_serial h.chunk (sphere_at w h.chunk.sphere).role ≡ true → first_slot (is_of_sphere h.chunk.sphere) w.slots ≡ None → Q (grant_serial w c h)
 
-abbrev pub AfterDrain : World → (After → Type 0) → (slot : ℕ) → Flight → Type 0
+abbrev pub AfterDrain : World → (EventOutcome → Type 0) → (slot : ℕ) → Flight → Type 0
 AfterDrain w Q k f = at w.slots k ≡ Some f → Q (drain_slot w k (Some f))
 
 -- a live thread that no core runs
-abbrev pub AfterPlace : World → (After → Type 0) → (core i thread : ℕ) → Parts → Type 0
+abbrev pub AfterPlace : World → (EventOutcome → Type 0) → (core i thread : ℕ) → Parts → Type 0
 AfterPlace w Q c i k t = slice_get (sphere_at w i).threads k ≡ Some t → is_live t ≡ true → core_of w i k ≡ None → Q (answered (with_core w c (held_afresh w.numbers i k (sphere_at w i))) Reply.Placed)
 
-abbrev pub AfterRaise : World → (After → Type 0) → (i thread value : ℕ) → Parts → Type 0
+abbrev pub AfterRaise : World → (EventOutcome → Type 0) → (i thread value : ℕ) → Parts → Type 0
 AfterRaise w Q i k value t = Raises k t (sphere_at w i) → Q (raise_in w i k value t)
 
 -- a DMA that meets no flight
-abbrev pub AfterDma : World → (After → Type 0) → (i : ℕ) → MovedSphere → Type 0
+abbrev pub AfterDma : World → (EventOutcome → Type 0) → (i : ℕ) → MovedSphere → Type 0
 AfterDma w Q i v = Transfers w i v → is_full w.slots ≡ false → let g = signed i v.words (nothing w.numbers.bits) in first_slot (meets_chunk g g) w.slots ≡ None → Q (dma_done w i g v)
 
-abbrev pub AfterDivergence : World → (After → Type 0) → (i : ℕ) → MovedSphere → (commits : ℕ) → Why → Type 0
+abbrev pub AfterDivergence : World → (EventOutcome → Type 0) → (i : ℕ) → MovedSphere → (commits : ℕ) → Why → Type 0
 AfterDivergence w Q i v j why = Transfers w i v → v.outcome ≡ Diverged j why → Q (dma_with w i v (Diverged j why))
 
 -- ---- each event
@@ -120,7 +120,7 @@ dma_within w i v e =
     ]
 
 -- a predicate of what an event comes to in world w, which holds of every answer alone; no such reply makes a point
-module _ (w : World) (Q : After → Type 0) (still : (r : Reply) → makes_point r ≡ false → Q (answered w r)) where
+module _ (w : World) (Q : EventOutcome → Type 0) (still : (r : Reply) → makes_point r ≡ false → Q (answered w r)) where
   after_closed : (c : ℕ) (h : Occupant) (o : Option Chunk) → at w.cores c ≡ Some h → younger_for w.numbers (sphere_at w h.chunk.sphere).role h h.younger ≡ o → ((y : Chunk) → AfterStepYounger w Q c h y) → Q (step_younger w c h o)
   after_closed c h None is e younger = still Reply.Waiting refl
   after_closed c h (Some y) is e younger =
@@ -162,15 +162,15 @@ module _ (w : World) (Q : After → Type 0) (still : (r : Reply) → makes_point
   unfolding cutting
   any-cut c older younger = held_cut c (at w.cores c) refl older younger
 
-  denied : (a : After) (o : Option ℕ) → (o ≡ None → Q a) → Q (unless_denied (denied_by o) w a)
+  denied : (a : EventOutcome) (o : Option ℕ) → (o ≡ None → Q a) → Q (unless_denied (denied_by o) w a)
   denied a None each = each refl
   denied a (Some k) each = still (Reply.Denied k) refl
 
-  busy : (a : After) (o : Option ℕ) → (o ≡ None → Q a) → Q (unless_busy (busy_by o) w a)
+  busy : (a : EventOutcome) (o : Option ℕ) → (o ≡ None → Q a) → Q (unless_busy (busy_by o) w a)
   busy a None each = each refl
   busy a (Some k) each = still (Reply.SphereBusy k) refl
 
-  at_turn : (a : After) (o : Option Actor) → (o ≡ None → Q a) → Q (unless_turn o w a)
+  at_turn : (a : EventOutcome) (o : Option Actor) → (o ≡ None → Q a) → Q (unless_turn o w a)
   at_turn a None each = each refl
   at_turn a (Some actor) each = still (Reply.NotTurn actor) refl
 
@@ -219,7 +219,7 @@ module _ (w : World) (Q : After → Type 0) (still : (r : Reply) → makes_point
   unfolding draining
   any-drain k each = slot_drain k (at w.slots k) refl each
 
-  elsewhere : (a : After) (o : Option ℕ) → (o ≡ None → Q a) → Q (unless_elsewhere o w a)
+  elsewhere : (a : EventOutcome) (o : Option ℕ) → (o ≡ None → Q a) → Q (unless_elsewhere o w a)
   elsewhere a None each = each refl
   elsewhere a (Some d) each = still (Reply.Elsewhere d) refl
 
@@ -293,7 +293,7 @@ module _ (w : World) (Q : After → Type 0) (still : (r : Reply) → makes_point
 -- ---- any event
 
 -- the predicate holds of all that an event can come to
-pub record Cases (w : World) (Q : After → Type 0) : Type 0 where
+pub record Cases (w : World) (Q : EventOutcome → Type 0) : Type 0 where
   pub answers : (r : Reply) → makes_point r ≡ false → Q (answered w r)
   pub steps : (c : ℕ) (h : Occupant) → AfterStep w Q c h
   pub youngers : (c : ℕ) (h : Occupant) (y : Chunk) → AfterStepYounger w Q c h y
@@ -310,7 +310,7 @@ pub record Cases (w : World) (Q : After → Type 0) : Type 0 where
   pub diverges : (i : ℕ) (v : MovedSphere) (j : ℕ) (why : Why) → AfterDivergence w Q i v j why
 
 -- and so of what the event comes to
-pub any-event : (w : World) (Q : After → Type 0) → Cases w Q → (e : Event) → Q (act w e)
+pub any-event : (w : World) (Q : EventOutcome → Type 0) → Cases w Q → (e : Event) → Q (act w e)
 unfolding act
 any-event w Q each (Event.Step c) = any-step w Q each.answers (core_no w c) (each.steps (core_no w c)) (each.youngers (core_no w c))
 any-event w Q each (Event.Cut c) = any-cut w Q each.answers (core_no w c) (each.cuts (core_no w c)) (each.cut_youngers (core_no w c))

@@ -9,7 +9,7 @@ use Rattle.spec_engine.specs.Flights.{Flight, at, free_slot, has_none, fill_at, 
 use Rattle.spec_engine.proofs.Searches.{told-zero, told-tell, told-tell_other, free_slot-within}
 use Rattle.spec_protocol.specs.declared.event.Event.{Event}
 use Rattle.spec_protocol.specs.machine.Commits.{CommitOutcome, Granted, Piece, Diverged, MovedSphere, is_piece, chunk_moved, serial_moved}
-use Rattle.spec_protocol.specs.machine.World.{Occupant, World, After, moment, sphere_at, answered}
+use Rattle.spec_protocol.specs.machine.World.{Occupant, World, EventOutcome, moment, sphere_at, answered}
 use Rattle.spec_protocol.specs.machine.Asking.{CommitRequest, chunk_request, granted, grant_chunk, serial_request, grant_serial}
 use Rattle.spec_protocol.specs.machine.Transferring.{dma_with}
 use Rattle.spec_protocol.specs.machine.Machine.{core_no, sphere_no, act, happens}
@@ -18,11 +18,11 @@ use Rattle.spec_protocol.proofs.Moves.AnyEvent.{any-ask, any-transfer}
 use Rattle.spec_protocol.proofs.Memory.Slots.{at-set}
 
 -- a flight that begins has this mark
-abbrev BeginWith : World → (mark : ℕ) → After → Type 0
+abbrev BeginWith : World → (mark : ℕ) → EventOutcome → Type 0
 BeginWith w mark a = (k : ℕ) (f : Flight) → at w.slots k ≡ None → at a.world.slots k ≡ Some f → f.told ≡ mark
 
 -- where no slot changes, none begins
-none_begins : (w : World) (mark : ℕ) (a : After) → a.world.slots ≡ w.slots → BeginWith w mark a
+none_begins : (w : World) (mark : ℕ) (a : EventOutcome) → a.world.slots ≡ w.slots → BeginWith w mark a
 none_begins w mark a same k f free stands = absurd (none-some f (sym free ∙ ap (λ (xs : List (Option Flight)). at xs k) (sym same) ∙ stands))
 
 filled_by : (xs : List (Option Flight)) (o : Option ℕ) (g : Flight) → free_slot xs ≡ o → (k : ℕ) (f : Flight) → at xs k ≡ None → at (fill_at o g xs) k ≡ Some f → f.told ≡ g.told

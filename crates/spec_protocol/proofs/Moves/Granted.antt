@@ -25,8 +25,8 @@ use Rattle.spec_kernel.specs.Serving.{StepResult, copy_of, outside_called, is_ou
 use Rattle.spec_kernel.specs.Calls.{called}
 use Rattle.spec_play.specs.Effects.{Effect, chunk_effect, serial_effect, counted}
 use Rattle.spec_play.specs.Progress.{Progress, Used, with_interrupt}
-use Rattle.spec_play.specs.Turns.{Now, Turn, TurnOfDma, Ended}
-use Rattle.spec_play.specs.Verdicts.{LogVerdict, Goes, Fails, unless, interrupt_at, with_interrupted, chunk_why, chunk_verdict, Given, given, serial_why, served_verdict, serial_verdict}
+use Rattle.spec_play.specs.Turns.{TurnOrEnd, Turn, TurnOfDma, Ended}
+use Rattle.spec_play.specs.Verdicts.{LogVerdict, Goes, Fails, unless, interrupt_at, with_interrupted, chunk_why, chunk_verdict, TakenRecord, given, serial_why, served_verdict, serial_verdict}
 use Rattle.spec_play.specs.Plays.{with_threads}
 use Rattle.spec_protocol.specs.machine.Spheres.{other_than, turn_in, Cursor, Role, Plain, Record, Replay, Sphere, is_over, is_stopped, actor_of, whole_limit, pieces_of, limit_in, limit_of, halves, limit_after_in, limit_after}
 use Rattle.spec_protocol.specs.machine.Commits.{CommitOutcome, Granted, Piece, Diverged, MovedSphere, granted_as, by_verdict, joined, piece_moved, replayed_chunk, chunk_in, chunk_moved, serial_in, serial_moved, serial_noted}
@@ -65,7 +65,7 @@ either_none true = refl
 either_none false = refl
 
 -- where no piece was done there is none of any thread
-pub pieces_none : (now : Now) (j : ℕ) → pieces_of now j 0 ≡ 0
+pub pieces_none : (now : TurnOrEnd) (j : ℕ) → pieces_of now j 0 ≡ 0
 pieces_none (Turn k) j = either_none (eqb k j)
 pieces_none TurnOfDma j = refl
 pieces_none (Ended how) j = refl
@@ -74,7 +74,7 @@ pieces_other : (k j total : ℕ) → j ≢ k → pieces_of (Turn k) j total ≡ 
 pieces_other k j total ne = ap (λ (b : Bool). pieces_if b total) (ne_eqb k j (λ e. ne (sym e)))
 
 -- the thread has the turn in a replay that hasn't stopped
-pub turn-is : (now : Now) (k : ℕ) → is_over now ≡ false → other_than (Actor.Thread k) (actor_of now) ≡ None → now ≡ Turn k
+pub turn-is : (now : TurnOrEnd) (k : ℕ) → is_over now ≡ false → other_than (Actor.Thread k) (actor_of now) ≡ None → now ≡ Turn k
 turn-is (Turn j) k going e =
     ap Turn (eqb-true j k (elim (eqb j k) as (λ b. cond b None (Some (Actor.Thread j)) ≡ None → b ≡ true) [
       | true ↦ λ h. refl
@@ -136,7 +136,7 @@ verdict_moves k b (Goes e u) devices p is turn apart =
         halving = ap halves (sym is);
         replaying = ap replays (sym is);
         limits = λ s j t ne going.
-            ap (λ (n : ℕ). max 1 (whole_limit b.log j t.commits - n)) (pieces_none _ j ∙ sym (ap (λ (now : Now). pieces_of now j b.total) turn ∙ pieces_other k j b.total ne))
+            ap (λ (n : ℕ). max 1 (whole_limit b.log j t.commits - n)) (pieces_none _ j ∙ sym (ap (λ (now : TurnOrEnd). pieces_of now j b.total) turn ∙ pieces_other k j b.total ne))
             ∙ ap (λ (r : Role). limit_in r s j t.commits) (sym is);
         after = λ s j t. ap (λ (q : Role). limit_after_in q s j t.commits) (sym is);
       };
@@ -193,7 +193,7 @@ piece_moves k b r devices p is turn apart =
         replaying = ap replays (sym is);
         limits = λ s j t ne going.
             ap (λ (n : ℕ). max 1 (whole_limit b.log j t.commits - n))
-            (ap (λ (now : Now). pieces_of now j (b.total + r.n)) turn ∙ pieces_other k j (b.total + r.n) ne ∙ sym (ap (λ (now : Now). pieces_of now j b.total) turn ∙ pieces_other k j b.total ne))
+            (ap (λ (now : TurnOrEnd). pieces_of now j (b.total + r.n)) turn ∙ pieces_other k j (b.total + r.n) ne ∙ sym (ap (λ (now : TurnOrEnd). pieces_of now j b.total) turn ∙ pieces_other k j b.total ne))
             ∙ ap (λ (q : Role). limit_in q s j t.commits) (sym is);
         after = λ s j t. ap (λ (q : Role). limit_after_in q s j t.commits) (sym is);
       };
@@ -301,7 +301,7 @@ pub serve-apart : (k : ℕ) (ts : List Parts) (request : Option Request) (t : Pa
 unfolding serve
 serve-apart k ts request t m input = kind_apart _ k ts request t m input
 
-served_apart : (log : LogParts) (p : Progress) (k : ℕ) (ts : List Parts) (t : Parts) (m : List ℕ) (o : Option Given) (e : Effect) (u : Used) → served_verdict log p k ts t m o ≡ Goes e u → Apart e.words
+served_apart : (log : LogParts) (p : Progress) (k : ℕ) (ts : List Parts) (t : Parts) (m : List ℕ) (o : Option TakenRecord) (e : Effect) (u : Used) → served_verdict log p k ts t m o ≡ Goes e u → Apart e.words
 served_apart log p k ts t m None e u is = cc
 served_apart log p k ts t m (Some g) e u is =
     subst Apart (sym (interrupted_words _ (serial_effect k (serve most_threads k ts p.request t m g.input)) g.used e u is)) (serve-apart k ts p.request t m g.input)

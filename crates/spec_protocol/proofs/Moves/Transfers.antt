@@ -15,7 +15,7 @@ use Rattle.spec_kernel.specs.Devices.{Devices}
 use Rattle.spec_kernel.specs.Copies.{dma_words}
 use Rattle.spec_kernel.specs.Answers.{dma_bytes, dma_taken}
 use Rattle.spec_play.specs.Progress.{Progress, position, Used}
-use Rattle.spec_play.specs.Turns.{Now, Turn, TurnOfDma, Ended}
+use Rattle.spec_play.specs.Turns.{TurnOrEnd, Turn, TurnOfDma, Ended}
 use Rattle.spec_play.specs.Verdicts.{serial_why}
 use Rattle.spec_play.specs.Transfers.{DmaVerdict, DmaGoes, DmaFails, is_for, transferred, dma_unless, dma_verdict}
 use Rattle.spec_protocol.specs.machine.Spheres.{other_than, turn_in, turn_against, Cursor, Role, Plain, Record, Replay, Sphere, is_over, is_stopped, actor_of, whole_limit, pieces_of, limit_in, limit_of, halves, limit_after_in, limit_after}
@@ -38,7 +38,7 @@ words_apart : (request : Request) (bytes : List ℕ) → Apart (dma_words reques
 words_apart request bytes = bytes_apart _ request.buf _ tt
 
 -- it is the DMA's turn in a replay that hasn't stopped
-pub dma-turn_is : (now : Now) → is_over now ≡ false → other_than Actor.Dma (actor_of now) ≡ None → now ≡ TurnOfDma
+pub dma-turn_is : (now : TurnOrEnd) → is_over now ≡ false → other_than Actor.Dma (actor_of now) ≡ None → now ≡ TurnOfDma
 dma-turn_is (Turn k) going e = absurd (none-some (Actor.Thread k) (sym e))
 dma-turn_is TurnOfDma going e = refl
 dma-turn_is (Ended how) going e = absurd (true≢false going)
@@ -81,7 +81,7 @@ verdict_moves b (DmaFails why) devices p is turn apart =
 verdict_moves b (DmaGoes words) devices p is turn apart =
     as_moves (Replay _) words devices devices p (ap halves (sym is)) (ap replays (sym is))
     (λ s j t.
-    ap (λ (n : ℕ). max 1 (whole_limit b.log j t.commits - n)) (pieces_none _ j ∙ sym (ap (λ (now : Now). pieces_of now j b.total) turn))
+    ap (λ (n : ℕ). max 1 (whole_limit b.log j t.commits - n)) (pieces_none _ j ∙ sym (ap (λ (now : TurnOrEnd). pieces_of now j b.total) turn))
     ∙ ap (λ (q : Role). limit_in q s j t.commits) (sym is))
     (λ s j t. ap (λ (q : Role). limit_after_in q s j t.commits) (sym is))
     (apart words refl)

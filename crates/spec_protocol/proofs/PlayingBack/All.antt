@@ -23,7 +23,7 @@ use Rattle.spec_play.specs.Plays.{Played, opened, plays, play}
 use Rattle.spec_engine.specs.declared.answers.How.{How}
 use Rattle.spec_protocol.specs.machine.Spheres.{Recording, Role, Record, Sphere}
 use Rattle.spec_protocol.specs.machine.Commits.{MovedSphere, is_piece, chunk_in, chunk_moved, serial_in, serial_moved, dma_in, dma_moved, live_dma, dma_log, role_raised, raised}
-use Rattle.spec_protocol.specs.machine.World.{Numbers, What, OfChunk, OfSerial, OfDma, OfRaise, Move}
+use Rattle.spec_protocol.specs.machine.World.{Numbers, MoveKind, OfChunk, OfSerial, OfDma, OfRaise, Move}
 use Rattle.spec_protocol.specs.machine.Asking.{is_short}
 use Rattle.spec_protocol.specs.machine.Machine.{first_threads, last_played, first_played, new_recording, SphereSetup, role_of, sphere_of, moves, world_of}
 use Rattle.spec_protocol.specs.machine.Serial.{SerialState, serial_start, laid, do_moved, do_serial, do_dma, do_raise}
@@ -94,7 +94,7 @@ raise_comes x i p recording k value (Some t) is role thread fits =
       grown = raise-grown recording p k value t role thread fits.takes;
     }
 
-what_comes : (z : Numbers) (x : SerialState) (moment i : ℕ) (p : Sphere) (recording : Recording) (what : What) → 0 < z.capacity → recording.log.s ≡ z.s → slice_get x.spheres i ≡ Some p → p.role ≡ Record recording → FitsWhat z x.devices p what → Comes (do_what z x moment i p what) i p recording.log
+what_comes : (z : Numbers) (x : SerialState) (moment i : ℕ) (p : Sphere) (recording : Recording) (what : MoveKind) → 0 < z.capacity → recording.log.s ≡ z.s → slice_get x.spheres i ≡ Some p → p.role ≡ Record recording → FitsWhat z x.devices p what → Comes (do_what z x moment i p what) i p recording.log
 what_comes z x moment i p recording (OfChunk k how n limit) buffer s is role fits = chunk_comes z x i p recording k how n limit (slice_get p.threads k) buffer s is role refl fits
 what_comes z x moment i p recording (OfSerial k) buffer s is role fits = serial_comes x i moment p recording k (slice_get p.threads k) is role refl fits
 what_comes z x moment i p recording OfDma buffer s is role fits = dma_comes x i p recording p.progress.request is role refl fits.moves

@@ -9,7 +9,7 @@ use Rattle.spec_engine.specs.Flights.{Flight, at, drain, retire}
 use Rattle.spec_engine.specs.Chunks.{step, cut}
 use Rattle.spec_protocol.specs.declared.event.Event.{Event}
 use Rattle.spec_protocol.specs.machine.Commits.{CommitOutcome, Granted, Piece, Diverged, MovedSphere, is_piece, chunk_moved, serial_moved}
-use Rattle.spec_protocol.specs.machine.World.{Occupant, World, After, moment, sphere_at, with_sphere, with_slot, core_of}
+use Rattle.spec_protocol.specs.machine.World.{Occupant, World, EventOutcome, moment, sphere_at, with_sphere, with_slot, core_of}
 use Rattle.spec_protocol.specs.machine.Stepping.{reply_of_step, reply_of_cut}
 use Rattle.spec_protocol.specs.machine.Asking.{CommitRequest, chunk_request, granted, grant_chunk, grant_serial, serial_request}
 use Rattle.spec_protocol.specs.machine.Flying.{drain_slot, told, delivering, retiring, reply_of_drain, reply_of_retire}
@@ -25,7 +25,7 @@ use Rattle.spec_engine.specs.declared.answers.Drain.{Drain}
 use Rattle.spec_engine.specs.declared.answers.Retire.{Retire}
 use Rattle.spec_protocol.specs.promises.Replying.{makes_point, IsAt, PointsAreMade}
 
-pub record Untold (w : World) (a : After) : Type 0 where
+pub record Untold (w : World) (a : EventOutcome) : Type 0 where
   pub points : a.world.points ≡ w.points
   pub counts : a.world.counts ≡ w.counts
   pub exactly : is_some a.point ≡ makes_point a.reply

@@ -20,7 +20,7 @@ use Rattle.spec_protocol.specs.machine.Spheres.{Cursor, Role, Plain, Record, Rep
 use Rattle.spec_protocol.specs.machine.Placing.{replays}
 use Rattle.spec_protocol.specs.machine.Commits.{MovedSphere, is_piece, joined, by_verdict, replayed_chunk, chunk_in, chunk_moved, serial_in, serial_moved, live_dma, dma_by_verdict, dma_in, dma_moved, dma_as, dma_log, role_raised, raised}
 use Rattle.spec_protocol.specs.machine.Asking.{is_short}
-use Rattle.spec_protocol.specs.machine.World.{Numbers, World, What, OfChunk, OfSerial, OfDma, OfRaise, Move, sphere_at}
+use Rattle.spec_protocol.specs.machine.World.{Numbers, World, MoveKind, OfChunk, OfSerial, OfDma, OfRaise, Move, sphere_at}
 use Rattle.spec_protocol.specs.machine.Machine.{Setup, world_of, with_point, act, happens, world_after}
 use Rattle.spec_protocol.specs.machine.Serial.{SerialState, serial_start, laid, do_moved, do_chunk, do_serial, do_dma, do_raise, in_live, do_commit, do_interrupt, do_point, do_points, CanChunk, CanSerial, CanTake, InLive, CanCommit, CanInterrupt, CanDo, CanDoAll}
 use Rattle.spec_protocol.specs.machine.Shown.{shown, shown_from, shown_of}
@@ -162,7 +162,7 @@ raise_replay : (p : Sphere) (o : Option Parts) → FitsRaise p o → replays p.r
 raise_replay p None fits rep = fits
 raise_replay p (Some t) fits rep = true≢false (sym rep ∙ fits.live)
 
-replay_what : (z : Numbers) (x y : SerialState) (moment i : ℕ) (p : Sphere) (what : What) → Agrees x y → slice_get x.spheres i ≡ Some p → replays p.role ≡ true → FitsWhat z x.devices p what → Agrees (do_what z x moment i p what) y
+replay_what : (z : Numbers) (x y : SerialState) (moment i : ℕ) (p : Sphere) (what : MoveKind) → Agrees x y → slice_get x.spheres i ≡ Some p → replays p.role ≡ true → FitsWhat z x.devices p what → Agrees (do_what z x moment i p what) y
 replay_what z x y moment i p (OfChunk k how n limit) a xi rep fits = chunk_replay z x y i k how n limit p (slice_get p.threads k) a xi rep
 replay_what z x y moment i p (OfSerial k) a xi rep fits = serial_replay x y i k moment p (slice_get p.threads k) a xi rep
 replay_what z x y moment i p OfDma a xi rep fits = dma_replay x y i p (dma_moved x.devices p) a xi rep refl
@@ -271,7 +271,7 @@ raise_both x y i k value p (Some t) a xi yi live =
     agrees_set x y i p (raised k value t p) x.devices y.devices a xi yi (raised_stays k t.commits value p.role live) a.devices
 
 -- a move's point, of a sphere that both sides have
-live_what : (z : Numbers) (x y : SerialState) (moment i : ℕ) (p : Sphere) (what : What) → Agrees x y → slice_get x.spheres i ≡ Some p → replays p.role ≡ false → Agrees (do_what z x moment i p what) (do_point y (point_for z moment i what))
+live_what : (z : Numbers) (x y : SerialState) (moment i : ℕ) (p : Sphere) (what : MoveKind) → Agrees x y → slice_get x.spheres i ≡ Some p → replays p.role ≡ false → Agrees (do_what z x moment i p what) (do_point y (point_for z moment i what))
 unfolding do_point
 live_what z x y moment i p (OfChunk k how n limit) a xi live =
     let yi = a.live i p xi live in
@@ -326,7 +326,7 @@ some_moved : (o : Option MovedSphere) → IsSome o → (v : MovedSphere) × (o �
 some_moved None e = absurd (true≢false (sym e))
 some_moved (Some v) e = (v, refl)
 
-live_can : (z : Numbers) (x y : SerialState) (moment i : ℕ) (p : Sphere) (what : What) → Agrees x y → slice_get x.spheres i ≡ Some p → replays p.role ≡ false → 0 < z.capacity → FitsWhat z x.devices p what → CanDo y (point_for z moment i what)
+live_can : (z : Numbers) (x y : SerialState) (moment i : ℕ) (p : Sphere) (what : MoveKind) → Agrees x y → slice_get x.spheres i ≡ Some p → replays p.role ≡ false → 0 < z.capacity → FitsWhat z x.devices p what → CanDo y (point_for z moment i what)
 live_can z x y moment i p (OfChunk k how n limit) a xi live buffer fits =
     subst (CanCommit y.devices (Actor.Thread k) CommitKind.Chunk n) (sym (a.live i p xi live)) (can_living p.role _ live (can_chunk z p k how n limit (slice_get p.threads k) buffer live fits))
 live_can z x y moment i p (OfSerial k) a xi live buffer fits =

@@ -13,7 +13,7 @@ use Rattle.spec_log.specs.Head.{head_in}
 use Rattle.spec_log.specs.Size.{is_thread}
 use Rattle.spec_kernel.specs.Interrupts.{is_live}
 use Rattle.spec_play.specs.Progress.{Progress, position, Used}
-use Rattle.spec_play.specs.Turns.{Now, Turn, Ended, has_left_over, at_end, turn_of_thread, turn_of, next_actor, now_at}
+use Rattle.spec_play.specs.Turns.{TurnOrEnd, Turn, Ended, has_left_over, at_end, turn_of_thread, turn_of, next_actor, now_at}
 use Rattle.spec_protocol.specs.machine.Spheres.{actor_of}
 use Rattle.spec_protocol.specs.promises.Sound.{commits_if, commits_among, IsDoneInOrder, IsNamed}
 use Rattle.spec_protocol.proofs.Moves.Threads.{AreNew}
@@ -103,7 +103,7 @@ some-is a b e = cc
 thread-named : (i k : ℕ) (o : Option Parts) (actor : Actor) → actor_of (turn_of_thread i k o) ≡ Some actor → Actor.Thread k ≡ actor
 thread-named i k None actor e = absurd (none-some actor e)
 thread-named i k (Some t) actor e =
-    branch (λ (now : Now). actor_of now ≡ Some actor → Actor.Thread k ≡ actor) (is_live t) (Turn k) (Ended (End.Diverged i Why.NoThread)) (λ _ h. some-is (Actor.Thread k) actor h) (λ _ h. absurd (none-some actor h)) e
+    branch (λ (now : TurnOrEnd). actor_of now ≡ Some actor → Actor.Thread k ≡ actor) (is_live t) (Turn k) (Ended (End.Diverged i Why.NoThread)) (λ _ h. some-is (Actor.Thread k) actor h) (λ _ h. absurd (none-some actor h)) e
 
 turn-named : (i : ℕ) (threads : List Parts) (o : Option Actor) (actor : Actor) → actor_of (turn_of i threads o) ≡ Some actor → o ≡ Some actor
 turn-named i threads None actor e = absurd (none-some actor e)
@@ -117,7 +117,7 @@ end-named i false actor e = none-some actor e
 now-next : (log : LogParts) (p : Progress) (u : Used) (threads : List Parts) (actor : Actor) → actor_of (now_at log p u threads) ≡ Some actor → next_actor log p threads ≡ Some actor
 unfolding now_at
 now-next log p u threads actor e =
-    branch (λ (now : Now). actor_of now ≡ Some actor → next_actor log p threads ≡ Some actor) _ (turn_of (position p) threads (next_actor log p threads)) (at_end (position p) (has_left_over log u threads))
+    branch (λ (now : TurnOrEnd). actor_of now ≡ Some actor → next_actor log p threads ≡ Some actor) _ (turn_of (position p) threads (next_actor log p threads)) (at_end (position p) (has_left_over log u threads))
     (λ _ h. turn-named (position p) threads (next_actor log p threads) actor h)
     (λ _ h. absurd (end-named (position p) (has_left_over log u threads) actor h)) e
 

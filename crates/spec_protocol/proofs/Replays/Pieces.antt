@@ -10,13 +10,13 @@ use Rattle.spec_isa.specs.declared.thread.Parts.{Parts}
 use Rattle.spec_isa.specs.Runs.{Run, run}
 use Rattle.spec_isa.specs.Threads.{started}
 use Rattle.spec_kernel.specs.Devices.{Devices}
-use Rattle.spec_play.specs.Turns.{Now, Turn, TurnOfDma, Ended}
+use Rattle.spec_play.specs.Turns.{TurnOrEnd, Turn, TurnOfDma, Ended}
 use Rattle.spec_play.specs.Verdicts.{LogVerdict, Goes, Fails, chunk_verdict, serial_verdict}
 use Rattle.spec_play.specs.Transfers.{DmaVerdict, DmaGoes, DmaFails, dma_verdict}
 use Rattle.spec_engine.specs.declared.answers.How.{How}
 use Rattle.spec_protocol.specs.machine.Spheres.{other_than, turn_in, turn_against, Cursor, Role, Plain, Record, Replay, Sphere, is_over, is_stopped, actor_of, head_in, head_of, is_in_pieces, no_sphere}
 use Rattle.spec_protocol.specs.machine.Commits.{MovedSphere, is_piece, joined, by_verdict, replayed_chunk, chunk_in, chunk_moved, serial_in, serial_moved, live_dma, dma_by_verdict, dma_log, dma_in, dma_moved, role_raised, raised}
-use Rattle.spec_protocol.specs.machine.World.{Numbers, World, What, OfChunk, OfSerial, OfDma, OfRaise, Move, sphere_at}
+use Rattle.spec_protocol.specs.machine.World.{Numbers, World, MoveKind, OfChunk, OfSerial, OfDma, OfRaise, Move, sphere_at}
 use Rattle.spec_protocol.specs.machine.Asking.{is_short}
 use Rattle.spec_protocol.specs.machine.Placing.{replays}
 use Rattle.spec_protocol.specs.machine.Machine.{first_threads, RoleSetup, IsPlain, IsRecorded, IsReplayed, SphereSetup, role_of, sphere_of, moves, world_of}
@@ -127,7 +127,7 @@ unfolding raised
 raise_keeps_turn x i k value p None all is = all
 raise_keeps_turn x i k value p (Some t) all is = turn_set x i p (raised k value t p) x.devices all is (raise_turn k t.commits value p.role (all i p is))
 
-what_keeps_turn : (z : Numbers) (x : SerialState) (moment i : ℕ) (p : Sphere) (what : What) → AllInTurn x → slice_get x.spheres i ≡ Some p → FitsWhat z x.devices p what → AllInTurn (do_what z x moment i p what)
+what_keeps_turn : (z : Numbers) (x : SerialState) (moment i : ℕ) (p : Sphere) (what : MoveKind) → AllInTurn x → slice_get x.spheres i ≡ Some p → FitsWhat z x.devices p what → AllInTurn (do_what z x moment i p what)
 what_keeps_turn z x moment i p (OfChunk k how n limit) all is fits = chunk_keeps_turn z x i k how n limit p (slice_get p.threads k) all is fits
 what_keeps_turn z x moment i p (OfSerial k) all is fits = serial_keeps_turn x i k moment p (slice_get p.threads k) all is
 what_keeps_turn z x moment i p OfDma all is fits = dma_keeps_turn x i p (dma_moved x.devices p) all is (dma_turn x.devices p)
@@ -164,7 +164,7 @@ unfolding turn_against
 own_chunk z p b k j how n limit None role turn fits = absurd fits
 own_chunk z p b k j how n limit (Some t) role turn fits =
     let same : Turn k ≡ Turn j = sym turn ∙ turn-is b.now j (sym (ap is_stopped role) ∙ fits.going) (sym (ap (λ (r : Role). turn_in r p (Actor.Thread j)) role) ∙ fits.turn) in
-    sym (ap (λ (now : Now). elim now [ Turn i ↦ i | TurnOfDma ↦ 0 | Ended how ↦ 0 ]) same)
+    sym (ap (λ (now : TurnOrEnd). elim now [ Turn i ↦ i | TurnOfDma ↦ 0 | Ended how ↦ 0 ]) same)
 
 no_serial : (p : Sphere) (b : Cursor) (k : ℕ) (o : Option Parts) → p.role ≡ Replay b → 0 < b.total → FitsSerial p k o → ⊥
 no_serial p b k None role some fits = fits
@@ -175,12 +175,12 @@ pub no_raise : (p : Sphere) (b : Cursor) (o : Option Parts) → p.role ≡ Repla
 no_raise p b None role fits = fits
 no_raise p b (Some t) role fits = true≢false (sym (ap replays role) ∙ fits.live)
 
-only_chunks : (z : Numbers) (devices : Devices) (p : Sphere) (b : Cursor) (k : ℕ) (what : What) → p.role ≡ Replay b → b.now ≡ Turn k → 0 < b.total → FitsWhat z devices p what → IsChunkOf k what
+only_chunks : (z : Numbers) (devices : Devices) (p : Sphere) (b : Cursor) (k : ℕ) (what : MoveKind) → p.role ≡ Replay b → b.now ≡ Turn k → 0 < b.total → FitsWhat z devices p what → IsChunkOf k what
 unfolding turn_against
 only_chunks z devices p b k (OfChunk j how n limit) role turn some fits = own_chunk z p b k j how n limit (slice_get p.threads j) role turn fits
 only_chunks z devices p b k (OfSerial j) role turn some fits = no_serial p b j (slice_get p.threads j) role some fits
 only_chunks z devices p b k OfDma role turn some fits =
-    none-some (Actor.Thread k) (sym (sym (ap (λ (r : Role). turn_in r p Actor.Dma) role ∙ ap (λ (now : Now). other_than Actor.Dma (actor_of now)) turn) ∙ fits.turn))
+    none-some (Actor.Thread k) (sym (sym (ap (λ (r : Role). turn_in r p Actor.Dma) role ∙ ap (λ (now : TurnOrEnd). other_than Actor.Dma (actor_of now)) turn) ∙ fits.turn))
 only_chunks z devices p b k (OfRaise j value) role turn some fits = no_raise p b (slice_get p.threads j) role fits
 
 -- nothing where it has stopped
@@ -201,7 +201,7 @@ no_raise_there : (p : Sphere) (o : Option Parts) → is_stopped p.role ≡ true 
 no_raise_there p None stopped fits = fits
 no_raise_there p (Some t) stopped fits = true≢false (sym (stopped_replays p.role stopped) ∙ fits.live)
 
-nothing_there : (z : Numbers) (devices : Devices) (p : Sphere) (what : What) → is_stopped p.role ≡ true → FitsWhat z devices p what → ⊥
+nothing_there : (z : Numbers) (devices : Devices) (p : Sphere) (what : MoveKind) → is_stopped p.role ≡ true → FitsWhat z devices p what → ⊥
 nothing_there z devices p (OfChunk k how n limit) stopped fits = no_chunk_there z p k how n limit (slice_get p.threads k) stopped fits
 nothing_there z devices p (OfSerial k) stopped fits = no_serial_there p k (slice_get p.threads k) stopped fits
 nothing_there z devices p OfDma stopped fits = true≢false (sym stopped ∙ fits.going)

@@ -10,7 +10,7 @@ use Rattle.spec_log.specs.declared.LogParts.{LogParts}
 use Rattle.spec_log.specs.Log.{IsLog}
 use Rattle.spec_kernel.specs.Interrupts.{is_live}
 use Rattle.spec_play.specs.Progress.{Progress, position, Used}
-use Rattle.spec_play.specs.Turns.{Now, Turn, TurnOfDma, Ended, has_left_over, at_end, turn_of_thread, turn_of, next_actor, now_at}
+use Rattle.spec_play.specs.Turns.{TurnOrEnd, Turn, TurnOfDma, Ended, has_left_over, at_end, turn_of_thread, turn_of, next_actor, now_at}
 use Rattle.spec_protocol.specs.machine.Spheres.{is_over}
 use Rattle.spec_protocol.specs.machine.Commits.{turned}
 use Rattle.spec_protocol.specs.promises.Sound.{IsDoneInOrder, due, IsSoundCursor}
@@ -36,7 +36,7 @@ record IsTurn (threads : List Parts) (k : ℕ) : Type 0 where
 thread-turn : (i j k : ℕ) (threads : List Parts) (o : Option Parts) → slice_get threads j ≡ o → turn_of_thread i j o ≡ Turn k → IsTurn threads k
 thread-turn i j k threads None is e = absurd (over-turn (End.Diverged i Why.NoThread) k e)
 thread-turn i j k threads (Some t) is e =
-    branch (λ (now : Now). now ≡ Turn k → IsTurn threads k) (is_live t) (Turn j) (Ended (End.Diverged i Why.NoThread))
+    branch (λ (now : TurnOrEnd). now ≡ Turn k → IsTurn threads k) (is_live t) (Turn j) (Ended (End.Diverged i Why.NoThread))
     (λ live h. subst (IsTurn threads) (let q : j ≡ k = cc in q) (record { thread = t; there = is; live = live }))
     (λ _ h. absurd (over-turn (End.Diverged i Why.NoThread) k h)) e
 
@@ -56,14 +56,14 @@ end-turn i k false e = over-turn (End.Complete i) k e
 now-turn : (log : LogParts) (p : Progress) (u : Used) (threads : List Parts) (k : ℕ) → now_at log p u threads ≡ Turn k → IsTurn threads k
 unfolding now_at
 now-turn log p u threads k e =
-    branch (λ (now : Now). now ≡ Turn k → IsTurn threads k) (nat_lt (position p) log.count) (turn_of (position p) threads (next_actor log p threads)) (at_end (position p) (has_left_over log u threads))
+    branch (λ (now : TurnOrEnd). now ≡ Turn k → IsTurn threads k) (nat_lt (position p) log.count) (turn_of (position p) threads (next_actor log p threads)) (at_end (position p) (has_left_over log u threads))
     (λ _ h. actor-turn (position p) k threads (next_actor log p threads) h)
     (λ _ h. absurd (end-turn (position p) k (has_left_over log u threads) h)) e
 
 now-going : (log : LogParts) (p : Progress) (u : Used) (threads : List Parts) → is_over (now_at log p u threads) ≡ false → position p < log.count
 unfolding now_at
 now-going log p u threads e =
-    branch (λ (now : Now). is_over now ≡ false → position p < log.count) (nat_lt (position p) log.count) (turn_of (position p) threads (next_actor log p threads)) (at_end (position p) (has_left_over log u threads))
+    branch (λ (now : TurnOrEnd). is_over now ≡ false → position p < log.count) (nat_lt (position p) log.count) (turn_of (position p) threads (next_actor log p threads)) (at_end (position p) (has_left_over log u threads))
     (λ l _. ltb-true (position p) log.count l)
     (λ _ h. absurd (true≢false (sym (end-over (position p) (has_left_over log u threads)) ∙ h))) e
 

@@ -20,7 +20,7 @@ use Rattle.spec_engine.specs.Chunks.{fresh, step, cut, squash, Chunk}
 use Rattle.spec_protocol.specs.declared.event.Event.{Event}
 use Rattle.spec_protocol.specs.machine.Spheres.{turn_against, Sphere, no_sphere, is_stopped, limit_of, halves}
 use Rattle.spec_protocol.specs.machine.Commits.{CommitOutcome, Granted, Piece, Diverged, MovedSphere, is_piece, chunk_moved, serial_moved, raised}
-use Rattle.spec_protocol.specs.machine.World.{Numbers, Occupant, World, After, moment, sphere_at, with_sphere, with_memory, with_core, with_slot, thread_afresh, held_afresh, core_of, flown, answered}
+use Rattle.spec_protocol.specs.machine.World.{Numbers, Occupant, World, EventOutcome, moment, sphere_at, with_sphere, with_memory, with_core, with_slot, thread_afresh, held_afresh, core_of, flown, answered}
 use Rattle.spec_protocol.specs.machine.Stepping.{stepped, cut_to, stepped_younger, younger_for, cut_younger}
 use Rattle.spec_protocol.specs.machine.Flying.{reply_of_drain, reads_of, writes_of, squashed, told, delivering, retiring, younger_of, hits_younger, squashed_younger}
 use Rattle.spec_protocol.specs.machine.Asking.{CommitRequest, goes_on_with, granted, is_short, chunk_request, grant_chunk, serial_request, grant_serial, was_interrupted, promoted}
@@ -192,7 +192,7 @@ within-sphere w i k t e =
 -- ---- the event
 
 -- the property after the event
-abbrev Then : Properties → World → After → Type 0
+abbrev Then : Properties → World → EventOutcome → Type 0
 Then P w a = Holds P (suc (moment w)) a.world
 
 -- the parts of a good world have the properties, and each change keeps them

@@ -24,7 +24,7 @@ use Rattle.spec_play.specs.Progress.{Progress, position, with_effect, Used, with
 use Rattle.spec_play.specs.Turns.{Turn}
 use Rattle.spec_play.specs.Plays.{with_threads}
 use Rattle.spec_play.specs.Recording.{noted, input_noted}
-use Rattle.spec_play.specs.Verdicts.{ended, chunk_why, chunk_verdict, Given, given, serial_why, served_verdict, serial_verdict}
+use Rattle.spec_play.specs.Verdicts.{ended, chunk_why, chunk_verdict, TakenRecord, given, serial_why, served_verdict, serial_verdict}
 use Rattle.spec_protocol.specs.machine.Spheres.{Cursor, Role, Plain, Record, Replay, Sphere, whole_limit}
 use Rattle.spec_protocol.specs.machine.Commits.{joined, piece_moved, replayed_chunk, chunk_in, chunk_moved, served_as, serial_noted, serial_in, serial_moved}
 use Rattle.spec_protocol.specs.machine.Machine.{SphereSetup}
@@ -155,11 +155,11 @@ fits-brings MomentWord r e = tt
 fits-brings InputWord r e = tt
 
 -- what is given fits, and is among the records
-record IsGiven (log : LogParts) (threads : List Parts) (o : Option Need) (g : Given) : Type 0 where
+record IsGiven (log : LogParts) (threads : List Parts) (o : Option Need) (g : TakenRecord) : Type 0 where
   brings : BringsIf o g.input
   uses : Uses log threads g.used
 
-abbrev IfGiven : (log : LogParts) (threads : List Parts) → Option Need → Option Given → Type 0
+abbrev IfGiven : (log : LogParts) (threads : List Parts) → Option Need → Option TakenRecord → Type 0
 IfGiven log threads o None = Unit {0}
 IfGiven log threads o (Some g) = IsGiven log threads o g
 
@@ -171,7 +171,7 @@ given-sound log threads (Some n) (Some r) u is uses =
     (λ e. record { brings = fits-brings n r e; uses = record { rising = uses.rising; inputs = (let l = slice_get_within log.inputs u.inputs r is in omega (arith, l)); dmas = uses.dmas; interrupts = uses.interrupts } })
     (λ _. tt)
 
-served-goes : (size k : ℕ) (log : LogParts) (p : Progress) (ts : List Parts) (t : Parts) (m : List ℕ) (o : Option Given) → slice_get ts k ≡ Some t → IfGiven log ts (need t m) o → length m ≡ size → size % 4 ≡ 0 → IsThread t → IsSoundIf size p.request → length ts ≤ 15
+served-goes : (size k : ℕ) (log : LogParts) (p : Progress) (ts : List Parts) (t : Parts) (m : List ℕ) (o : Option TakenRecord) → slice_get ts k ≡ Some t → IfGiven log ts (need t m) o → length m ≡ size → size % 4 ≡ 0 → IsThread t → IsSoundIf size p.request → length ts ≤ 15
     → IfGoes (SoundlyIn size log k ts t) (served_verdict log p k ts t m o)
 served-goes size k log p ts t m None is each same whole thread request few = tt
 served-goes size k log p ts t m (Some g) is each same whole thread request few =

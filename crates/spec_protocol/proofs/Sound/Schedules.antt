@@ -15,7 +15,7 @@ use Rattle.spec_isa.specs.Words.{Stored, lay, lays}
 use Rattle.spec_isa.specs.Threads.{started}
 use Rattle.spec_isa.proofs.MemoryLaws.{length_lay, length_lays}
 use Rattle.spec_play.specs.Progress.{position, no_progress, nothing_used}
-use Rattle.spec_play.specs.Turns.{Now, Turn, TurnOfDma}
+use Rattle.spec_play.specs.Turns.{TurnOrEnd, Turn, TurnOfDma}
 use Rattle.spec_engine.specs.declared.answers.How.{How}
 use Rattle.spec_engine.specs.Flights.{Flight, at}
 use Rattle.spec_engine.specs.Chunks.{Chunk, step, cut}
@@ -23,7 +23,7 @@ use Rattle.spec_protocol.specs.declared.event.Event.{Event}
 use Rattle.spec_protocol.specs.machine.Spheres.{turn_in, turn_against, Cursor, Role, Replay, Sphere, no_sphere, is_over, is_stopped, whole_limit, pieces_of, limit_of, halves}
 use Rattle.spec_protocol.specs.machine.Commits.{MovedSphere, is_piece, chunk_moved, serial_moved}
 use Rattle.spec_protocol.specs.machine.Asking.{is_short}
-use Rattle.spec_protocol.specs.machine.World.{Numbers, Occupant, World, After, moment, sphere_at}
+use Rattle.spec_protocol.specs.machine.World.{Numbers, Occupant, World, EventOutcome, moment, sphere_at}
 use Rattle.spec_protocol.specs.machine.Placing.{replays}
 use Rattle.spec_protocol.specs.machine.Machine.{RoleSetup, IsPlain, IsRecorded, IsReplayed, SphereSetup, Setup, role_of, sphere_of, world_of, act, name_of, with_event, happens, world_after}
 use Rattle.spec_protocol.specs.promises.Invariants.{IsGood}
@@ -121,7 +121,7 @@ own-pieces k total = ap (λ (b : Bool). cond b total 0) (eq-eqb k k refl)
 limit-is : (s k : ℕ) (b : Cursor) (t : Parts) → b.now ≡ Turn k → limit_of s (Replay b) k t ≡ max 1 (whole_limit b.log k t.commits - b.total)
 unfolding limit_of
 limit-is s k b t turn =
-    ap (λ (n : ℕ). max 1 (whole_limit b.log k t.commits - n)) (ap (λ (now : Now). pieces_of now k b.total) turn ∙ own-pieces k b.total)
+    ap (λ (n : ℕ). max 1 (whole_limit b.log k t.commits - n)) (ap (λ (now : TurnOrEnd). pieces_of now k b.total) turn ∙ own-pieces k b.total)
 
 -- what the cursor says of thread k's turn, which is t
 turn-room : (n k : ℕ) (p : Sphere) (b : Cursor) (t : Parts) → IsSoundCursor n p.threads b → b.now ≡ Turn k → slice_get p.threads k ≡ Some t → b.total < whole_limit b.log k t.commits
@@ -215,7 +215,7 @@ holds-of : (s : Setup) (w : World) → IsSound s w → Holds (sound s) (moment w
 holds-of s w k =
     record { spheres = k.spheres; flights = k.flights; held = λ c h e. record { older = k.held c h e; younger = λ y. k.younger c h y e }; devices = k.devices }
 
-counted-moment : (w : World) (a : After) → a.world.counts ≡ w.counts → moment (with_event a) ≡ suc (moment w)
+counted-moment : (w : World) (a : EventOutcome) → a.world.counts ≡ w.counts → moment (with_event a) ≡ suc (moment w)
 counted-moment w a e = let h = ap (λ (n : Counts). n.events) e in omega (arith, h)
 
 same-sizes : (s : Setup) (w v : World) → AreSizesKept s w → SameSizes w v → AreSizesKept s v
@@ -236,7 +236,7 @@ counted-replies counts name few k =
       | inr ne ↦ (let q = get_or-set_other counts.replies j k n 0 ne in omega (arith, q, old))
     ]
 
-event-replies : (w : World) (a : After) → a.world.counts ≡ w.counts → ((k : ℕ) → slice_index w.counts.replies k ≤ moment w) → (k : ℕ) → slice_index (with_event a).counts.replies k ≤ moment (with_event a)
+event-replies : (w : World) (a : EventOutcome) → a.world.counts ≡ w.counts → ((k : ℕ) → slice_index w.counts.replies k ≤ moment w) → (k : ℕ) → slice_index (with_event a).counts.replies k ≤ moment (with_event a)
 event-replies w a e few =
     counted-replies a.world.counts (name_of a.reply) (subst (λ (c : Counts). (k : ℕ) → slice_index c.replies k ≤ c.events) (sym e) few)
 
@@ -245,7 +245,7 @@ no-replies zero k = refl
 no-replies (suc n) zero = refl
 no-replies (suc n) (suc k) = no-replies n k
 
-counted-sound : (s : Setup) (w : World) (a : After) → AreSizesKept s (with_event a) → ((k : ℕ) → slice_index (with_event a).counts.replies k ≤ moment (with_event a)) → moment (with_event a) ≡ suc (moment w) → Holds (sound s) (suc (moment w)) a.world → IsSound s (with_event a)
+counted-sound : (s : Setup) (w : World) (a : EventOutcome) → AreSizesKept s (with_event a) → ((k : ℕ) → slice_index (with_event a).counts.replies k ≤ moment (with_event a)) → moment (with_event a) ≡ suc (moment w) → Holds (sound s) (suc (moment w)) a.world → IsSound s (with_event a)
 counted-sound s w a sizes replies e k =
     record {
       sizes = sizes;

@@ -15,8 +15,8 @@ use Rattle.spec_engine.specs.Asking.{ask, ask_serial}
 use Rattle.spec_protocol.specs.declared.reply.Reply.{Reply}
 use Rattle.spec_protocol.specs.machine.Spheres.{turn_against, Role, Sphere, is_stopped, is_in_pieces}
 use Rattle.spec_protocol.specs.machine.Commits.{CommitOutcome, Granted, Piece, Diverged, MovedSphere, is_piece, chunk_moved, serial_moved}
-use Rattle.spec_protocol.specs.machine.World.{Numbers, World, Occupant, moment, sphere_at, with_sphere, with_core, thread_afresh, flown, What}
-use Rattle.spec_protocol.specs.machine.World.{OfChunk, OfSerial, Move, After, answered}
+use Rattle.spec_protocol.specs.machine.World.{Numbers, World, Occupant, moment, sphere_at, with_sphere, with_core, thread_afresh, flown, MoveKind}
+use Rattle.spec_protocol.specs.machine.World.{OfChunk, OfSerial, Move, EventOutcome, answered}
 
 -- ---- a granted request
 
@@ -25,7 +25,7 @@ use Rattle.spec_protocol.specs.machine.World.{OfChunk, OfSerial, Move, After, an
 pub record CommitRequest : Type 0 where
   pub sphere : ℕ
   pub thread : ℕ
-  pub what : What
+  pub what : MoveKind
   pub kind : CommitKind
   pub n : ℕ
   pub short : Bool
@@ -64,7 +64,7 @@ world_with w c q writes v =
       devices = v.devices;
     }
 
-abbrev pub granted : World → (core : ℕ) → CommitRequest → Signature → MovedSphere → CommitOutcome → After
+abbrev pub granted : World → (core : ℕ) → CommitRequest → Signature → MovedSphere → CommitOutcome → EventOutcome
 granted w c q writes v Granted =
     record {
       reply = Reply.Granted;
@@ -109,13 +109,13 @@ chunk_request w h how =
       younger = h.younger;
     }
 
-unfoldable pub grant_chunk : World → (core : ℕ) → Occupant → How → After
+unfoldable pub grant_chunk : World → (core : ℕ) → Occupant → How → EventOutcome
 grant_chunk w c h how =
     let q = chunk_request w h how in
     let v = chunk_moved h.thread (is_piece how) q.short h.chunk.done w.devices (sphere_at w h.chunk.sphere) in
     granted w c q h.chunk.writes v v.outcome
 
-abbrev pub unless_denied : Asked → World → After → After
+abbrev pub unless_denied : Asked → World → EventOutcome → EventOutcome
 unless_denied Asked.Grant w a = a
 unless_denied (Asked.Denied k) w a = answered w (Reply.Denied k)
 
@@ -134,13 +134,13 @@ serial_request h =
     }
 
 -- the thread has run nothing since its last commit
-unfoldable pub grant_serial : World → (core : ℕ) → Occupant → After
+unfoldable pub grant_serial : World → (core : ℕ) → Occupant → EventOutcome
 grant_serial w c h =
     let i = h.chunk.sphere in
     let v = serial_moved h.thread (moment w) h.chunk.start w.devices (sphere_at w i) in
     granted w c (serial_request h) (signed i v.words (nothing w.numbers.bits)) v v.outcome
 
-abbrev pub unless_busy : AskedSerial → World → After → After
+abbrev pub unless_busy : AskedSerial → World → EventOutcome → EventOutcome
 unless_busy AskedSerial.Grant w a = a
 unless_busy (AskedSerial.SphereBusy k) w a = answered w (Reply.SphereBusy k)
 
@@ -150,15 +150,15 @@ unless_busy (AskedSerial.SphereBusy k) w a = answered w (Reply.SphereBusy k)
 abbrev pub asks_serial : Chunk → Role → Bool
 asks_serial ch role = is_empty_serial ch && not (is_in_pieces role)
 
-abbrev pub ask_arbiter : World → (core : ℕ) → Occupant → How → (serial : Bool) → After
+abbrev pub ask_arbiter : World → (core : ℕ) → Occupant → How → (serial : Bool) → EventOutcome
 ask_arbiter w c h how true = unless_busy (ask_serial h.chunk.sphere w.slots) w (grant_serial w c h)
 ask_arbiter w c h how false = unless_denied (ask h.chunk.reads h.chunk.writes w.slots) w (grant_chunk w c h how)
 
-abbrev pub unless_turn : Option Actor → World → After → After
+abbrev pub unless_turn : Option Actor → World → EventOutcome → EventOutcome
 unless_turn None w a = a
 unless_turn (Some actor) w a = answered w (Reply.NotTurn actor)
 
-abbrev pub ask_closed : World → (core : ℕ) → Occupant → Option How → After
+abbrev pub ask_closed : World → (core : ℕ) → Occupant → Option How → EventOutcome
 ask_closed w c h None = answered w Reply.NotClosed
 ask_closed w c h (Some how) =
     let p = sphere_at w h.chunk.sphere in
@@ -167,10 +167,10 @@ ask_closed w c h (Some how) =
     (if is_full w.slots then answered w Reply.WindowFull
     else ask_arbiter w c h how (asks_serial h.chunk p.role))
 
-abbrev pub ask_held : World → (core : ℕ) → Option Occupant → After
+abbrev pub ask_held : World → (core : ℕ) → Option Occupant → EventOutcome
 ask_held w c None = answered w Reply.Idle
 ask_held w c (Some h) = ask_closed w c h h.chunk.closed
 
 -- the core asks
-unfoldable pub asking : World → (core : ℕ) → After
+unfoldable pub asking : World → (core : ℕ) → EventOutcome
 asking w c = ask_held w c (at w.cores c)

@@ -33,21 +33,21 @@ standing w = first_slot (λ f. true) w.slots
 -- ---- a replay that goes on
 
 -- a sphere, and the actor whose turn it is there
-pub record Who : Type 0 where
+pub record SphereTurn : Type 0 where
   pub sphere : ℕ
   pub actor : Actor
 
-abbrev pub who_in : (i : ℕ) → Option Actor → Option Who → Option Who
+abbrev pub who_in : (i : ℕ) → Option Actor → Option SphereTurn → Option SphereTurn
 who_in i None others = others
 who_in i (Some actor) others = Some (record { sphere = i; actor = actor })
 
-abbrev pub who_of : (i : ℕ) → Role → Option Who → Option Who
+abbrev pub who_of : (i : ℕ) → Role → Option SphereTurn → Option SphereTurn
 who_of i Plain others = others
 who_of i (Record recording) others = others
 who_of i (Replay b) others = who_in i (actor_of b.now) others
 
 -- of the spheres from i on the least replay that has not stopped
-abbrev pub least : (i : ℕ) → List Sphere → Option Who
+abbrev pub least : (i : ℕ) → List Sphere → Option SphereTurn
 least i [] = None
 least i (p ∷ ps) = who_of i p.role (least (suc i) ps)
 
@@ -64,7 +64,7 @@ abbrev pub for_actor : World → (i : ℕ) → Actor → Option Event
 for_actor w i Actor.Dma = Some (Event.Dma i)
 for_actor w i (Actor.Thread k) = for_core w i k (core_of w i k)
 
-abbrev pub for_who : World → Option Who → Option Event
+abbrev pub for_who : World → Option SphereTurn → Option Event
 for_who w None = None
 for_who w (Some who) = for_actor w who.sphere who.actor
 

@@ -15,7 +15,7 @@ use Rattle.spec_protocol.specs.declared.event.Event.{Event}
 use Rattle.spec_protocol.specs.declared.reply.Reply.{Reply}
 use Rattle.spec_protocol.specs.machine.Spheres.{Recording, Role, Plain, Record, Replay, Sphere}
 use Rattle.spec_protocol.specs.machine.Commits.{turned}
-use Rattle.spec_protocol.specs.machine.World.{Numbers, Occupant, World, held_afresh, After, Move}
+use Rattle.spec_protocol.specs.machine.World.{Numbers, Occupant, World, held_afresh, EventOutcome, Move}
 use Rattle.spec_protocol.specs.machine.Stepping.{stepping, cutting}
 use Rattle.spec_protocol.specs.machine.Asking.{asking}
 use Rattle.spec_protocol.specs.machine.Flying.{draining, delivering, retiring}
@@ -115,7 +115,7 @@ abbrev pub slot_no : World → ℕ → ℕ
 slot_no w k = k % length w.slots
 
 -- what the event answers and leaves, before it is counted
-unfoldable pub act : World → Event → After
+unfoldable pub act : World → Event → EventOutcome
 act w (Event.Step c) = stepping w (core_no w c)
 act w (Event.Cut c) = cutting w (core_no w c)
 act w (Event.Ask c) = asking w (core_no w c)
@@ -166,12 +166,12 @@ with_point None points = points
 with_point (Some point) points = points ++ point ∷ []
 
 -- the event is counted with its reply, and its point is kept
-abbrev pub with_event : After → World
+abbrev pub with_event : EventOutcome → World
 with_event a =
     record a.world { counts = counted a.world.counts (name_of a.reply); points = with_point a.point a.world.points }
 
 -- one event
-unfoldable pub happens : World → Event → After
+unfoldable pub happens : World → Event → EventOutcome
 happens w e = let a = act w e in record a { world = with_event a }
 
 -- ---- schedules

@@ -10,7 +10,7 @@ use Rattle.spec_kernel.specs.Interrupts.{is_live, takes_interrupt}
 use Rattle.spec_engine.specs.declared.answers.How.{How}
 use Rattle.spec_protocol.specs.machine.Spheres.{turn_against, Sphere, is_stopped, head_of, limit_of, is_in_pieces}
 use Rattle.spec_protocol.specs.machine.Commits.{is_piece, chunk_moved, dma_moved}
-use Rattle.spec_protocol.specs.machine.World.{Numbers, What, OfChunk, OfSerial, OfDma, OfRaise, Move}
+use Rattle.spec_protocol.specs.machine.World.{Numbers, MoveKind, OfChunk, OfSerial, OfDma, OfRaise, Move}
 use Rattle.spec_protocol.specs.machine.Asking.{is_short}
 use Rattle.spec_protocol.specs.machine.Placing.{replays}
 use Rattle.spec_protocol.specs.machine.Serial.{SerialState, do_moved, do_serial, do_dma, do_raise}
@@ -23,7 +23,7 @@ move_chunk z x i k how n limit p None = x
 move_chunk z x i k how n limit p (Some t) =
     do_moved x i (chunk_moved k (is_piece how) (is_short z.s how limit) (run p.memory t n) x.devices p)
 
-abbrev pub do_what : Numbers → SerialState → (moment i : ℕ) → Sphere → What → SerialState
+abbrev pub do_what : Numbers → SerialState → (moment i : ℕ) → Sphere → MoveKind → SerialState
 do_what z x moment i p (OfChunk k how n limit) = move_chunk z x i k how n limit p (slice_get p.threads k)
 do_what z x moment i p (OfSerial k) = do_serial x i k moment p (slice_get p.threads k)
 do_what z x moment i p OfDma = do_dma x i (dma_moved x.devices p)
@@ -101,7 +101,7 @@ abbrev pub FitsRaise : Sphere → Option Parts → Type 0
 FitsRaise p None = ⊥
 FitsRaise p (Some t) = RaiseFits p t
 
-abbrev pub FitsWhat : Numbers → Devices → Sphere → What → Type 0
+abbrev pub FitsWhat : Numbers → Devices → Sphere → MoveKind → Type 0
 FitsWhat z devices p (OfChunk k how n limit) = FitsChunk z p k how n limit (slice_get p.threads k)
 FitsWhat z devices p (OfSerial k) = FitsSerial p k (slice_get p.threads k)
 FitsWhat z devices p OfDma = DmaFits devices p

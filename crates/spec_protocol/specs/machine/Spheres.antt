@@ -9,13 +9,13 @@ use Rattle.spec_log.specs.Head.{turn}
 use Rattle.spec_log.specs.Size.{size_in}
 use Rattle.spec_kernel.specs.Interrupts.{is_live}
 use Rattle.spec_play.specs.Progress.{Progress, no_progress, Used}
-use Rattle.spec_play.specs.Turns.{Now, Turn, TurnOfDma, Ended}
+use Rattle.spec_play.specs.Turns.{TurnOrEnd, Turn, TurnOfDma, Ended}
 
 -- a replayed sphere's log, how far it is in it, and of the pieces of the present commit the instructions and the loads
 pub record Cursor : Type 0 where
   pub log : LogParts
   pub used : Used
-  pub now : Now
+  pub now : TurnOrEnd
   pub total : ℕ
   pub loads : List Load
 
@@ -40,7 +40,7 @@ no_sphere = record { memory = []; threads = []; progress = no_progress; role = P
 
 -- ---- turns
 
-abbrev pub is_over : Now → Bool
+abbrev pub is_over : TurnOrEnd → Bool
 is_over (Turn k) = false
 is_over TurnOfDma = false
 is_over (Ended how) = true
@@ -51,7 +51,7 @@ is_stopped Plain = false
 is_stopped (Record recording) = false
 is_stopped (Replay b) = is_over b.now
 
-abbrev pub actor_of : Now → Option Actor
+abbrev pub actor_of : TurnOrEnd → Option Actor
 actor_of (Turn k) = Some (Actor.Thread k)
 actor_of TurnOfDma = Some Actor.Dma
 actor_of (Ended how) = None
@@ -100,7 +100,7 @@ abbrev pub whole_limit : LogParts → (thread commits : ℕ) → ℕ
 whole_limit log k commits = elim (size_in log (Actor.Thread k) commits) [ None ↦ log.s | Some z ↦ max 1 z ]
 
 -- the instructions that earlier pieces of the thread's present commit have run
-abbrev pub pieces_of : Now → (thread total : ℕ) → ℕ
+abbrev pub pieces_of : TurnOrEnd → (thread total : ℕ) → ℕ
 pieces_of (Turn j) k total = if nat_eq j k then total else 0
 pieces_of TurnOfDma k total = 0
 pieces_of (Ended how) k total = 0

@@ -9,7 +9,7 @@ use Rattle.spec_engine.specs.Flights.{at}
 use Rattle.spec_engine.specs.Chunks.{Chunk, fresh, Stepping, step, Cutting, cut, is_open}
 use Rattle.spec_protocol.specs.declared.reply.Reply.{Reply}
 use Rattle.spec_protocol.specs.machine.Spheres.{Role, is_stopped, limit_after, halves}
-use Rattle.spec_protocol.specs.machine.World.{Numbers, World, Occupant, sphere_at, with_core, After, answered}
+use Rattle.spec_protocol.specs.machine.World.{Numbers, World, Occupant, sphere_at, with_core, EventOutcome, answered}
 use Rattle.spec_protocol.specs.machine.Placing.{replays}
 
 -- ---- the older chunk
@@ -22,7 +22,7 @@ reply_of_step Stepped.Ran = Reply.Ran
 reply_of_step (Stepped.Closed how) = Reply.Closed how
 reply_of_step (Stepped.Bounced k) = Reply.Bounced k
 
-abbrev pub stepped : World → (core : ℕ) → Occupant → Stepping → After
+abbrev pub stepped : World → (core : ℕ) → Occupant → Stepping → EventOutcome
 stepped w c h s = answered (with_chunk w c h s.chunk) (reply_of_step s.reply)
 
 -- ---- the younger chunk
@@ -30,7 +30,7 @@ stepped w c h s = answered (with_chunk w c h s.chunk) (reply_of_step s.reply)
 abbrev pub with_younger : World → (core : ℕ) → Occupant → Chunk → World
 with_younger w c h y = with_core w c (Some (record h { younger = Some y }))
 
-abbrev pub stepped_younger : World → (core : ℕ) → Occupant → Stepping → After
+abbrev pub stepped_younger : World → (core : ℕ) → Occupant → Stepping → EventOutcome
 stepped_younger w c h s = answered (with_younger w c h s.chunk) (reply_of_step s.reply)
 
 -- whether a chunk may follow one that was closed so. In a replay one that was cut off, or found no room, is a piece, and none
@@ -59,7 +59,7 @@ younger_for z role h None =
 
 -- the older chunk is closed, so the younger one runs an instruction: its own stores lie over the older's, and these over
 -- memory
-abbrev pub step_younger : World → (core : ℕ) → Occupant → (younger : Option Chunk) → After
+abbrev pub step_younger : World → (core : ℕ) → Occupant → (younger : Option Chunk) → EventOutcome
 step_younger w c h None = answered w Reply.Waiting
 step_younger w c h (Some y) =
     let p = sphere_at w h.chunk.sphere in
@@ -68,7 +68,7 @@ step_younger w c h (Some y) =
     else answered w Reply.Waiting
 
 -- the core's own stores lie over the memory of its sphere as it stands now, drained or not
-abbrev pub step_held : World → (core : ℕ) → Option Occupant → After
+abbrev pub step_held : World → (core : ℕ) → Option Occupant → EventOutcome
 step_held w c None = answered w Reply.Idle
 step_held w c (Some h) =
     let p = sphere_at w h.chunk.sphere in
@@ -77,7 +77,7 @@ step_held w c (Some h) =
     else step_younger w c h (younger_for w.numbers p.role h h.younger)
 
 -- the core runs one instruction
-unfoldable pub stepping : World → (core : ℕ) → After
+unfoldable pub stepping : World → (core : ℕ) → EventOutcome
 stepping w c = step_held w c (at w.cores c)
 
 -- ---- Cut
@@ -87,23 +87,23 @@ reply_of_cut CutReply.Waiting = Reply.Waiting
 reply_of_cut CutReply.NothingRun = Reply.NothingRun
 reply_of_cut CutReply.Closed = Reply.Closed How.Cut
 
-abbrev pub cut_to : World → (core : ℕ) → Occupant → Cutting → After
+abbrev pub cut_to : World → (core : ℕ) → Occupant → Cutting → EventOutcome
 cut_to w c h s = answered (with_chunk w c h s.chunk) (reply_of_cut s.reply)
 
-abbrev pub cut_younger : World → (core : ℕ) → Occupant → Cutting → After
+abbrev pub cut_younger : World → (core : ℕ) → Occupant → Cutting → EventOutcome
 cut_younger w c h s = answered (with_younger w c h s.chunk) (reply_of_cut s.reply)
 
 -- the younger chunk is cut off if there is one, else the older. None begins
-abbrev pub cut_in : World → (core : ℕ) → Occupant → (younger : Option Chunk) → After
+abbrev pub cut_in : World → (core : ℕ) → Occupant → (younger : Option Chunk) → EventOutcome
 cut_in w c h None = cut_to w c h (cut h.chunk)
 cut_in w c h (Some y) = cut_younger w c h (cut y)
 
-abbrev pub cut_held : World → (core : ℕ) → Option Occupant → After
+abbrev pub cut_held : World → (core : ℕ) → Option Occupant → EventOutcome
 cut_held w c None = answered w Reply.Idle
 cut_held w c (Some h) =
     if is_stopped (sphere_at w h.chunk.sphere).role then answered w Reply.Stopped
     else cut_in w c h h.younger
 
 -- the core's chunk is cut off
-unfoldable pub cutting : World → (core : ℕ) → After
+unfoldable pub cutting : World → (core : ℕ) → EventOutcome
 cutting w c = cut_held w c (at w.cores c)

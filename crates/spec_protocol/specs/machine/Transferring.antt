@@ -9,14 +9,14 @@ use Rattle.spec_engine.specs.Asking.{ask}
 use Rattle.spec_protocol.specs.declared.reply.Reply.{Reply}
 use Rattle.spec_protocol.specs.machine.Spheres.{is_stopped, turn_against}
 use Rattle.spec_protocol.specs.machine.Commits.{CommitOutcome, Granted, Piece, Diverged, MovedSphere, dma_moved}
-use Rattle.spec_protocol.specs.machine.World.{World, moment, sphere_at, with_sphere, flown, OfDma, Move, After, answered}
+use Rattle.spec_protocol.specs.machine.World.{World, moment, sphere_at, with_sphere, flown, OfDma, Move, EventOutcome, answered}
 use Rattle.spec_protocol.specs.machine.Asking.{unless_denied, unless_turn}
 
 abbrev pub dma_move : World → (i : ℕ) → Move
 dma_move w i = record { moment = moment w; sphere = i; what = OfDma }
 
 -- no core is told yet
-abbrev pub dma_done : World → (i : ℕ) → Signature → MovedSphere → After
+abbrev pub dma_done : World → (i : ℕ) → Signature → MovedSphere → EventOutcome
 dma_done w i writes v =
     record {
       reply = Reply.DmaDone;
@@ -30,13 +30,13 @@ dma_done w i writes v =
     }
 
 -- its stores are denied where they hit a flight
-unfoldable pub transfer : World → (i : ℕ) → MovedSphere → After
+unfoldable pub transfer : World → (i : ℕ) → MovedSphere → EventOutcome
 transfer w i v =
     let writes = signed i v.words (nothing w.numbers.bits) in
     if is_full w.slots then answered w Reply.WindowFull
     else unless_denied (ask writes writes w.slots) w (dma_done w i writes v)
 
-abbrev pub dma_with : World → (i : ℕ) → MovedSphere → CommitOutcome → After
+abbrev pub dma_with : World → (i : ℕ) → MovedSphere → CommitOutcome → EventOutcome
 dma_with w i v Granted = transfer w i v
 dma_with w i v Piece = transfer w i v
 dma_with w i v (Diverged j why) =
@@ -47,12 +47,12 @@ dma_with w i v (Diverged j why) =
       move = Some (dma_move w i);
     }
 
-abbrev pub dma_if : World → (i : ℕ) → Option MovedSphere → After
+abbrev pub dma_if : World → (i : ℕ) → Option MovedSphere → EventOutcome
 dma_if w i None = answered w Reply.NoDma
 dma_if w i (Some v) = dma_with w i v v.outcome
 
 -- the outstanding request of sphere i is done
-unfoldable pub transferring : World → (i : ℕ) → After
+unfoldable pub transferring : World → (i : ℕ) → EventOutcome
 transferring w i =
     let p = sphere_at w i in
     if is_stopped p.role then answered w Reply.Stopped

@@ -93,24 +93,24 @@ flown i words writes told slots =
 
 -- what took effect at a moment in a sphere, in full: a chunk of a thread, how it was closed, its instructions and its
 -- limit; a serial step; a DMA; or an interrupt. A divergence is told too
-pub data What : Type 0 where
-  OfChunk : (thread : ℕ) (how : How) (n limit : ℕ) → What
-  OfSerial : (thread : ℕ) → What
-  OfDma : What
-  OfRaise : (thread value : ℕ) → What
+pub data MoveKind : Type 0 where
+  OfChunk : (thread : ℕ) (how : How) (n limit : ℕ) → MoveKind
+  OfSerial : (thread : ℕ) → MoveKind
+  OfDma : MoveKind
+  OfRaise : (thread value : ℕ) → MoveKind
 
 pub record Move : Type 0 where
   pub moment : ℕ
   pub sphere : ℕ
-  pub what : What
+  pub what : MoveKind
 
 -- the reply, the world before it is counted, the serialisation point, and the move
-pub record After : Type 0 where
+pub record EventOutcome : Type 0 where
   pub reply : Reply
   pub world : World
   pub point : Option Point
   pub move : Option Move
 
 -- an answer, and the world that it leaves: no commit and no interrupt took effect
-abbrev pub answered : World → Reply → After
+abbrev pub answered : World → Reply → EventOutcome
 answered w reply = record { reply = reply; world = w; point = None; move = None }

@@ -6,14 +6,14 @@ use Rattle.spec_engine.specs.declared.answers.How.{How}
 use Rattle.spec_protocol.specs.declared.event.Event.{Event}
 use Rattle.spec_protocol.specs.machine.Spheres.{Cursor, Replay, Sphere, is_over, is_stopped}
 use Rattle.spec_protocol.specs.machine.Commits.{is_piece}
-use Rattle.spec_protocol.specs.machine.World.{World, What, OfChunk, OfSerial, OfDma, OfRaise, Move, sphere_at}
+use Rattle.spec_protocol.specs.machine.World.{World, MoveKind, OfChunk, OfSerial, OfDma, OfRaise, Move, sphere_at}
 use Rattle.spec_protocol.specs.machine.Machine.{Setup, happens}
 use Rattle.spec_protocol.specs.promises.Promises.{IsSetup, after}
 
 -- ---- in pieces
 
 -- a chunk of thread k: a further piece, the last part, or what leaves the log
-abbrev pub IsChunkOf : (thread : ℕ) → What → Type 0
+abbrev pub IsChunkOf : (thread : ℕ) → MoveKind → Type 0
 IsChunkOf k (OfChunk j how n limit) = j ≡ k
 IsChunkOf k (OfSerial j) = ⊥
 IsChunkOf k OfDma = ⊥

@@ -12,7 +12,7 @@ use Rattle.spec_kernel.specs.Devices.{Devices}
 use Rattle.spec_kernel.specs.Needs.{next_kind}
 use Rattle.spec_play.specs.Effects.{Effect, dma_commit}
 use Rattle.spec_play.specs.Progress.{Progress, position, with_effect, with_dma, Used, with_dma_used}
-use Rattle.spec_play.specs.Turns.{Now, Turn, TurnOfDma, Ended, now_at}
+use Rattle.spec_play.specs.Turns.{TurnOrEnd, Turn, TurnOfDma, Ended, now_at}
 use Rattle.spec_play.specs.Verdicts.{LogVerdict, Goes, Fails}
 use Rattle.spec_play.specs.Transfers.{DmaVerdict, DmaGoes, DmaFails, dma_verdict}
 use Rattle.spec_play.specs.Plays.{Played, with_threads, settled, thread_verdict, play_thread, dma_settled, play_now, play_one, plays}
@@ -68,7 +68,7 @@ whole_follows log z q c role same standard progress used now turn w =
 -- the replayed sphere p, with cursor b, is beside y of its log's play
 module _ (log : LogParts) (y : Played) (p : Sphere) (b : Cursor) (devices : Devices) (s : Beside log y p b) where
   -- if the play's next commit diverges, so does the replay
-  diverged-follows : (why : Why) (now : Now) → y.now ≡ now → ((how : End) → now ≡ Ended how → ⊥) → StandsAt log y now p b → play_one log y ≡ ended_by y why
+  diverged-follows : (why : Why) (now : TurnOrEnd) → y.now ≡ now → ((how : End) → now ≡ Ended how → ⊥) → StandsAt log y now p b → play_one log y ≡ ended_by y why
       → ((c : Cursor) → c.total ≡ b.total → c.loads ≡ b.loads → StandsAt log y now p b → StandsAt log y now (laid (diverged b why devices p)) c) → Follows log y (laid (diverged b why devices p))
   diverged-follows why now is going state one keeps =
       let c : Cursor = record b { now = Ended (End.Diverged (position p.progress) why) } in
@@ -80,7 +80,7 @@ module _ (log : LogParts) (y : Played) (p : Sphere) (b : Cursor) (devices : Devi
         used = s.used;
         now = inr (record { why = why; over = same_end p.progress y why s.progress; diverges = one });
         ended = λ how e. absurd (going how (sym is ∙ e));
-        state = subst (λ (n : Now). StandsAt log y n (laid (diverged b why devices p)) c) (sym is) (keeps c refl refl state);
+        state = subst (λ (n : TurnOrEnd). StandsAt log y n (laid (diverged b why devices p)) c) (sym is) (keeps c refl refl state);
       }
 
   -- if both commit alike, the replay follows the play that has settled it

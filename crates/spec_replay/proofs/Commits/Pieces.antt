@@ -8,7 +8,7 @@ use Rattle.spec_isa.specs.Words.{lays}
 use Rattle.spec_isa.specs.Runs.{Run, run}
 use Rattle.spec_log.specs.declared.LogParts.{LogParts}
 use Rattle.spec_kernel.specs.Devices.{Devices}
-use Rattle.spec_play.specs.Turns.{Now, Turn}
+use Rattle.spec_play.specs.Turns.{TurnOrEnd, Turn}
 use Rattle.spec_play.specs.Plays.{Played}
 use Rattle.spec_protocol.specs.machine.Spheres.{Cursor, Role, Sphere, whole_limit, pieces_of, limit_in, limit_of}
 use Rattle.spec_protocol.specs.machine.Commits.{piece_moved}
@@ -110,5 +110,5 @@ module _ (log : LogParts) (start y : Played) (p : Sphere) (b : Cursor) (k : ℕ)
         used = h.beside.used;
         now = inl h.same;
         ended = λ how e. h.same ∙ e;
-        state = subst (λ (x : Now). StandsAt log y x q c) (sym h.turn) (t, moved_piece u n r devices part within);
+        state = subst (λ (x : TurnOrEnd). StandsAt log y x q c) (sym h.turn) (t, moved_piece u n r devices part within);
       }

@@ -2,7 +2,7 @@
 use Rattle.std.proofs.Common.{◌≡◌, ℕ, zero, suc, ◌<◌, List, [], ◌∷◌, Some, refl, sym, ap, ◌∙◌, set}
 use Rattle.std.specs.Prelude.{slice_get}
 use Rattle.spec_log.specs.declared.LogParts.{LogParts}
-use Rattle.spec_play.specs.Turns.{Now, Turn, TurnOfDma, Ended, now_at}
+use Rattle.spec_play.specs.Turns.{TurnOrEnd, Turn, TurnOfDma, Ended, now_at}
 use Rattle.spec_play.specs.Plays.{Played}
 use Rattle.spec_play.proofs.Going.{Lives, turn-lives}
 use Rattle.spec_protocol.specs.machine.Spheres.{Cursor, Sphere}
@@ -41,7 +41,7 @@ moved_whole log y k p b s l w = (
       },
 )
 
-stands_now : (log : LogParts) (y : Played) (now : Now) (p : Sphere) (b : Cursor) → 0 < log.s → now_at log y.progress y.used y.threads ≡ now → IsWhole y p b → StandsAt log y now p b
+stands_now : (log : LogParts) (y : Played) (now : TurnOrEnd) (p : Sphere) (b : Cursor) → 0 < log.s → now_at log y.progress y.used y.threads ≡ now → IsWhole y p b → StandsAt log y now p b
 stands_now log y (Turn k) p b s e w = moved_whole log y k p b s (turn-lives log y.progress y.used y.threads k e) w
 stands_now log y TurnOfDma p b s e w = w
 stands_now log y (Ended how) p b s e w = w

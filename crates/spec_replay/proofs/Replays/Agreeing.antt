@@ -6,7 +6,7 @@ use Rattle.spec_isa.specs.Words.{lays}
 use Rattle.spec_isa.specs.Runs.{run}
 use Rattle.spec_log.specs.declared.LogParts.{LogParts}
 use Rattle.spec_play.specs.Progress.{position}
-use Rattle.spec_play.specs.Turns.{Now, Turn, TurnOfDma, Ended}
+use Rattle.spec_play.specs.Turns.{TurnOrEnd, Turn, TurnOfDma, Ended}
 use Rattle.spec_play.specs.Plays.{Played, opened, plays}
 use Rattle.spec_protocol.specs.machine.Spheres.{Cursor, Sphere, is_over}
 use Rattle.spec_replay.specs.Following.{IsWhole, IsMovedOn, StandsAt}
@@ -29,7 +29,7 @@ moved_same log y k t u p q b c m n total =
 whole_same : (y : Played) (p q : Sphere) (b c : Cursor) → IsWhole y p b → IsWhole y q c → SameState p q
 whole_same y p q b c m n = record { memory = m.memory ∙ sym n.memory; threads = m.threads ∙ sym n.threads }
 
-state_same : (log : LogParts) (y : Played) (now : Now) (p q : Sphere) (b c : Cursor) → StandsAt log y now p b → StandsAt log y now q c → b.total ≡ c.total → SameState p q
+state_same : (log : LogParts) (y : Played) (now : TurnOrEnd) (p q : Sphere) (b c : Cursor) → StandsAt log y now p b → StandsAt log y now q c → b.total ≡ c.total → SameState p q
 state_same log y (Turn k) p q b c m n total = moved_same log y k m.0 n.0 p q b c m.1 n.1 total
 state_same log y TurnOfDma p q b c m n total = whole_same y p q b c m n
 state_same log y (Ended how) p q b c m n total = whole_same y p q b c m n

@@ -20,8 +20,8 @@ use Rattle.spec_kernel.specs.Interrupts.{takes_interrupt, interrupted}
 use Rattle.spec_kernel.specs.Serving.{serve}
 use Rattle.spec_play.specs.Effects.{Effect, chunk_effect, serial_effect, dma_commit}
 use Rattle.spec_play.specs.Progress.{Progress, position, with_effect, with_dma, Used, with_interrupt}
-use Rattle.spec_play.specs.Turns.{Now, Turn, TurnOfDma, Ended}
-use Rattle.spec_play.specs.Verdicts.{LogVerdict, Goes, Fails, unless, interrupt_at, with_interrupted, chunk_why, chunk_verdict, serial_why, Given, given, served_verdict, serial_verdict}
+use Rattle.spec_play.specs.Turns.{TurnOrEnd, Turn, TurnOfDma, Ended}
+use Rattle.spec_play.specs.Verdicts.{LogVerdict, Goes, Fails, unless, interrupt_at, with_interrupted, chunk_why, chunk_verdict, serial_why, TakenRecord, given, served_verdict, serial_verdict}
 use Rattle.spec_play.specs.Transfers.{DmaVerdict, DmaGoes, DmaFails, is_for, transferred, dma_unless, dma_verdict}
 use Rattle.spec_play.specs.Plays.{Played, settled, size_or_standard, thread_verdict, play_thread, dma_settled, play_now, play_one}
 use Rattle.spec_replay.specs.Promises.{is_between}
@@ -65,7 +65,7 @@ serial_why_within : (o : Option ℕ) → WhyWithin (serial_why o)
 serial_why_within None = tt
 serial_why_within (Some z) = either WhyWithin (eqb z 0) None (Some (Why.SizeOfSerial z)) tt refl
 
-served_within : (log : LogParts) (p : Progress) (k : ℕ) (ts : List Parts) (t : Parts) (m : List ℕ) (o : Option Given) → FailsWithin (served_verdict log p k ts t m o)
+served_within : (log : LogParts) (p : Progress) (k : ℕ) (ts : List Parts) (t : Parts) (m : List ℕ) (o : Option TakenRecord) → FailsWithin (served_verdict log p k ts t m o)
 served_within log p k ts t m None = refl
 served_within log p k ts t m (Some g) =
     let e : Effect = serial_effect k (serve most_threads k ts p.request t m g.input) in interrupted_within (interrupt_at log.interrupts k e.thread.commits) e g.used
@@ -74,7 +74,7 @@ serial_within : (log : LogParts) (p : Progress) (u : Used) (k : ℕ) (ts : List 
 unfolding serial_verdict
 serial_within log p u k ts t m =
     let size : Option ℕ = size_in log (Actor.Thread k) t.commits in
-    let o : Option Given = given (need t m) (slice_get log.inputs u.inputs) u in
+    let o : Option TakenRecord = given (need t m) (slice_get log.inputs u.inputs) u in
     unless_within (serial_why size) (served_verdict log p k ts t m o) (serial_why_within size) (served_within log p k ts t m o)
 
 thread_within : (log : LogParts) (y : Played) (k : ℕ) (t : Parts) (o : Option Kind) → FailsWithin (thread_verdict log y k t o)
@@ -134,7 +134,7 @@ within_dma log y (DmaFails other) why f same between =
     let h : other ≡ why = same_why (position y.progress) (position y.progress) other why (ap (λ (x : Played). x.now) same) in
     absurd (true≢false (sym between ∙ ap is_between (sym h) ∙ f))
 
-within_now : (log : LogParts) (y : Played) (now : Now) (why : Why) → play_now log y now ≡ ended_by y why → is_between why ≡ true → EndedBefore y why
+within_now : (log : LogParts) (y : Played) (now : TurnOrEnd) (why : Why) → play_now log y now ≡ ended_by y why → is_between why ≡ true → EndedBefore y why
 within_now log y (Ended how) why same between = ap (λ (x : Played). x.now) same
 within_now log y (Turn k) why same between = within_thread log y k (slice_get y.threads k) why same between
 within_now log y TurnOfDma why same between = within_dma log y (dma_verdict log y.progress y.used) why (dma_within log y.progress y.used) same between

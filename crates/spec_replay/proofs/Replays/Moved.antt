@@ -10,14 +10,14 @@ use Rattle.spec_log.specs.declared.LogParts.{LogParts}
 use Rattle.spec_kernel.specs.Devices.{Devices}
 use Rattle.spec_kernel.specs.Needs.{next_kind}
 use Rattle.spec_play.specs.Progress.{position}
-use Rattle.spec_play.specs.Turns.{Now, Turn, TurnOfDma}
+use Rattle.spec_play.specs.Turns.{TurnOrEnd, Turn, TurnOfDma}
 use Rattle.spec_play.specs.Verdicts.{LogVerdict, serial_verdict}
 use Rattle.spec_play.specs.Transfers.{DmaVerdict, dma_verdict}
 use Rattle.spec_play.specs.Plays.{Played, plays}
 use Rattle.spec_engine.specs.declared.answers.How.{How}
 use Rattle.spec_protocol.specs.machine.Spheres.{turn_in, turn_against, Cursor, Role, Replay, Sphere, is_over, is_stopped, head_in, head_of, is_in_pieces}
 use Rattle.spec_protocol.specs.machine.Commits.{MovedSphere, is_piece, replayed_chunk, by_verdict, chunk_in, chunk_moved, serial_in, serial_moved, dma_by_verdict, dma_in, dma_moved}
-use Rattle.spec_protocol.specs.machine.World.{Numbers, What, OfChunk, OfSerial, OfDma, OfRaise}
+use Rattle.spec_protocol.specs.machine.World.{Numbers, MoveKind, OfChunk, OfSerial, OfDma, OfRaise}
 use Rattle.spec_protocol.specs.machine.Asking.{is_short}
 use Rattle.spec_protocol.specs.machine.Serial.{SerialState, laid, do_moved, do_serial, do_dma}
 use Rattle.spec_protocol.specs.machine.Moves.{move_chunk, do_what, FitsChunk, SerialFits, FitsSerial, DmaFits, FitsWhat}
@@ -39,13 +39,13 @@ goes_with log y b (inl e) going = e
 goes_with log y b (inr w) going = absurd (true≢false (ap is_over (sym w.over) ∙ going))
 
 -- a replay that goes on, with that turn, beside its play
-record Going (log : LogParts) (y : Played) (p : Sphere) (b : Cursor) (now : Now) : Type 0 where
+record Going (log : LogParts) (y : Played) (p : Sphere) (b : Cursor) (now : TurnOrEnd) : Type 0 where
   beside : Beside log y p b
   same : b.now ≡ y.now
   turn : y.now ≡ now
   state : StandsAt log y now p b
 
-going_at : (log : LogParts) (y : Played) (p : Sphere) (now : Now) → 0 < log.s → (f : Follows log y p) → is_over f.cursor.now ≡ false → f.cursor.now ≡ now → Going log y p f.cursor now
+going_at : (log : LogParts) (y : Played) (p : Sphere) (now : TurnOrEnd) → 0 < log.s → (f : Follows log y p) → is_over f.cursor.now ≡ false → f.cursor.now ≡ now → Going log y p f.cursor now
 going_at log y p now s f going is =
     let same : f.cursor.now ≡ y.now = goes_with log y f.cursor f.now going in
     let turn : y.now ≡ now = sym same ∙ is in
@@ -53,7 +53,7 @@ going_at log y p now s f going is =
       beside = record { role = f.role; same_log = f.same_log; progress = f.progress; used = f.used; standard = s };
       same = same;
       turn = turn;
-      state = subst (λ (n : Now). StandsAt log y n p f.cursor) turn f.state;
+      state = subst (λ (n : TurnOrEnd). StandsAt log y n p f.cursor) turn f.state;
     }
 
 not_over : (r : Role) (b : Cursor) → r ≡ Replay b → is_stopped r ≡ false → is_over b.now ≡ false
@@ -153,7 +153,7 @@ module _ (log : LogParts) (start : Played) (x : SerialState) (i : ℕ) (p : Sphe
       (transfer-reaches log start y p b v x.devices refl g.beside g.turn g.state (λ j. dma_verdict (sym g.beside.same_log j) (sym g.beside.progress j) (sym g.beside.used j))))
 
   -- a move of a replayed sphere leaves it in its log's play
-  pub what-stands : (z : Numbers) (moment : ℕ) (what : What) → FitsWhat z x.devices p what → StandsInPlay log start (do_what z x moment i p what) i
+  pub what-stands : (z : Numbers) (moment : ℕ) (what : MoveKind) → FitsWhat z x.devices p what → StandsInPlay log start (do_what z x moment i p what) i
   what-stands z moment (OfChunk k how n limit) fits = chunk_stands z k how n limit (slice_get p.threads k) refl fits
   what-stands z moment (OfSerial k) fits = serial_stands moment k (slice_get p.threads k) refl fits
   what-stands z moment OfDma fits = dma_stands fits

@@ -5,7 +5,7 @@ use Rattle.std.proofs.lemmas.Bool.{true≢false}
 use Rattle.dl_entry.specs.declared.End.{End}
 use Rattle.spec_log.specs.declared.LogParts.{LogParts}
 use Rattle.spec_play.specs.Progress.{position}
-use Rattle.spec_play.specs.Turns.{Now, Turn, TurnOfDma, Ended}
+use Rattle.spec_play.specs.Turns.{TurnOrEnd, Turn, TurnOfDma, Ended}
 use Rattle.spec_play.specs.Plays.{Played, opened, play_one, plays, play}
 use Rattle.spec_play.proofs.Going.{over-stays, plays-stay, play-over}
 use Rattle.spec_protocol.specs.machine.Spheres.{Cursor, Replay, Sphere, is_over}
@@ -24,7 +24,7 @@ pub record IsLast (log : LogParts) (start : Played) (n : ℕ) (p : Sphere) (b : 
   pub now : (plays log start n).now ≡ Ended how
   pub progress : p.progress ≡ (plays log start n).progress
 
-stopped_how : (now : Now) → is_over now ≡ true → (how : End) × (now ≡ Ended how)
+stopped_how : (now : TurnOrEnd) → is_over now ≡ true → (how : End) × (now ≡ Ended how)
 stopped_how (Turn k) e = absurd (true≢false (sym e))
 stopped_how TurnOfDma e = absurd (true≢false (sym e))
 stopped_how (Ended how) e = (how, refl)
@@ -85,7 +85,7 @@ end_between log y b how (inr w) is between =
 
 -- if the play is over, the replay has done whole commits
 pub whole_now : (log : LogParts) (y : Played) (p : Sphere) (b : Cursor) (how : End) → y.now ≡ Ended how → StandsAt log y y.now p b → IsWhole y p b
-whole_now log y p b how e s = subst (λ (now : Now). StandsAt log y now p b) e s
+whole_now log y p b how e s = subst (λ (now : TurnOrEnd). StandsAt log y now p b) e s
 
 -- ---- the promise
 

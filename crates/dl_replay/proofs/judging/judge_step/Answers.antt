@@ -5,7 +5,7 @@ use Rattle.spec_isa.specs.declared.thread.Parts.{Parts}
 use Rattle.spec_log.specs.Size.{size_in}
 use Rattle.spec_kernel.specs.Serving.{StepResult}
 use Rattle.spec_play.specs.Effects.{serial_effect}
-use Rattle.spec_play.specs.Verdicts.{Given, serial_why}
+use Rattle.spec_play.specs.Verdicts.{TakenRecord, serial_why}
 use Rattle.spec_protocol.proofs.Moves.Threads.{AreNew, KeepsCommits, serve-keeps}
 use Rattle.dl_kernel.specs.StepResults.{result_in}
 use Rattle.dl_replay.specs.Seen.{used_seen}
@@ -24,7 +24,7 @@ returns-in_default-given-clause-verdict g c p q =
     let s = c.args.step.now in
     let none : Option Why = None in
     let why : none ≡ serial_why (size_in c.args.log.now (Actor.Thread s.number) s.thread.commits) = cc in
-    let missing : Option Given = None in
+    let missing : Option TakenRecord = None in
     sym (serial-is c.args.log.now p (used_seen c.args.used) s.number s.threads.now s.thread s.memory.now none missing why
     (sym (ap (option_map given_by) c.in_default-given.is) ∙ c.given.ensures.value))
 

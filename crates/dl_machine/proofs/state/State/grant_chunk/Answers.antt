@@ -7,7 +7,7 @@ use Rattle.spec_engine.specs.Flights.{at}
 use Rattle.spec_protocol.specs.declared.reply.Reply.{Reply}
 use Rattle.spec_protocol.specs.machine.Spheres.{turn_against, Sphere, head_of, is_stopped}
 use Rattle.spec_protocol.specs.machine.Commits.{MovedSphere}
-use Rattle.spec_protocol.specs.machine.World.{After, Occupant, World, sphere_at, with_core}
+use Rattle.spec_protocol.specs.machine.World.{EventOutcome, Occupant, World, sphere_at, with_core}
 use Rattle.spec_protocol.specs.machine.Flying.{younger_of}
 use Rattle.spec_protocol.specs.machine.Asking.{asks_serial, grant_chunk, is_short}
 use Rattle.dl_sphere.specs.declared.moved.Moved.{Moved}
@@ -59,7 +59,7 @@ returns-in-Granted-clause-reply g c =
     let younger = younger_is (at w.cores core) c.args.held held in
     let after = chunk_after w core how (at w.cores core) c.args.held ch (younger_of (at w.cores core)) (writes_in w.numbers.bits (at w.cores core)) v held c.older-chunk.ensures younger refl moved in
     subst (λ (u : World). Some Reply.Granted ≡ option_map (λ h. (grant_chunk u core h how).reply) (at u.cores core)) view
-    (held_after (λ (a : After). a.reply) (λ h. grant_chunk w core h how) (at w.cores core) _ after)
+    (held_after (λ (a : EventOutcome). a.reply) (λ h. grant_chunk w core h how) (at w.cores core) _ after)
 
 pub returns-in-Granted-clause-world : goal.returns-in-Granted-clause-world
 returns-in-Granted-clause-world g c =
@@ -102,7 +102,7 @@ returns-in-Piece-clause-reply g c =
     let younger = younger_is (at w.cores core) c.args.held held in
     let after = chunk_after w core how (at w.cores core) c.args.held ch (younger_of (at w.cores core)) (writes_in w.numbers.bits (at w.cores core)) v held c.older-chunk.ensures younger refl moved in
     subst (λ (u : World). Some Reply.Piece ≡ option_map (λ h. (grant_chunk u core h how).reply) (at u.cores core)) view
-    (held_after (λ (a : After). a.reply) (λ h. grant_chunk w core h how) (at w.cores core) _ after)
+    (held_after (λ (a : EventOutcome). a.reply) (λ h. grant_chunk w core h how) (at w.cores core) _ after)
 
 pub returns-in-Piece-clause-world : goal.returns-in-Piece-clause-world
 returns-in-Piece-clause-world g c =
@@ -145,7 +145,7 @@ returns-in-Diverged-clause-reply g c =
     let younger = younger_is (at w.cores core) c.args.held held in
     let after = chunk_after w core how (at w.cores core) c.args.held ch (younger_of (at w.cores core)) (writes_in w.numbers.bits (at w.cores core)) v held c.older-chunk.ensures younger refl moved in
     subst (λ (u : World). Some (Reply.Diverged c.in-Diverged.commits c.in-Diverged.why) ≡ option_map (λ h. (grant_chunk u core h how).reply) (at u.cores core)) view
-    (held_after (λ (a : After). a.reply) (λ h. grant_chunk w core h how) (at w.cores core) _ after)
+    (held_after (λ (a : EventOutcome). a.reply) (λ h. grant_chunk w core h how) (at w.cores core) _ after)
 
 pub returns-in-Diverged-clause-world : goal.returns-in-Diverged-clause-world
 returns-in-Diverged-clause-world g c =

@@ -10,7 +10,7 @@ use Rattle.spec_engine.specs.Signatures.{Signature, nothing, signed}
 use Rattle.spec_protocol.specs.declared.reply.Reply.{Reply}
 use Rattle.spec_protocol.specs.machine.Spheres.{turn_against, Sphere, head_of, is_stopped}
 use Rattle.spec_protocol.specs.machine.Commits.{MovedSphere, serial_moved}
-use Rattle.spec_protocol.specs.machine.World.{After, World, moment, sphere_at, held_afresh, with_core}
+use Rattle.spec_protocol.specs.machine.World.{EventOutcome, World, moment, sphere_at, held_afresh, with_core}
 use Rattle.spec_protocol.specs.machine.Asking.{grant_serial}
 use Rattle.dl_sphere.specs.declared.moved.Moved.{Moved}
 use Rattle.dl_sphere.specs.declared.moved.Moved.TheVariants as moved_as
@@ -47,7 +47,7 @@ returns-in-Granted-clause-reply g c =
     in
     let after = serial_after w core (at w.cores core) c.args.held v ready refl held moved in
     subst (λ (u : World). Some Reply.Granted ≡ option_map (λ h. (grant_serial u core h).reply) (at u.cores core)) view
-    (held_after (λ (a : After). a.reply) (grant_serial w core) (at w.cores core) _ after)
+    (held_after (λ (a : EventOutcome). a.reply) (grant_serial w core) (at w.cores core) _ after)
 
 pub returns-in-Granted-clause-world : goal.returns-in-Granted-clause-world
 returns-in-Granted-clause-world g c =
@@ -109,7 +109,7 @@ returns-in-Diverged-clause-reply g c =
     in
     let after = serial_after w core (at w.cores core) c.args.held v ready refl held moved in
     subst (λ (u : World). Some (Reply.Diverged c.in-Diverged.commits c.in-Diverged.why) ≡ option_map (λ h. (grant_serial u core h).reply) (at u.cores core)) view
-    (held_after (λ (a : After). a.reply) (grant_serial w core) (at w.cores core) _ after)
+    (held_after (λ (a : EventOutcome). a.reply) (grant_serial w core) (at w.cores core) _ after)
 
 pub returns-in-Diverged-clause-world : goal.returns-in-Diverged-clause-world
 returns-in-Diverged-clause-world g c =

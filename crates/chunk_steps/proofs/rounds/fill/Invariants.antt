@@ -1,5 +1,0 @@
-use Rattle.std.proofs.Common.{◌≡◌}
-use Rattle.chunk_steps.proofs.rounds.fill.Given as goal
-
-abbrev pub invariant-loop : goal.invariant-loop
-invariant-loop l = l.chunk.most ≡ l.fn.chunk.most
