@@ -97,8 +97,18 @@ top_of ms =
     optional_text ms (codes "console") >>= λ console.
     optional_text ms (codes "report") >>= λ report.
     Some (record {
-      cores = cores; chunk = chunk; buffer = buffer; window = window; depth = depth; signature = signature; seed = seed;
-      events = events; script = script; input = input; console = console; report = report;
+      cores = cores;
+      chunk = chunk;
+      buffer = buffer;
+      window = window;
+      depth = depth;
+      signature = signature;
+      seed = seed;
+      events = events;
+      script = script;
+      input = input;
+      console = console;
+      report = report;
     })
 
 abbrev pub sphere_of : Members → Option SphereEntries

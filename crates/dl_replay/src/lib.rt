@@ -5,9 +5,9 @@ mod copying;
 mod counting;
 mod judging;
 mod lookup;
-mod turn_or_end;
 mod place;
 mod replayer;
+mod turn_or_end;
 mod turning;
 mod verdict;
 

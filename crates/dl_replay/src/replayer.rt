@@ -25,8 +25,8 @@ ghost use Rattle.dl_replay.specs.Served.{Served, nothing_served, served_left, se
 use crate::counting::commits_of;
 use crate::judging::{Finish, judge_chunk, judge_dma, judge_step, transfer_of};
 use crate::lookup::Lookup;
-use crate::turn_or_end::TurnOrEnd;
 use crate::place::{LogPlace, Used};
+use crate::turn_or_end::TurnOrEnd;
 use crate::turning::now_at;
 use crate::verdict::Verdict;
 use dl_entry::{Actor, End, OutOfMemory, Request, Why};

@@ -9,8 +9,8 @@ ghost use Rattle.dl_replay.specs.Replays.{now_for};
 
 use crate::counting::commits_of;
 use crate::lookup::Lookup;
-use crate::turn_or_end::TurnOrEnd;
 use crate::place::{LogPlace, Used};
+use crate::turn_or_end::TurnOrEnd;
 use dl_entry::{Actor, End, Why};
 use dl_kernel::{live_of, lives};
 use dl_mode::Mode;
