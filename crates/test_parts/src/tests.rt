@@ -11,6 +11,7 @@ mod images;
 mod instructions;
 mod memories;
 mod moments;
+mod pairs;
 mod requests;
 mod schedules;
 mod sequences;
