@@ -1,4 +1,4 @@
--- What a chunk sees of its sphere's memory, and what one instruction leaves.
+-- What a chunk sees of the memory that it lies over, and what one instruction leaves.
 use Rattle.std.specs.Prelude.{◌≡◌, ℕ, List, Option}
 use Rattle.spec_isa.specs.declared.thread.Parts.{Parts}
 use Rattle.spec_isa.specs.Words.{lays}

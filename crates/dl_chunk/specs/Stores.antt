@@ -1,4 +1,4 @@
--- What a chunk stores and marks: its words, over its sphere's memory, and the lines that it reads and stores to.
+-- What a chunk stores and marks: its words, over the memory below, and the lines that it reads and stores to.
 use Rattle.std.specs.Prelude.{◌≡◌, ℕ, List, [], Option, Some, None}
 use Rattle.spec_isa.specs.Words.{Stored, IsBytes, lays, put}
 use Rattle.dl_wbuf.specs.Buffers.{Words}

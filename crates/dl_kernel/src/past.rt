@@ -3,7 +3,8 @@ use crate::state::State;
 use dl_entry::Commit;
 use std::alloc::Global;
 
-/// The whole commits so far, the first one first, and the state after the last one.
+/// The whole commits so far, the first one first, and the state now. A replay that has done a part of its next commit has its
+/// thread moved on by it. Commits take their memory of `alloc`.
 #[derive(Drop)]
 pub struct Past {
     pub alloc: Global,

@@ -1,4 +1,4 @@
-//! Where a sphere is between two commits.
+//! How far a sphere is.
 use dl_entry::Request;
 use dl_mem::Memory;
 use dl_thread::Threads;

@@ -90,7 +90,7 @@ impl<G: Sig> State<G> {
         Ok(Reply::Raised)
     }
 
-    // A core that runs the thread abandons its chunk.
+    // A core that runs the thread abandons its chunks.
     fn renew(&mut self, sphere: u8, thread: u8)
         requires { sphere < length self.old.spheres }
         ensures { self.new ≡ with_renewed self.old sphere thread (core_of self.old sphere thread) }

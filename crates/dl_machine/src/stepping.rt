@@ -76,7 +76,7 @@ impl<G: Sig> State<G> {
         }
     }
 
-    // The core's chunk is cut off.
+    // One of the core's chunks is cut off.
     #[tactic(auto, unfolding(spec_protocol::specs::machine::Stepping::cutting))]
     pub(crate) fn cut(&mut self, core: u8) -> Reply
         requires core { core < length self.old.cores }

@@ -35,7 +35,7 @@ pub record IsReplaying (r : Replaying) : Type 0 where
   pub interrupts : r.used.interrupts ≤ r.done
 
 -- whose turn it is at a place in a log, with these threads
-abbrev pub now_for : LogParts → (done : ℕ) → (last : Option ℕ) → play.Used → List Parts → turns.Now
+abbrev pub now_for : LogParts → (done : ℕ) → (last : Option ℕ) → play.Used → List Parts → turns.TurnOrEnd
 now_for log done last u threads =
     if nat_lt done log.count
     then turns.turn_of done threads (head log done last (map is_live threads))

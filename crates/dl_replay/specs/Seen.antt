@@ -6,7 +6,7 @@ use Rattle.dl_replay.specs.declared.turn_or_end.TurnOrEnd.{TurnOrEnd}
 use Rattle.dl_replay.specs.declared.place.Used.{Used}
 use Rattle.dl_replay.specs.declared.place.LogPlace.{LogPlace}
 
-abbrev pub now_seen : TurnOrEnd → turns.Now
+abbrev pub now_seen : TurnOrEnd → turns.TurnOrEnd
 now_seen (TurnOrEnd.Turn thread) = turns.Turn thread
 now_seen TurnOrEnd.TurnOfDma = turns.TurnOfDma
 now_seen (TurnOrEnd.Ended how) = turns.Ended how

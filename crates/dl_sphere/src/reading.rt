@@ -174,7 +174,7 @@ impl Sphere {
         match &self.part {
             Part::Plain | Part::Recorded(_) => {
                 DmaSize::Bytes(live_size(self.past.state.request, input_left))
-            },
+            }
             Part::Replayed(replay) => match replay.player.dma_size(self.past.state.request) {
                 Ok(bytes) => DmaSize::Bytes(bytes),
                 Err(why) => DmaSize::Diverged(why),

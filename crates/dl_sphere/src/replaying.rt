@@ -44,6 +44,7 @@ pub(crate) fn commit_part<G: Sig>(
     ensures at { (s : ℕ) → IsSphereAt s past.old replay.old → IsSphereAt s past.new replay.new }
     ensures still { OnErr result (replayed_at past.new replay.new ≡ replayed_at past.old replay.old) }
 {
+    // the proof sees here that the thread is one of the sphere
     let _ = thread_at(&past.state.threads, thread);
     let words = words::copied(past.alloc, chunk.words())?;
     if is_piece(chunk) {
@@ -78,6 +79,7 @@ fn commit_piece<G: Sig>(
     ensures at { (s : ℕ) → IsSphereAt s past.old replay.old → IsSphereAt s past.new replay.new }
     ensures still { OnErr result (replayed_at past.new replay.new ≡ replayed_at past.old replay.old) }
 {
+    // the proof sees here that the thread is one of the sphere
     let _ = thread_at(&past.state.threads, thread);
     replay.loads.extend_from_slice(chunk.loads())?;
     replay.player.accept_piece(thread, chunk.n());
@@ -116,7 +118,7 @@ fn end_chunk(
             past.commits.push_reserved(commit);
             past.state.last = Some(thread);
             replay.loads.clear();
-            // there are at most 15
+            // the proof sees here how many threads there may be
             let _ = past.state.threads.len();
             Ok(None)
         }
@@ -143,6 +145,7 @@ pub(crate) fn serve_step(
     ensures at { (s : ℕ) → IsSphereAt s past.old replay.old → IsSphereAt s past.new replay.new }
     ensures still { OnErr result (replayed_at past.new replay.new ≡ replayed_at past.old replay.old) }
 {
+    // the proof sees here that the thread is one of the sphere
     let _ = thread_at(&past.state.threads, thread);
     let done = count(&past.commits);
     past.commits.reserve(1)?;
@@ -158,7 +161,7 @@ pub(crate) fn serve_step(
                 .push_reserved(serial_commit(thread, left.loads, left.outputs));
             past.state.last = Some(thread);
             replay.loads.clear();
-            // there are at most 15
+            // the proof sees here how many threads there may be
             let _ = past.state.threads.len();
             Ok(Moved::Granted(left.words))
         }

@@ -13,7 +13,7 @@ use dl_kernel::{dma_commit, dma_words};
 use dl_wbuf::Buffer;
 use std::alloc::Global;
 
-// Notes the commit of a DMA with its bytes where the sphere is recorded, and takes these of the input; or nothing of all that.
+// Notes the commit of a DMA with its bytes where the sphere is recorded, and takes these from the input; or does nothing of that.
 pub(crate) fn live_dma(
     alloc: Global,
     part: &mut Part,

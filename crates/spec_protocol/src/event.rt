@@ -3,11 +3,11 @@
 /// One action of one actor. Numbers of cores, spheres and slots are taken modulo how many there are.
 #[derive(Clone, Copy, Debug, PartialEq, Eq)]
 pub enum Event {
-    /// The core runs one instruction of its chunk.
+    /// The core runs one instruction: of its older chunk while that is open, else of the younger one, which may begin with it.
     Step(u8),
-    /// The core's chunk is cut off.
+    /// The core's younger chunk is cut off, or the older one if there is no younger.
     Cut(u8),
-    /// The core asks for the commit of its closed chunk, or for its serial step.
+    /// The core asks for the commit of its older chunk, which is closed, or for its serial step.
     Ask(u8),
     /// The first word left in the slot's flight goes to memory.
     Drain(u8),

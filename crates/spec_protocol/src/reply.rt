@@ -11,7 +11,7 @@ pub enum Reply {
     Closed(How),
     /// This flight, of which the core was told, holds up the fetch or the load.
     Bounced(u8),
-    /// The chunk is closed already.
+    /// The chunk is closed already, and no younger one begins.
     Waiting,
     /// The core holds no thread.
     Idle,
@@ -23,7 +23,7 @@ pub enum Reply {
     Granted,
     /// The request is a piece of a commit now.
     Piece,
-    /// The chunk is still open.
+    /// The older chunk is still open.
     NotClosed,
     /// It is this actor's turn.
     NotTurn(Actor),
@@ -39,7 +39,7 @@ pub enum Reply {
     Clean,
     /// The core is told now.
     Delivered,
-    /// The core is told now, and its chunk begins again.
+    /// The core is told now. Its older chunk begins again and the younger one is given up, or the younger one alone begins again.
     Squashed,
     /// The core was told before.
     Already,

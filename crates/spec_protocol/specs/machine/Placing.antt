@@ -32,7 +32,7 @@ replays Plain = false
 replays (Record recording) = false
 replays (Replay b) = true
 
--- a core that runs the thread abandons its chunk
+-- a core that runs the thread abandons its chunks
 abbrev pub with_renewed : World → (i thread : ℕ) → Option ℕ → World
 with_renewed w i k None = w
 with_renewed w i k (Some c) = with_core w c (held_afresh w.numbers i k (sphere_at w i))

@@ -104,6 +104,6 @@ cut_held w c (Some h) =
     if is_stopped (sphere_at w h.chunk.sphere).role then answered w Reply.Stopped
     else cut_in w c h h.younger
 
--- the core's chunk is cut off
+-- one of the core's chunks is cut off
 unfoldable pub cutting : World → (core : ℕ) → EventOutcome
 cutting w c = cut_held w c (at w.cores c)

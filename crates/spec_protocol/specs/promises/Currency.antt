@@ -1,5 +1,5 @@
--- When a running chunk is current: where no flight of its sphere that its core wasn't told of hits what it has read, it is
--- what its instructions do on the current memory.
+-- When a running chunk is current: if no flight of its sphere that its core wasn't told of hits what it has read, it is what its
+-- instructions do on the current memory, for a younger chunk with the older's stores over it.
 use Rattle.std.specs.Prelude.{◌≡◌, ℕ, ◌<◌, ◌/◌, Bool, true, false, List, [], ◌∷◌, length, Option, Some, None, IsSome}
 use Rattle.spec_isa.specs.declared.thread.Parts.{Parts}
 use Rattle.spec_isa.specs.declared.thread.Load.{Load}

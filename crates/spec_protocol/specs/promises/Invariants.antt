@@ -37,8 +37,9 @@ pub record Closes (capacity : ℕ) (ch : Chunk) : Type 0 where
   pub few : length ch.done.words ≤ ch.done.n
   pub few_loads : length ch.done.loads ≤ ch.done.n
 
--- a chunk of core c, beside these slots, where the current memory of its sphere is m: its signatures cover what it has
--- loaded and stored, no word is held twice, and it is current where it is quiet
+-- a chunk of core c, beside these slots, over the bytes m, which are its sphere's current memory, for a younger chunk with the
+-- older's stores over it: its signatures cover what it has loaded and stored, no word is held twice, and it is current if it is
+-- quiet
 pub record IsGoodChunk (capacity bits : ℕ) (slots : List (Option Flight)) (c : ℕ) (m : List ℕ) (ch : Chunk) : Type 0 where
   pub reads_size : ch.reads.bits ≡ bits
   pub writes_size : ch.writes.bits ≡ bits

@@ -11,7 +11,7 @@ use std::process::Abort;
 use std::test::Fail;
 
 #[test]
-fn accounts_are_those_of_the_test_runs(rt: HostRuntime) -> Result<(), Fail> {
+fn accounts_are_those_of_the_worked_runs(rt: HostRuntime) -> Result<(), Fail> {
     assert!(rt; three_instructions(rt.alloc())?.as_slice() == THREE_INSTRUCTIONS);
     assert!(rt; interrupt(rt.alloc())?.as_slice() == INTERRUPT);
     assert!(rt; device_words(rt.alloc())?.as_slice() == DEVICE_WORDS);

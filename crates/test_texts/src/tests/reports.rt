@@ -13,7 +13,7 @@ struct Row {
 }
 
 #[test]
-fn reports_are_those_of_the_test_runs(rt: HostRuntime) -> Result<(), Fail> {
+fn reports_are_those_of_the_worked_runs(rt: HostRuntime) -> Result<(), Fail> {
     for row in ROWS {
         let counts = counts_of(row.events, row.replies);
         let report = report_text(rt.alloc(), row.points, &counts, &[row.sphere])?;
