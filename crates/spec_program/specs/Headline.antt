@@ -21,7 +21,8 @@ pub record Headline (plan : List ℕ) (m : Contents) (known : Option Contents) (
   pub asked : IsTask plan m task
   -- its numbers, images and logs are within the limits of the machine, so that all that is promised of runs is so of it
   pub limits : IsWithinLimits (setup_in task)
-  -- each of the machine's points can be done whole, as it says: a chunk runs its instructions, and a serial step is one
+  -- each point of a plain or a recorded sphere can be done whole, as it says: a chunk runs its instructions, and a serial step
+  -- is one
   pub possible : CanDoAll (serial_start (setup_in task)) (points_in task)
   -- each file of the plan holds what is made of the points and of executing them, or of a replayed log; every other file
   -- holds what it held
