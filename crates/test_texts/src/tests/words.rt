@@ -11,14 +11,6 @@ const COMMANDS: &[(&[&str], Command<'static>)] = &[
         Command::Inspect { log: "a.log" },
     ),
     (
-        &["walk", "a.elf", "16777216", "a.log"],
-        Command::Walk(Pair {
-            image: "a.elf",
-            memory: 16_777_216,
-            log: "a.log",
-        }),
-    ),
-    (
         &["make", "4294967295", "x.elf"],
         Command::Make {
             number: 4_294_967_295,
@@ -41,6 +33,8 @@ const COMMANDS: &[(&[&str], Command<'static>)] = &[
         },
     ),
 ];
+
+const WALK: &[&str] = &["walk", "a.elf", "16777216", "a.log"];
 
 const NONE: &[&[&str]] = &[
     &[],
@@ -80,6 +74,12 @@ fn words_mean_their_command_or_none(rt: HostRuntime) {
     for (words, command) in COMMANDS {
         assert!(rt; read(rt.alloc(), words) == Ok(Some(*command)));
     }
+    let walk = Command::Walk(Pair {
+        image: "a.elf",
+        memory: 16_777_216,
+        log: "a.log",
+    });
+    assert!(rt; read(rt.alloc(), WALK) == Ok(Some(walk)));
     for words in NONE {
         assert!(rt; read(rt.alloc(), words) == Ok(None));
     }
