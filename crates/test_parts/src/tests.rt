@@ -11,7 +11,6 @@ mod images;
 mod instructions;
 mod memories;
 mod moments;
-mod pairs;
 mod requests;
 mod schedules;
 mod sequences;

@@ -1,46 +1,7 @@
 //! Which words mean a command, and which command.
 use dl_words::{Command, OutOfMemory, Pair, read_words};
 use std::alloc::Global;
-
-const COMMANDS: &[(&[&str], Command<'static>)] = &[
-    (&["run", "p.toml"], Command::Run { plan: "p.toml" }),
-    (&["run", "-"], Command::Run { plan: "-" }),
-    (&["run", "--", "-p"], Command::Run { plan: "-p" }),
-    (
-        &["inspect", "a.log", "--"],
-        Command::Inspect { log: "a.log" },
-    ),
-    (
-        &["walk", "a.elf", "16777216", "a.log"],
-        Command::Walk(Pair {
-            image: "a.elf",
-            memory: 16_777_216,
-            log: "a.log",
-        }),
-    ),
-    (
-        &["make", "4294967295", "x.elf"],
-        Command::Make {
-            number: 4_294_967_295,
-            name: "x.elf",
-        },
-    ),
-    (
-        &["make", "0", ""],
-        Command::Make {
-            number: 0,
-            name: "",
-        },
-    ),
-    (&["drill", "6"], Command::Drill { number: 6 }),
-    (
-        &["asm", "a.s", "a.elf"],
-        Command::Asm {
-            source: "a.s",
-            name: "a.elf",
-        },
-    ),
-];
+use std::process::Abort;
 
 const NONE: &[&[&str]] = &[
     &[],
@@ -77,12 +38,66 @@ const NONE: &[&[&str]] = &[
 
 #[test]
 fn words_mean_their_command_or_none(rt: HostRuntime) {
-    for (words, command) in COMMANDS {
-        assert!(rt; read(rt.alloc(), words) == Ok(Some(*command)));
-    }
+    let alloc = rt.alloc();
+    mean(
+        &rt,
+        alloc,
+        &["run", "p.toml"],
+        Command::Run { plan: "p.toml" },
+    );
+    mean(&rt, alloc, &["run", "-"], Command::Run { plan: "-" });
+    mean(
+        &rt,
+        alloc,
+        &["run", "--", "-p"],
+        Command::Run { plan: "-p" },
+    );
+    let log = "a.log";
+    mean(
+        &rt,
+        alloc,
+        &["inspect", "a.log", "--"],
+        Command::Inspect { log },
+    );
+    let pair = Pair {
+        image: "a.elf",
+        memory: 16_777_216,
+        log,
+    };
+    let walk = &["walk", "a.elf", "16777216", "a.log"];
+    mean(&rt, alloc, walk, Command::Walk(pair));
+    let number = 4_294_967_295;
+    let name = "x.elf";
+    mean(
+        &rt,
+        alloc,
+        &["make", "4294967295", "x.elf"],
+        Command::Make { number, name },
+    );
+    mean(
+        &rt,
+        alloc,
+        &["make", "0", ""],
+        Command::Make {
+            number: 0,
+            name: "",
+        },
+    );
+    mean(&rt, alloc, &["drill", "6"], Command::Drill { number: 6 });
+    let source = "a.s";
+    mean(
+        &rt,
+        alloc,
+        &["asm", "a.s", "x.elf"],
+        Command::Asm { source, name },
+    );
     for words in NONE {
         assert!(rt; read(rt.alloc(), words) == Ok(None));
     }
+}
+
+fn mean(rt: &impl Abort, alloc: Global, words: &'static [&'static str], command: Command<'static>) {
+    assert!(rt; read(alloc, words) == Ok(Some(command)));
 }
 
 fn read(

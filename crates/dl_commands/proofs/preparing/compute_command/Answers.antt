@@ -1,3 +1,6 @@
+use Rattle.std.proofs.Common.{◌≡◌, ◌∙◌, ℕ, ap, refl, sym}
+use Rattle.dl_words.specs.Commands.{CommandValues, Run, Inspect, Walk, Make, Drill, Asm, command_view}
+use Rattle.spec_program.specs.commands.Drill.{finish}
 use Rattle.dl_commands.proofs.preparing.compute_command.Goals as goal
 
 pub returns-in-Run-clause-halt : goal.returns-in-Run-clause-halt
@@ -11,3 +14,18 @@ returns-in-Walk-clause-halt g c = rw c.in-Walk.is c.walk_log.ensures.halt
 
 pub returns-in-Asm-clause-halt : goal.returns-in-Asm-clause-halt
 returns-in-Asm-clause-halt g c = rw c.in-Asm.is c.assemble_source.ensures.halt
+
+-- the number of a drill
+abbrev drilled : CommandValues → ℕ
+drilled (Run plan) = 0
+drilled (Inspect log) = 0
+drilled (Walk pair) = 0
+drilled (Make number name) = 0
+drilled (Drill number) = number
+drilled (Asm source name) = 0
+
+pub returns-in_ok-drill_number-in-Drill-clause-drill : goal.returns-in_ok-drill_number-in-Drill-clause-drill
+returns-in_ok-drill_number-in-Drill-clause-drill g c =
+    λ number asks.
+    let same : Drill c.in-Drill.number ≡ Drill number = ap command_view (sym c.in-Drill.is) ∙ asks in
+    (c.in_ok-drill_number-in-Drill.ensures ∙ ap (λ x. finish (drilled x)) same, refl)

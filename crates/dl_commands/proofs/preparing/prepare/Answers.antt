@@ -9,5 +9,5 @@ use Rattle.dl_commands.proofs.preparing.prepare.Goals as goal
 pub returns-in-Ok-Some-clause-halt : goal.returns-in-Ok-Some-clause-halt
 returns-in-Ok-Some-clause-halt g c =
     subst (λ o. IfErr c.compute_command.result (Halts (λ m. ok_or o usage >> outcome_for m) (λ m. reads_of_command m o) (g.F.Files.seen c.args.files.now) (g.F.Files.seen c.compute_command.new.files)))
-    (ap (option_map command_view) (sym c.in-Ok-Some.field-0-is) ∙ c.in-Ok-Some.ensures.value)
+    (ap (option_map command_view) (sym c.in-Ok-Some.field-0-is) ∙ c.in-Ok-Some.ensures)
     c.compute_command.ensures.halt

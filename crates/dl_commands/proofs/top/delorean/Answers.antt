@@ -1,4 +1,4 @@
-use Rattle.std.proofs.Common.{◌∙◌, ap, subst}
+use Rattle.std.proofs.Common.{◌∙◌, ap, refl, subst}
 use Rattle.dl_files.specs.Seen.{Seen}
 use Rattle.dl_words.specs.Commands.{Run}
 use Rattle.spec_program.specs.Asked.{outcome_of, reads_of}
@@ -21,7 +21,7 @@ returns-in-Ok-clause-stands g c =
 pub returns-in-Ok-clause-done : goal.returns-in-Ok-clause-done
 returns-in-Ok-clause-done g c =
     λ command m asks e done.
-    done_is (texts c.args.words.now) m _ _ c.perform.result command c.in-Ok.job asks (λ plan runs. c.in-Ok.ensures.limits plan m runs e tt) (c.in-Ok.ensures.job m e) (returns-in-Ok-clause-stands g c m e) done
+    done_is (texts c.args.words.now) m _ _ c.perform.result command c.in-Ok.job asks (λ plan runs. c.in-Ok.ensures.limits plan m runs e refl) (c.in-Ok.ensures.job m e) (returns-in-Ok-clause-stands g c m e) done
 
 pub returns-in-Ok-clause-headline : goal.returns-in-Ok-clause-headline
 returns-in-Ok-clause-headline g c = λ plan m asks e done. returns-in-Ok-clause-done g c (Run plan) m asks e done
