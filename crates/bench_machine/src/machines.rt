@@ -34,8 +34,8 @@ impl Display for Outcome {
 }
 
 /// Runs that many rounds, of at most 2^24 events.
-pub fn in_rounds(alloc: Global, cores: u8, rounds: u32) -> anyhow::Result<Outcome> {
-    let mut machine = machine_of(alloc, cores)?;
+pub fn in_rounds(alloc: Global, cores: u8, depth: u8, rounds: u32) -> anyhow::Result<Outcome> {
+    let mut machine = machine_of(alloc, cores, depth)?;
     for _ in 0..rounds {
         round(&mut machine, cores)?;
     }
@@ -69,8 +69,8 @@ fn make_visible(machine: &mut Machine<Banked>, cores: u8, slot: u8) -> Result<()
 }
 
 /// Runs that many events, at most 2^24, of the schedule of seed 1.
-pub fn drawn(alloc: Global, cores: u8, events: u32) -> anyhow::Result<Outcome> {
-    let mut machine = machine_of(alloc, cores)?;
+pub fn drawn(alloc: Global, cores: u8, depth: u8, events: u32) -> anyhow::Result<Outcome> {
+    let mut machine = machine_of(alloc, cores, depth)?;
     let mut schedule = Seeded::new(1);
     for _ in 0..events {
         take(&mut machine, schedule.next())?;
@@ -98,8 +98,8 @@ fn outcome_of(machine: &Machine<Banked>, cores: u8, schedule: &'static str) -> O
     }
 }
 
-// A machine of 1 to 8 cores, with chunks of 101 instructions.
-fn machine_of(alloc: Global, cores: u8) -> anyhow::Result<Machine<Banked>> {
+// A machine of 1 to 8 cores, each with 1 or 2 chunks of 101 instructions.
+fn machine_of(alloc: Global, cores: u8, depth: u8) -> anyhow::Result<Machine<Banked>> {
     let mut spheres = Sequence::new(alloc);
     for _ in 0..cores {
         spheres.push(SphereSetup {
@@ -110,13 +110,16 @@ fn machine_of(alloc: Global, cores: u8) -> anyhow::Result<Machine<Banked>> {
     if spheres.is_empty() || spheres.len() > 8 {
         anyhow::bail!("no machine has so many cores");
     }
+    if depth != 1 && depth != 2 {
+        anyhow::bail!("no core has so many chunks");
+    }
     let setup = Setup {
         cores: spheres.len() as u8,
         window: spheres.len() as u8,
         s: 101,
         capacity: 16,
         bits: 2048,
-        depth: 1,
+        depth,
         seed: 0,
         input: Bytes::new(alloc),
         spheres,

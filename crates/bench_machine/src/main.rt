@@ -1,6 +1,6 @@
 //! Runs two schedules on machines of 1, 4 and 8 cores, with as many recorded spheres and slots, and prints the outcomes. In
 //! rounds each core fills its chunk and asks, and then all flights are made visible; the other schedule is drawn from a seed.
-//! Three words ask for one machine only: its cores, and how many rounds and how many drawn events there are.
+//! Words ask for one machine only: its cores, how many rounds and how many drawn events there are, and how many chunks a core may have.
 #![tactic(auto)]
 
 mod file;
@@ -14,11 +14,12 @@ fn main(rt: HostRuntime) -> anyhow::Result<()> {
     let only = number(words.next())?;
     let rounds = number(words.next())?.unwrap_or(10);
     let events = number(words.next())?.unwrap_or(10_000);
+    let depth = number(words.next())?.unwrap_or(1) as u8;
     for cores in [1, 4, 8] {
         if only.is_none() || only == Some(cores) {
-            let outcome = in_rounds(rt.alloc(), cores as u8, rounds)?;
+            let outcome = in_rounds(rt.alloc(), cores as u8, depth, rounds)?;
             println!(rt; "{outcome}")?;
-            let outcome = drawn(rt.alloc(), cores as u8, events)?;
+            let outcome = drawn(rt.alloc(), cores as u8, depth, events)?;
             println!(rt; "{outcome}")?;
         }
     }
