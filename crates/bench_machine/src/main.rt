@@ -14,7 +14,10 @@ fn main(rt: HostRuntime) -> anyhow::Result<()> {
     let only = number(words.next())?;
     let rounds = number(words.next())?.unwrap_or(10);
     let events = number(words.next())?.unwrap_or(10_000);
-    let depth = number(words.next())?.unwrap_or(1) as u8;
+    let depth = match number(words.next())? {
+        Some(2) => 2,
+        _ => 1,
+    };
     for cores in [1, 4, 8] {
         if only.is_none() || only == Some(cores) {
             let outcome = in_rounds(rt.alloc(), cores as u8, depth, rounds)?;
