@@ -1,0 +1,5 @@
+pub mod Resuming
+pub mod Slicing
+pub mod Joining
+pub mod Counting
+pub mod Within

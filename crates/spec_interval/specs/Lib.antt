@@ -1,0 +1,4 @@
+pub mod States
+pub mod Slices
+pub mod Intervals
+pub mod Promise

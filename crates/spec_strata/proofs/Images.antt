@@ -1,0 +1,5 @@
+-- What is proved here: that strata on an image go as their log's play does.
+pub mod Canonical
+pub mod Following
+pub mod Going
+pub mod Answers

@@ -1,0 +1,8 @@
+-- What is proved here: that the strata which a log is cut into are parallel, and leave what the log leaves.
+pub mod Cutting
+pub mod Counting
+pub mod Playing
+pub mod Ending
+pub mod Commits
+pub mod Sizes
+pub mod Saying

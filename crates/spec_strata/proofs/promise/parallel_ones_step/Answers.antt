@@ -1,0 +1,5 @@
+use Rattle.spec_strata.proofs.Shares.Steps.{parallel_ones_step}
+use Rattle.spec_strata.proofs.promise.parallel_ones_step.Goals as goal
+
+pub returns : goal.returns
+returns c = parallel_ones_step

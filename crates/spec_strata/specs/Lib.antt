@@ -1,0 +1,16 @@
+pub mod Footprints
+pub mod Shares
+pub mod Parallel
+pub mod InPlay
+pub mod Orders
+pub mod Pieces
+pub mod Costs
+pub mod Blocks
+pub mod Relogged
+pub mod Strata
+pub mod Canonical
+pub mod OnImages
+pub mod Checking
+pub mod Making
+pub mod Bytes
+pub mod Reading
