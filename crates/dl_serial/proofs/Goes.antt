@@ -1,8 +1,7 @@
 -- A commit that goes leaves words inside the memory, the commit that it is, and a sound request.
-use Rattle.std.proofs.Common.{◌≡◌, ℕ, ◌%◌, ◌≤◌, Bool, true, false, cond, List, length, Option, Some, None, refl, sym, ap, ◌∙◌, subst, arith}
+use Rattle.std.proofs.Common.{◌≡◌, ℕ, ◌%◌, Bool, true, false, cond, List, length, Option, Some, None, sym, ap, ◌∙◌, subst, arith}
 use Rattle.std.specs.Prelude.{slice_get}
 use Rattle.std.proofs.lemmas.Bool.{true≢false}
-use Rattle.dl_entry.specs.Numbers.{most_threads}
 use Rattle.dl_elf.specs.Images.{IsSize}
 use Rattle.dl_entry.specs.declared.Commit.{Commit}
 use Rattle.dl_entry.specs.declared.Input.{Input}
@@ -16,7 +15,7 @@ use Rattle.spec_log.specs.declared.LogParts.{LogParts}
 use Rattle.spec_engine.specs.Flights.{AreInside}
 use Rattle.spec_kernel.specs.Needs.{Need, need}
 use Rattle.spec_kernel.specs.Records.{fits}
-use Rattle.spec_kernel.specs.Serving.{serve}
+use Rattle.spec_kernel.specs.Serving.{StepResult, serve}
 use Rattle.spec_kernel.specs.Interrupts.{takes_interrupt, interrupted}
 use Rattle.spec_play.specs.Effects.{Effect, chunk_commit, chunk_effect, serial_commit, serial_effect}
 use Rattle.spec_play.specs.Progress.{Progress, Used, with_input, with_interrupt}
@@ -24,8 +23,7 @@ use Rattle.spec_play.specs.Transfers.{DmaVerdict, DmaGoes, dma_verdict}
 use Rattle.spec_play.specs.Verdicts.{LogVerdict, Goes, Fails, TakenRecord, given, with_interrupted, interrupt_at, chunk_verdict, unless, served_verdict, serial_verdict}
 use Rattle.spec_protocol.specs.promises.Sound.{IsSoundIf}
 use Rattle.spec_protocol.proofs.Invariants.Cores.{branch}
-use Rattle.spec_protocol.proofs.Sound.Threads.{BringsIf}
-use Rattle.spec_protocol.proofs.Sound.Commits.{IsSoundEffect, serial-effect}
+use Rattle.spec_protocol.proofs.Sound.Threads.{BringsIf, IsSoundStepResult, serve-sound}
 use Rattle.spec_protocol.proofs.Sound.Moves.{fits-brings}
 use Rattle.spec_protocol.proofs.Sound.Transfers.{IfDmaGoes, dma-goes}
 
@@ -88,12 +86,12 @@ pub record LeftByStep (size k : ℕ) (e : Effect) : Type 0 where
   pub commit : e.commit ≡ serial_commit k e.commit.loads e.commit.outputs
   pub request : IsSoundIf size e.request
 
-left-like : (size k : ℕ) (ts : List Parts) (t : Parts) (e f : Effect) → e.commit ≡ serial_commit k e.commit.loads e.commit.outputs → IsSoundEffect size ts t e → IsLike e f → LeftByStep size k f
-left-like size k ts t e f commit sound like =
-    let same : f.commit ≡ e.commit = ap (λ (x : Effect). x.commit) like in
+left-like : (size k : ℕ) (v : StepResult) (f : Effect) → IsSoundStepResult size v → IsLike (serial_effect k v) f → LeftByStep size k f
+left-like size k v f sound like =
+    let same : f.commit ≡ serial_commit k v.loads v.outputs = ap (λ (x : Effect). x.commit) like in
     record {
       inside = subst (AreInside size) (sym (ap (λ (x : Effect). x.words) like)) sound.words.inside;
-      commit = same ∙ commit ∙ ap (λ (c : Commit). serial_commit k c.loads c.outputs) (sym same);
+      commit = same ∙ ap (λ (c : Commit). serial_commit k c.loads c.outputs) (sym same);
       request = subst (IsSoundIf size) (sym (ap (λ (x : Effect). x.request) like)) sound.request;
     }
 
@@ -107,24 +105,24 @@ given-brings None next u = tt
 given-brings (Some n) None u = tt
 given-brings (Some n) (Some r) u = branch (IfBrings (Some n)) (fits n r) (Some (record { input = Some r; used = with_input u })) None (λ e. fits-brings n r e) (λ _. tt)
 
--- a sound thread, of at most 15, on a memory of whole words, with a sound request
-pub record CanStep (ts : List Parts) (t : Parts) (m : List ℕ) (request : Option Request) : Type 0 where
+-- a sound thread, on a memory of whole words, with a sound request
+pub record CanStep (t : Parts) (m : List ℕ) (request : Option Request) : Type 0 where
   pub whole : length m % 4 ≡ 0
   pub thread : IsThread t
-  pub few : length ts ≤ 15
   pub request_sound : IsSoundIf (length m) request
 
-served-left : (log : LogParts) (p : Progress) (k : ℕ) (ts : List Parts) (t : Parts) (m : List ℕ) (o : Option TakenRecord) (f : Effect) (w : Used) → CanStep ts t m p.request → IfBrings (need t m) o → served_verdict log p k ts t m o ≡ Goes f w → LeftByStep (length m) k f
+served-left : (log : LogParts) (p : Progress) (k : ℕ) (ts : List Parts) (t : Parts) (m : List ℕ) (o : Option TakenRecord) (f : Effect) (w : Used) → CanStep t m p.request → IfBrings (need t m) o → served_verdict log p k ts t m o ≡ Goes f w → LeftByStep (length m) k f
 unfolding goes
 served-left log p k ts t m None f w can brings is = absurd (true≢false (sym (ap goes is)))
 served-left log p k ts t m (Some g) f w can brings is =
-    let e : Effect = serial_effect k (serve most_threads k ts p.request t m g.input) in
-    left-like (length m) k ts t e f refl
-    (serial-effect (length m) k ts p.request t m g.input refl can.whole brings can.thread can.request_sound can.few)
+    let v : StepResult = serve log.threads k ts p.request t m g.input in
+    let e : Effect = serial_effect k v in
+    left-like (length m) k v f
+    (serve-sound log.threads k ts p.request t m g.input can.whole brings can.thread can.request_sound)
     (interrupted-like (interrupt_at log.interrupts k e.thread.commits) e g.used f w is)
 
 -- a serial step that goes stores inside the memory, and leaves its commit and a sound request
-pub step-left : (log : LogParts) (p : Progress) (u : Used) (k : ℕ) (ts : List Parts) (t : Parts) (m : List ℕ) (e : Effect) (w : Used) → CanStep ts t m p.request → serial_verdict log p u k ts t m ≡ Goes e w → LeftByStep (length m) k e
+pub step-left : (log : LogParts) (p : Progress) (u : Used) (k : ℕ) (ts : List Parts) (t : Parts) (m : List ℕ) (e : Effect) (w : Used) → CanStep t m p.request → serial_verdict log p u k ts t m ≡ Goes e w → LeftByStep (length m) k e
 unfolding serial_verdict
 step-left log p u k ts t m e w can is =
     served-left log p k ts t m (given (need t m) (slice_get log.inputs u.inputs) u) e w can (given-brings (need t m) (slice_get log.inputs u.inputs) u) (unless-goes _ _ e w is)

@@ -8,7 +8,7 @@ use Rattle.dl_wbuf.specs.Buffers.{Words, has_room}
 use Rattle.dl_thread.specs.Sight.{Lays}
 use Rattle.spec_engine.specs.Flights.{AreInside}
 use Rattle.spec_protocol.proofs.Sound.Words.{inside_put}
-use Rattle.dl_serial.specs.Overlays.{room, sight_of}
+use Rattle.dl_serial.specs.Overlays.{sight_of}
 
 pub first_inside : (size : ℕ) (ws : List Stored) (s : Stored) → slice_get ws 0 ≡ Some s → AreInside size ws → 4 * s.number + 4 ≤ size
 first_inside size [] s e all = cc
@@ -44,12 +44,12 @@ pub within : (m : List ℕ) (ws : List Stored) (addr : ℕ) → addr + 4 ≤ len
 within m ws addr h = omega (arith, length_lays m ws)
 
 -- a store that was taken lies over what was shown, and in the memory
-pub shown_put : (m : List ℕ) (o n : Words) (a mask value : ℕ) → Apart o.words → has_room o a ≡ true → o.capacity ≡ room → n ≡ record { capacity = o.capacity; words = put o.words (bytes_of a mask value) }
-    → Lays (sight_of (record { memory = m; words = o.words })) (bytes_of a mask value) (sight_of (record { memory = m; words = n.words }))
+pub shown_put : (m : List ℕ) (o n : Words) (a mask value : ℕ) → Apart o.words → has_room o a ≡ true → n ≡ record { capacity = o.capacity; words = put o.words (bytes_of a mask value) }
+    → Lays (sight_of (record { room = o.capacity; memory = m; words = o.words })) (bytes_of a mask value) (sight_of (record { room = n.capacity; memory = m; words = n.words }))
 unfolding bytes_of
-shown_put m o n a mask value apart taken capacity e =
+shown_put m o n a mask value apart taken e =
     record {
-      room = subst (λ (c : ℕ). has_room (record { capacity = c; words = o.words }) a ≡ true) capacity taken;
+      room = taken;
       bytes = ap (λ (w : Words). lays m w.words) e ∙ lays_put m o.words (bytes_of a mask value) apart;
     }
 

@@ -1,3 +1,4 @@
+mod Buffered
 mod Laying
 mod Running
 mod Runs

@@ -12,7 +12,7 @@ use Rattle.spec_kernel.specs.Needs.{next_kind}
 use Rattle.dl_thread.specs.declared.answer.Did.{Did}
 use Rattle.dl_thread.specs.Sight.{Sight}
 use Rattle.dl_thread.specs.Answer.{did, fetched_word, load_made, store_made, thread_next, unless_held, unless_serial, holder, has_room as sight_room, MayRead, MayWrite, Seen, Sees}
-use Rattle.dl_serial.specs.Overlays.{Overlaid, room, sight_of, ReadBy, WrittenBy, with_word}
+use Rattle.dl_serial.specs.Overlays.{Overlaid, sight_of, ReadBy, WrittenBy, with_word}
 
 -- ---- what the instruction comes to, where no flight holds anything up
 
@@ -107,6 +107,13 @@ next-more o after_ r t next load is same d moved sees =
 pub next-memory : (o after_ : Overlaid) (t : Parts) (load : Option Load) → Sees ReadBy WrittenBy (sight_of o) t (Did.Next load) o after_ → after_.memory ≡ o.memory
 next-memory o after_ t load sees = ap (λ (v : Overlaid). v.memory) (seen_is _ _ _ o after_ sees) ∙ memory_written o (store_made (sight_of o) t)
 
+room_written : (o : Overlaid) (store : Option Stored) → (written o store).room ≡ o.room
+room_written o None = refl
+room_written o (Some b) = refl
+
+pub next-room : (o after_ : Overlaid) (t : Parts) (load : Option Load) → Sees ReadBy WrittenBy (sight_of o) t (Did.Next load) o after_ → after_.room ≡ o.room
+next-room o after_ t load sees = ap (λ (v : Overlaid). v.room) (seen_is _ _ _ o after_ sees) ∙ room_written o (store_made (sight_of o) t)
+
 -- ---- it is serial
 
 kind_by : (s : Sight) (o : Option Kind) (kind : Kind) (made : Option Load) (store : Option Stored) → Did.Serial kind ≡ unless_serial o (room_or_none s made store) → o ≡ Some kind
@@ -133,9 +140,9 @@ serial-still o after_ t kind sees = seen_is _ _ _ o after_ sees
 
 -- ---- nothing else comes
 
-room_there : (o : Overlaid) (store : Option Stored) → length o.words < room → sight_room (sight_of o) store ≡ true
+room_there : (o : Overlaid) (store : Option Stored) → length o.words < o.room → sight_room (sight_of o) store ≡ true
 room_there o None few = refl
-room_there o (Some b) few = by_held (holds o.words b.number) (nat_lt (length o.words) room) (lt-ltb (length o.words) room few)
+room_there o (Some b) few = by_held (holds o.words b.number) (nat_lt (length o.words) o.room) (lt-ltb (length o.words) o.room few)
   where
     by_held : (a b : Bool) → b ≡ true → (a || b) ≡ true
     by_held true b e = refl
@@ -146,7 +153,7 @@ unfolding room_or_none
 full_by s (Some k) made store there e = cc
 full_by s None made store there e = let h : Did.NoRoom ≡ Did.Next made = e ∙ ap (λ (b : Bool). if b then Did.Next made else Did.NoRoom) there in cc
 
-pub never-full : (o : Overlaid) (t : Parts) → length o.words < room → Did.NoRoom ≡ did (sight_of o) t → ⊥
+pub never-full : (o : Overlaid) (t : Parts) → length o.words < o.room → Did.NoRoom ≡ did (sight_of o) t → ⊥
 never-full o t few d = full_by (sight_of o) (kind_of o t) (load_made (sight_of o) t) (store_made (sight_of o) t) (room_there o (store_made (sight_of o) t) few) (d ∙ did_is o t)
 
 bounced_by : (s : Sight) (o : Option Kind) (made : Option Load) (store : Option Stored) (k : ℕ) → Did.Bounced k ≡ unless_serial o (room_or_none s made store) → ⊥

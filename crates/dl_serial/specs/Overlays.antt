@@ -4,21 +4,19 @@ use Rattle.spec_isa.specs.Words.{Stored, lays, put}
 use Rattle.dl_wbuf.specs.Buffers.{has_room}
 use Rattle.dl_thread.specs.Sight.{Sight}
 
+-- and for how many of them there is room
 pub record Overlaid : Type 0 where
+  pub room : ℕ
   pub memory : List ℕ
   pub words : List Stored
 
--- for how many words there is room: a chunk stores no more, as none has more instructions
-abbrev pub room : ℕ
-room = 4096
-
 -- a memory, and no words over it yet
-abbrev pub bare : List ℕ → Overlaid
-bare memory = record { memory = memory; words = [] }
+abbrev pub bare : (room : ℕ) → List ℕ → Overlaid
+bare room memory = record { room = room; memory = memory; words = [] }
 
 -- its words are laid into memory
 abbrev pub laid : Overlaid → Overlaid
-laid o = bare (lays o.memory o.words)
+laid o = bare o.room (lays o.memory o.words)
 
 -- no flight holds it up, and there is room where the buffer has it
 abbrev pub sight_of : Overlaid → Sight
@@ -26,7 +24,7 @@ sight_of o =
     record {
       bytes = lays o.memory o.words;
       held = λ _. None;
-      room = λ a. has_room (record { capacity = room; words = o.words }) a;
+      room = λ a. has_room (record { capacity = o.room; words = o.words }) a;
     }
 
 -- reading leaves it as it is

@@ -1,11 +1,10 @@
 //! A chunk: instructions of a thread, run one after another over a memory.
-ghost use Rattle.std.specs.Prelude.{◌≡◌, ◌≤◌, ◌<◌, ◌+◌, List, true, false, length, map, IfOk, IsSome, OnOk};
+ghost use Rattle.std.specs.Prelude.{◌≡◌, ◌≤◌, ◌<◌, ◌+◌, ◌^◌, List, true, false, length, map, IfOk, IsSome, OnOk};
 ghost use Rattle.spec_isa.specs.Words.{lays};
 ghost use Rattle.spec_isa.specs.Runs.{Run, more, with_load};
 ghost use Rattle.spec_kernel.specs.Needs.{next_kind};
 ghost use Rattle.spec_play.specs.Effects.{entry_of};
 ghost use Rattle.dl_serial.specs.Chunks.{HasRun, chunk_of};
-ghost use Rattle.dl_serial.specs.Overlays.{room};
 
 use crate::overlay::Overlay;
 use dl_entry::{Load as LoadEntry, Loads, OutOfMemory};
@@ -30,9 +29,10 @@ pub fn run(
     limit: u32,
 ) -> Result<Chunk, OutOfMemory>
     requires least { 1 ≤ limit }
-    requires most { limit ≤ room }
+    requires most { limit ≤ store.old.room }
     ensures ran { IfOk result (λ c. HasRun store.old.memory thread.now limit c store.new.words) }
     ensures memory { store.new.memory ≡ store.old.memory }
+    ensures room { store.new.room ≡ store.old.room }
 {
     store.clear();
     let mut chunk = Chunk {
@@ -50,13 +50,14 @@ pub fn run(
 
 // Runs one instruction more, unless it is serial, and tells whether it did.
 fn step(chunk: &mut Chunk, store: &mut Overlay) -> Result<bool, OutOfMemory>
-    requires few { length store.old.words < room }
-    requires count { chunk.old.n < room }
+    requires few { length store.old.words < store.old.room }
+    requires count { chunk.old.n + 1 < 2 ^ 32 }
     ensures chunk { (r : Run) → chunk.old ≡ chunk_of r → store.old.words ≡ r.words →
         IfOk result (λ _. chunk.new ≡ chunk_of (more store.old.memory r)) }
     ensures words { (r : Run) → chunk.old ≡ chunk_of r → store.old.words ≡ r.words →
         IfOk result (λ _. store.new.words ≡ (more store.old.memory r).words) }
     ensures memory { store.new.memory ≡ store.old.memory }
+    ensures room { store.new.room ≡ store.old.room }
     ensures ran { IfOk result (λ went. went ≡ true → chunk.new.n ≡ chunk.old.n + 1) }
     ensures serial { IfOk result (λ went. went ≡ false →
         IsSome (next_kind chunk.old.thread (lays store.old.memory store.old.words))) }

@@ -6,6 +6,7 @@ mod committing;
 mod overlay;
 mod player;
 mod sphere;
+mod storing;
 mod walked;
 mod walking;
 
@@ -15,5 +16,6 @@ pub use dl_mem::Memory;
 pub use dl_thread::Threads;
 pub use spec_log::Log;
 pub use spec_play::WalkEnd;
-pub use walked::{Commits, Walked};
+pub use spec_query::Store;
+pub use walked::{Commits, Stores, Walked};
 pub use walking::walk;

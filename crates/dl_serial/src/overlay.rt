@@ -11,9 +11,6 @@ use dl_wbuf::Buffer;
 use std::alloc::{AllocError, Global};
 use std::marker::Model;
 
-// For how many words there is room.
-const ROOM: u32 = 4096;
-
 /// A memory, and the words that a chunk has stored, which are not in it yet.
 #[derive(Drop)]
 pub struct Overlay {
@@ -22,27 +19,29 @@ pub struct Overlay {
 }
 
 impl Model for Overlay {
-    ghost use Rattle.std.specs.Prelude.{◌≡◌, length};
+    ghost use Rattle.std.specs.Prelude.{length};
     ghost use Rattle.spec_engine.specs.Flights.{AreInside};
-    ghost use Rattle.dl_serial.specs.Overlays.{Overlaid, room};
+    ghost use Rattle.dl_serial.specs.Overlays.{Overlaid};
 
     ghost Value = { Overlaid };
 
-    ghost view = { λ o. record { memory = o.memory; words = o.words.words } };
+    ghost view = { λ o. record { room = o.words.capacity; memory = o.memory; words = o.words.words } };
 
-    ghost invariant = { λ o. AreInside (length o.memory) o.words.words × (o.words.capacity ≡ room) };
+    ghost invariant = { λ o. AreInside (length o.memory) o.words.words };
 }
 
 impl Overlay {
     ghost use Rattle.dl_serial.specs.Overlays.{bare, laid};
 
-    /// The image's bytes.
-    pub fn new(alloc: Global, image: &Image) -> Result<Overlay, AllocError>
-        ensures { IfOk result (λ o. o ≡ bare image.now.bytes) }
+    /// The image's bytes, with room for so many words over them, from 1 to 65,536.
+    pub fn new(alloc: Global, image: &Image, room: u32) -> Result<Overlay, AllocError>
+        requires least { 1 ≤ room }
+        requires most { room ≤ 65536 }
+        ensures { IfOk result (λ o. o ≡ bare room image.now.bytes) }
     {
         Ok(Overlay {
             memory: Memory::new(alloc, image)?,
-            words: Buffer::new(alloc, ROOM)?,
+            words: Buffer::new(alloc, room)?,
         })
     }
 
@@ -51,6 +50,14 @@ impl Overlay {
         ensures { result.now ≡ self.now.memory }
     {
         &self.memory
+    }
+
+    /// The words over it.
+    pub fn words(&self) -> &Buffer
+        ensures words { result.now.words ≡ self.now.words }
+        ensures inside { AreInside (length self.now.memory) self.now.words }
+    {
+        &self.words
     }
 
     /// The memory alone, and nothing else is kept.
@@ -62,7 +69,7 @@ impl Overlay {
 
     /// Forgets the words.
     pub fn clear(&mut self)
-        ensures { self.new ≡ bare self.old.memory }
+        ensures { self.new ≡ bare self.old.room self.old.memory }
     {
         self.words.clear();
     }
@@ -77,7 +84,7 @@ impl Overlay {
     /// Lays other words into memory, and forgets its own.
     pub fn lay(&mut self, mut words: Buffer)
         requires { AreInside (length self.old.memory) words.words }
-        ensures { self.new ≡ bare (lays self.old.memory words.words) }
+        ensures { self.new ≡ bare self.old.room (lays self.old.memory words.words) }
     {
         self.words.clear();
         drain(&mut words, &mut self.memory);

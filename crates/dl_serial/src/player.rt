@@ -1,9 +1,10 @@
 //! The player of a log in one of the modes.
-ghost use Rattle.std.specs.Prelude.{◌≡◌, ◌≤◌, IfOk, OnOk};
+ghost use Rattle.std.specs.Prelude.{◌≡◌, ◌≤◌, [], IfOk, OnOk};
 ghost use Rattle.spec_play.specs.Progress.{position};
 ghost use Rattle.spec_play.specs.Turns.{Turn, TurnOfDma};
-ghost use Rattle.spec_play.specs.Plays.{opened, play_one, plays};
+ghost use Rattle.spec_play.specs.Plays.{opened};
 ghost use Rattle.spec_play.specs.Walks.{walk_end, walked_at};
+ghost use Rattle.dl_serial.specs.Playing.{advanced, played_more};
 ghost use Rattle.dl_serial.specs.Walked.{walked_in};
 
 use crate::chunk::run;
@@ -22,7 +23,7 @@ use spec_play::WalkEnd;
 use std::alloc::Global;
 use std::marker::Model;
 
-/// Plays a log from its first commit on, and is seen as the log and where its play has come.
+/// Plays a log from its first commit on, and is seen as the log, where its play has come, and the stores of its commits.
 #[derive(Drop)]
 pub struct Player<M: Mode> {
     alloc: Global,
@@ -37,7 +38,7 @@ impl<M: Mode> Model for Player<M> {
 
     ghost Value = { Playing };
 
-    ghost view = { λ p. record { log = p.replayer.log; played = played_in p.replayer p.sphere } };
+    ghost view = { λ p. record { log = p.replayer.log; played = played_in p.replayer p.sphere; stores = p.sphere.stores.items } };
 
     ghost invariant = { λ p. IsPlaying p.replayer p.sphere × (p.count ≡ p.replayer.log.count) };
 }
@@ -47,17 +48,20 @@ impl<M: Noting> Player<M> {
     pub fn new(alloc: Global, image: &Image, log: &Log) -> Result<Player<M>, OutOfMemory>
         requires { log.now.mode ≡ M.mode }
         ensures { let i = image.now in
-            IfOk result (λ p. p ≡ record { log = log.now; played = opened log.now i.bytes i.entry }) }
+            IfOk result (λ p. p ≡ record { log = log.now; played = opened log.now i.bytes i.entry; stores = [] }) }
     {
+        let parts = log.parts();
         let sphere = Sphere {
-            store: Overlay::new(alloc, image)?,
+            // no chunk stores more words than a standard one has instructions
+            store: Overlay::new(alloc, image, parts.s)?,
             threads: Threads::start(image.entry()),
             request: None,
             commits: Vec::new(alloc),
+            stores: Vec::new(alloc),
         };
         Ok(Player {
             alloc,
-            count: log.parts().count,
+            count: parts.count,
             replayer: Replayer::new(alloc, log)?,
             sphere,
         })
@@ -67,7 +71,7 @@ impl<M: Noting> Player<M> {
 impl<M: Mode> Player<M> {
     /// Plays up to so many whole commits more, and no further than the end. After want of memory some may be played.
     pub fn play_up_to(&mut self, to: u32) -> Result<(), OutOfMemory>
-        ensures { let p = self.old in OnOk result (self.new ≡ record p { played = plays p.log p.played to }) }
+        ensures { OnOk result (self.new ≡ played_more self.old to) }
     {
         for _ in 0..to {
             if self.replayer.ended().is_some() {
@@ -79,9 +83,9 @@ impl<M: Mode> Player<M> {
     }
 
     // Plays one commit more, or the end where it diverges.
-    #[tactic(auto, unfolding(spec_play::specs::Plays::play_one))]
+    #[tactic(auto, unfolding(spec_play::specs::Plays::play_one, spec_query::specs::Stores::next_stores))]
     fn play_one(&mut self) -> Result<(), OutOfMemory>
-        ensures { let p = self.old in OnOk result (self.new ≡ record p { played = play_one p.log p.played }) }
+        ensures { OnOk result (self.new ≡ advanced self.old) }
     {
         match self.replayer.head() {
             Some(Actor::Thread(thread)) => self.play_thread(thread),
@@ -93,7 +97,7 @@ impl<M: Mode> Player<M> {
     // The serial step of a thread whose turn it is, where its next instruction is serial; else its chunk.
     fn play_thread(&mut self, number: u8) -> Result<(), OutOfMemory>
         requires { self.old.played.now ≡ Turn number }
-        ensures { let p = self.old in OnOk result (self.new ≡ record p { played = play_one p.log p.played }) }
+        ensures { OnOk result (self.new ≡ advanced self.old) }
     {
         let thread = thread_at(&self.sphere.threads, number);
         let limit = self.replayer.limit(number, false);
@@ -113,7 +117,7 @@ impl<M: Mode> Player<M> {
     // The DMA whose turn it is.
     fn play_dma(&mut self) -> Result<(), OutOfMemory>
         requires { self.old.played.now ≡ TurnOfDma }
-        ensures { let p = self.old in OnOk result (self.new ≡ record p { played = play_one p.log p.played }) }
+        ensures { OnOk result (self.new ≡ advanced self.old) }
     {
         serve_dma(self.alloc, &mut self.replayer, &mut self.sphere)
     }
@@ -121,7 +125,8 @@ impl<M: Mode> Player<M> {
     /// What a walk of up to so many commits leaves, once they are played.
     pub fn into_walked(self, to: u32) -> Walked
         requires { position self.played.progress ≤ to }
-        ensures { walked_in result ≡ walked_at self.log to self.played }
+        ensures walked { walked_in result ≡ walked_at self.log to self.played }
+        ensures stores { result.stores ≡ self.stores }
     {
         let end = self.end(to);
         let Sphere {
@@ -129,9 +134,11 @@ impl<M: Mode> Player<M> {
             threads,
             request,
             commits,
+            stores,
         } = self.sphere;
         Walked {
             commits: Sequence::from_vec(commits),
+            stores: Sequence::from_vec(stores),
             threads,
             memory: store.into_memory(),
             request,

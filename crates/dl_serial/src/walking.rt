@@ -1,6 +1,7 @@
 //! The walk over a log.
 ghost use Rattle.std.specs.Prelude.{◌≡◌, IfOk};
 ghost use Rattle.spec_play.specs.Walks.{walked};
+ghost use Rattle.spec_query.specs.Stores.{stores_in};
 ghost use Rattle.dl_serial.specs.Walked.{walked_in};
 
 use crate::player::Player;
@@ -16,6 +17,8 @@ use std::alloc::Global;
 pub fn walk(alloc: Global, image: &Image, log: &Log, to: u32) -> Result<Walked, OutOfMemory>
     ensures walked { let i = image.now in
         IfOk result (λ w. walked_in w ≡ walked log.now i.bytes i.entry to) }
+    ensures stores { let i = image.now in
+        IfOk result (λ w. w.stores ≡ stores_in log.now i.bytes i.entry to) }
 {
     match log.parts().mode {
         ModeName::OrderSize => walk_in::<OrderAndSize>(alloc, image, log, to),
@@ -31,8 +34,10 @@ fn walk_in<M: Noting>(
     to: u32,
 ) -> Result<Walked, OutOfMemory>
     requires { log.now.mode ≡ M.mode }
-    ensures { let i = image.now in
+    ensures walked { let i = image.now in
         IfOk result (λ w. walked_in w ≡ walked log.now i.bytes i.entry to) }
+    ensures stores { let i = image.now in
+        IfOk result (λ w. w.stores ≡ stores_in log.now i.bytes i.entry to) }
 {
     let mut player = Player::<M>::new(alloc, image, log)?;
     player.play_up_to(to)?;

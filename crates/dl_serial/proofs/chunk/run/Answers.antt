@@ -5,7 +5,6 @@ use Rattle.spec_isa.specs.Runs.{Run, more, run}
 use Rattle.spec_kernel.specs.Needs.{next_kind}
 use Rattle.dl_serial.specs.Chunks.{chunk_of}
 use Rattle.dl_serial.specs.declared.chunk.Chunk.{Chunk}
-use Rattle.dl_serial.specs.Overlays.{room}
 use Rattle.dl_serial.proofs.Runs.{run-few, stopped-run}
 use Rattle.dl_serial.proofs.chunk.run.Goals as goal
 
@@ -18,8 +17,8 @@ step-requires-clause-few c =
     let few : length (run m t now.chunk.n).words ≤ (run m t now.chunk.n).n = run-few m t now.chunk.n in
     let n : now.chunk.n ≡ (run m t now.chunk.n).n = ap (λ (x : Chunk). x.n) now.invariant.chunk in
     let below : now.chunk.n < c.args.limit = c.loop-chunk-test.true in
-    let most : c.args.limit ≤ room = c.requires.most in
-    omega (arith, words, few, n, below, most)
+    let most : c.args.limit ≤ c.args.store.now.room = c.requires.most in
+    omega (arith, words, few, n, below, most, now.invariant.room)
 
 pub returns-then-not-branch-clause-ran : goal.returns-then-not-branch-clause-ran
 returns-then-not-branch-clause-ran c =

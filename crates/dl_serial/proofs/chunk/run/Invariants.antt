@@ -8,6 +8,7 @@ invariant-loop-chunk l = record {
   chunk : l.chunk ≡ chunk_of (run l.fn.store.memory l.fn.thread l.chunk.n);
   words : l.store.words ≡ (run l.fn.store.memory l.fn.thread l.chunk.n).words;
   memory : l.store.memory ≡ l.fn.store.memory;
+  room : l.store.room ≡ l.fn.store.room;
   within : l.chunk.n ≤ l.fn.limit;
 }
 

@@ -1,9 +1,12 @@
 use Rattle.std.proofs.Common.{◌≡◌, ◌<◌, sym, ap, ◌∙◌, subst, arith}
 use Rattle.std.specs.Prelude.{IsSome}
-use Rattle.spec_play.specs.Plays.{Played, plays}
+use Rattle.spec_play.specs.Plays.{plays}
 use Rattle.dl_serial.specs.Playing.{Playing}
-use Rattle.dl_serial.proofs.Turning.{over-played}
+use Rattle.dl_serial.proofs.Turning.{more-none, over-more}
 use Rattle.dl_serial.proofs.player.Player.play_up_to.Goals as goal
+
+pub loop-init : goal.loop-init
+loop-init g c = more-none c.args.self.now
 
 pub returns-then-is_some : goal.returns-then-is_some
 returns-then-is_some g c =
@@ -12,4 +15,4 @@ returns-then-is_some g c =
     let is : (plays p.log p.played c.loop.counter).now ≡ now = sym (ap (λ (v : Playing). v.played.now) (c.self.view_is ∙ c.loop.invariant)) in
     let some = subst IsSome c.ended.ensures (sym c.is_some.ensures ∙ c.if-is_some.true) in
     let below : c.loop.counter < c.args.to = c.loop-test.true in
-    c.loop.invariant ∙ ap (λ (y : Played). record p { played = y }) (over-played p.log p.played c.loop.counter c.args.to now (omega arith) some is)
+    c.loop.invariant ∙ over-more p c.loop.counter c.args.to now (omega arith) some is

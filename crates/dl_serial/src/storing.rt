@@ -1,0 +1,47 @@
+//! The stores of a walk, noted commit by commit.
+ghost use Rattle.std.specs.Prelude.{◌≡◌, ◌≤◌, ◌+◌, ◌*◌, ◌++◌, length, vec_len, vec_capacity};
+ghost use Rattle.spec_isa.specs.Words.{lays};
+ghost use Rattle.spec_engine.specs.Flights.{AreInside};
+ghost use Rattle.spec_query.specs.Stores.{store_of, stores_of};
+
+use dl_entry::Actor;
+use dl_mem::Memory;
+use dl_wbuf::{Buffer, Stored};
+use spec_query::Store;
+
+/// A commit by its number in the log, and its actor.
+#[derive(Clone, Copy)]
+pub struct Storer {
+    pub commit: u32,
+    pub actor: Actor,
+}
+
+/// The words that a buffer has at most, and with it a commit.
+pub const MOST_WORDS: usize = 65_536;
+
+/// Notes the words of a commit, which lie over the memory still.
+pub fn note_stores(stores: &mut Vec<Store>, by: Storer, words: &Buffer, memory: &Memory)
+    requires room { vec_len stores.old + 65536 ≤ vec_capacity stores.old }
+    requires inside { AreInside (length memory.now) words.now.words }
+    ensures { stores.new.items ≡ stores.old.items ++ stores_of by.commit by.actor memory.now words.now.words }
+{
+    for i in 0..words.len() {
+        if let Some(stored) = words.nth(i) {
+            stores.push_reserved(store_of(by, stored, words, memory));
+        }
+    }
+}
+
+// The store of one of the words, with its value once all are laid.
+fn store_of(by: Storer, stored: Stored, words: &Buffer, memory: &Memory) -> Store
+    requires { 4 * stored.number + 4 ≤ length memory.now }
+    ensures { result ≡ store_of by.commit by.actor (lays memory.now words.now.words) stored }
+{
+    let address = stored.word;
+    Store {
+        commit: by.commit,
+        actor: by.actor,
+        address,
+        value: words.over(address, memory.word(address)),
+    }
+}

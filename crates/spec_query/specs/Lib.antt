@@ -1,0 +1,4 @@
+pub mod Stores
+pub mod Queries
+pub mod Texts
+pub mod Promise
