@@ -64,8 +64,8 @@ memory = 4096
 {sphere}""".encode()
 
 
-def recorded(mode):
-    return f'role = "record"\nmode = "{mode}"\nlog = "a.log"\naccount = "a.txt"\n'
+def recorded(mode, version=1):
+    return f'role = "record"\nmode = "{mode}"\nversion = {version}\nlog = "a.log"\naccount = "a.txt"\n'
 
 
 REPLAYED = 'role = "replay"\nlog = "a.log"\naccount = "b.txt"\n'
@@ -111,6 +111,9 @@ RACE = Machine(
     RECORDING,
 )
 
+# the same in version 2 of logs, whose order and sizes have other entries
+WIDE = Machine("version-2", {**RACE.files, "plan.toml": plan(recorded("order-size", 2), cores=2)}, RECORDING)
+
 # a store, LR and SC, and an exit; with a buffer of one word the chunk of five is replayed in two pieces
 PIECES = Machine(
     "replayed-in-pieces",
@@ -120,6 +123,13 @@ PIECES = Machine(
         "a.log": struct.pack("<4sBBHIIIBIIII", b"DLRN", 1, 1, 0, 100, 2, 2, 0, 0, 0, 0, 0),
         "s.txt": b"",
     },
+    ["b.txt", "r.txt"],
+)
+
+# the same from a log of version 2, with chunks larger than the plan's
+WIDE_PIECES = Machine(
+    "version-2-in-pieces",
+    {**PIECES.files, "a.log": struct.pack("<4sBBHIII2BIIII", b"DLRN", 2, 1, 63, 65536, 2, 2, 0, 0, 0, 0, 0, 0)},
     ["b.txt", "r.txt"],
 )
 
@@ -182,10 +192,30 @@ PIPE = Machine(
 SOURCE = (EXAMPLES / "two-threads" / "a.s").read_bytes()
 INSPECT = Machine("inspect", {"a.log": LOG}, [], ["inspect", "a.log"])
 WALK = Machine("walk", {"a.elf": EXIT, "a.log": LOG}, [], ["walk", "a.elf", "4096", "a.log"])
+WATCH = Machine("watch", {"a.elf": EXIT, "a.log": LOG}, [], ["watch", "a.elf", "4096", "a.log", "0"])
+WHO = Machine("who", {"a.elf": EXIT, "a.log": LOG}, [], ["who", "a.elf", "4096", "a.log", "0", "2"])
+WHEN = Machine("when", {"a.elf": EXIT, "a.log": LOG}, [], ["when", "a.elf", "4096", "a.log", "0", "0"])
 MAKE = Machine("make", {}, ["x.elf"], ["make", "6", "x.elf"])
 ASM = Machine("asm", {"a.s": SOURCE}, ["x.elf"], ["asm", "a.s", "x.elf"])
 
-MACHINES = [THREE, TWO_CHUNKS, RACE, PIECES, DMA, INTERRUPT, CONSOLE, DIVERGED, PIPE, INSPECT, WALK, MAKE, ASM]
+# logs that have entries in each section, of version 1 and of version 2
+FULL_LOG = (EXAMPLES / "diverged" / "expected" / "a.log").read_bytes()
+WIDE_LOG = b"".join([
+    struct.pack("<4sBBHII", b"DLRN", 2, 1, 63, 65536, 3),
+    struct.pack("<I3B", 3, 0, 62, 63),
+    struct.pack("<IBII", 1, 62, 0, 65536),
+    struct.pack("<IBII", 1, 62, 1, 7),
+    struct.pack("<IBIH", 1, 17, 65, 0),
+    struct.pack("<IIH2s", 1, 2, 2, b"ab"),
+])
+INSPECT_WIDE = Machine("inspect-version-2", {"a.log": WIDE_LOG}, [], ["inspect", "a.log"])
+MIGRATE = Machine("migrate", {"a.log": FULL_LOG}, ["b.log"], ["migrate", "a.log", "b.log"])
+MIGRATE_WIDE = Machine("migrate-version-2", {"a.log": WIDE_LOG}, ["b.log"], ["migrate", "a.log", "b.log"])
+
+MACHINES = [
+    THREE, TWO_CHUNKS, RACE, WIDE, PIECES, WIDE_PIECES, DMA, INTERRUPT, CONSOLE, DIVERGED, PIPE, INSPECT, INSPECT_WIDE, WALK,
+    WATCH, WHO, WHEN, MIGRATE, MIGRATE_WIDE, MAKE, ASM,
+]
 
 
 def refused(name, status, **files):
@@ -197,8 +227,10 @@ def refused(name, status, **files):
 REFUSED = [
     Machine("usage", {}, [], ["walk", "a.elf"], 2),
     refused("wrong-plan", 3, plan_toml=THREE.files["plan.toml"].replace(b"cores = 1", b"cores = 9")),
+    refused("long-chunks", 3, plan_toml=THREE.files["plan.toml"].replace(b"chunk = 100", b"chunk = 8192")),
     refused("wrong-image", 4, a_elf=EXIT[:51]),
     Machine("wrong-log", {"a.log": LOG + b"\0"}, [], ["inspect", "a.log"], 5),
+    Machine("wrong-threads", {"a.log": WIDE_LOG[:6] + b"\x10" + WIDE_LOG[7:]}, ["b.log"], ["migrate", "a.log", "b.log"], 5),
     refused("wrong-script", 5, s_txt=b"step 0\nstep x\n"),
     Machine("failed-write", THREE.files, RECORDING, status=6, folders=["a.txt"]),
     Machine("wrong-source", {"a.s": b"addi x1, x0, 2048\n"}, ["x.elf"], ["asm", "a.s", "x.elf"], 9),

@@ -13,7 +13,7 @@ entry = good[INTERRUPTS + 4:INTERRUPTS + 13]
 damaged = [
     good[:18],  # 1: the end comes inside the field at 16
     changed(0, ord("X")),  # 2: the magic word
-    changed(4, 2),  # 3: the version
+    changed(4, 3),  # 3: the version
     changed(5, 3),  # 4: the mode
     changed(8, 15),  # 5: the standard size is less than 16
     changed(INTERRUPTS, 2)[:INTERRUPTS + 13] + entry + good[INTERRUPTS + 13:],  # 6: the same interrupt twice

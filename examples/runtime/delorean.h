@@ -21,8 +21,8 @@ static inline _Noreturn void exit(unsigned code) {
     __builtin_unreachable();
 }
 
-/* A new thread that begins at entry, with sp and, in a0, arg; its number. Refused with 15 threads, or if entry isn't a
-   multiple of 4. For functions of C there is start_thread. */
+/* A new thread that begins at entry, with sp and, in a0, arg; its number. Refused if there are as many as there may be, or
+   if entry isn't a multiple of 4. For functions of C there is start_thread. */
 static inline unsigned spawn(void (*entry)(void), void *sp, unsigned arg) {
     return kernel((unsigned)entry, (unsigned)sp, arg, 1);
 }

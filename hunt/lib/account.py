@@ -11,12 +11,10 @@ from . import isa
 from .logs import DMA
 
 TOP = Path(__file__).resolve().parent.parent.parent
-DMA_ACTORS = (15, 63)  # how programs of both versions of logs call a DMA in accounts
 
 
-def commit_lines(commit, accesses, dma_actor):
-    actor = dma_actor if commit.actor == DMA else commit.actor
-    lines = ["c %d %d %d" % (commit.number, actor, commit.size)]
+def commit_lines(commit, accesses):
+    lines = ["c %d %d %d" % (commit.number, commit.actor, commit.size)]
     told = isa.TOLD
     lines += ["l %08X %08X" % (a.addr, a.value) for a in accesses[commit.first_access : commit.last_access]
               if a.kind in told]
@@ -46,11 +44,11 @@ def state_lines(machine):
     return lines
 
 
-def account_lines(played, dma_actor=15):
+def account_lines(played):
     """The lines, and for each the number of its commit (None after the last commit)."""
     lines, commits = [], []
     for commit in played.commits:
-        mine = commit_lines(commit, played.machine.accesses, dma_actor)
+        mine = commit_lines(commit, played.machine.accesses)
         lines += mine
         commits += [commit.number] * len(mine)
     if played.end[0] == "complete":
@@ -74,18 +72,13 @@ class Differs(Exception):
 
 
 def compare(played, account):
-    """Raises Differs if the account (bytes) isn't the play's. A DMA may have either number in it."""
-    for actor in DMA_ACTORS:
-        lines, commits = account_lines(played, actor)
-        if ("\n".join(lines) + "\n").encode() == account:
-            return
-        if not any(commit.actor == DMA for commit in played.commits):
-            break
+    """Raises Differs if the account (bytes) isn't the play's."""
+    lines, commits = account_lines(played)
+    if ("\n".join(lines) + "\n").encode() == account:
+        return
     theirs = account.decode("utf-8", "backslashreplace").split("\n")
     is_whole = theirs[-1:] == [""]
     theirs = theirs[:-1] if is_whole else theirs
-    actor = "63" if any(line.startswith("c ") and line.split()[2:3] == ["63"] for line in theirs) else "15"
-    lines, commits = account_lines(played, int(actor))
     for j in range(max(len(lines), len(theirs))):
         ours = lines[j] if j < len(lines) else None
         other = theirs[j] if j < len(theirs) else None

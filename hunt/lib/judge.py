@@ -6,7 +6,6 @@ each of the loop's stores memory must be as it was. Only then may anything be wr
 """
 
 from collections import namedtuple
-import re
 import tempfile
 
 from .account import Walk
@@ -23,22 +22,16 @@ class Differs(Exception):
     """The engine is wrong, and its find is none; args: where."""
 
 
-def one_dma(account):
-    """The account with one number for a DMA's actor, which accounts of either version give as 15 or 63."""
-    return re.sub(rb"(?m)^(c \d+) 15 ", rb"\1 63 ", account)
-
-
 class Judge:
-    def __init__(self, image, memory, condition, version=1):
-        self.image, self.memory, self.condition, self.version = image, memory, condition, version
+    def __init__(self, image, memory, condition):
+        self.image, self.memory, self.condition = image, memory, condition
 
     def walked(self, log):
         """The account that the proved program's walk puts for the log's bytes."""
         with tempfile.NamedTemporaryFile(prefix="walked-", suffix=".log") as file:
             file.write(log)
             file.flush()
-            account = Walk(self.image, self.memory, file.name).account()
-        return one_dma(account) if self.version == 1 else account
+            return Walk(self.image, self.memory, file.name).account()
 
     def judged(self, told):
         """The Verdict of a run that ends badly; Differs where it isn't so."""

@@ -95,10 +95,7 @@ class Reader:
         return number(word, "the thread", 0, self.threads - 1)
 
     def actor(self, word):
-        # 15 is no thread in version 1, so texts in which a DMA is 15 are read too.
-        if word == str(DMA) or (word == "15" and self.version == 1):
-            return DMA
-        return number(word, "the actor", 0, self.threads - 1)
+        return DMA if word == str(DMA) else number(word, "the actor", 0, self.threads - 1)
 
     def rising(self, section, key):
         require(key > self.last.get(section, (-1,)), "it doesn't come after the line before it")
@@ -164,14 +161,14 @@ def packed(text, edited=False):
         raise BadText(place, str(wrong)) from None
 
 
-def inspected(log, dma=DMA):
-    """The log's text. `dma` is the number that the text gives to the actor of a DMA."""
+def inspected(log):
+    """The log's text."""
     lines = ["log %d %s %d %d" % (log.version, MODE_NAMES[log.mode], log.s, log.count)]
     if log.version == 2:
         lines.append("threads %d" % log.threads)
     for place, actor in enumerate(log.order):
         size = log.sizes[place] if log.mode == ORDER_SIZE else "-"
-        lines.append("p %d %d %s" % (place, dma if actor == DMA else actor, size))
+        lines.append("p %d %d %s" % (place, actor, size))
     if log.mode != ORDER_SIZE:
         lines += ["z %d %d %d" % (*key, size) for key, size in log.sizes.items()]
     lines += ["i %d %d %08X" % (*key, what) for key, what in log.interrupts.items()]

@@ -76,7 +76,7 @@ class Job:
             raise BadCondition("%s: %s" % error.args) from None
         raises = tuple(map(read_raise, getattr(given, "raises", ())))
         self.options = Options(given.seed, given.input, given.tick, given.turn, given.steps, raises, given.log_version)
-        self.judge = Judge(given.image, given.memory, self.condition, given.log_version)
+        self.judge = Judge(given.image, given.memory, self.condition)
 
     def engine(self, answers=(), dmas=()):
         return Engine(self.image, self.condition, self.options, answers, dmas)

@@ -43,7 +43,7 @@ def random_log(seed):
 
 GOOD = """log 1 order-size 100 3
 p 0 0 2
-p 1 15 0
+p 1 63 0
 p 2 0 0
 i 0 1 0000002A
 i 1 0 FFFFFFFF
@@ -59,7 +59,7 @@ BAD = [
     (GOOD, "log 1", "log 3", 1), (GOOD, "log 1", "log 01", 1), (GOOD, "order-size", "order", 1), (GOOD, " 100 ", " 15 ", 1),
     (GOOD, " 100 ", " 4097 ", 1), (GOOD, " 100 3", " 100 -3", 1), (GOOD, " 100 3", " 100 16777217", 1), (GOOD, "log", "lag", 1),
     (GOOD, "size 100", "size  100", 1), (GOOD, "p 0 0 2", "p 1 0 2", 2), (GOOD, "p 0 0 2", "p 0 0 -", 2),
-    (GOOD, "p 0 0 2", "p 0 0 101", 2), (GOOD, "p 0 0 2", "p 0 16 2", 2), (GOOD, "p 0 0 2", "p 0 0 2 ", 2),
+    (GOOD, "p 0 0 2", "p 0 0 101", 2), (GOOD, "p 0 0 2", "p 0 15 2", 2), (GOOD, "p 1 63 0", "p 1 64 0", 3), (GOOD, "p 0 0 2", "p 0 0 2 ", 2),
     (GOOD, "p 0 0 2", "q 0 0 2", 2), (GOOD, "p 0 0 2", "P 0 0 2", 2), (GOOD, "p 0 0 2", "p 0 0 2\r", 2),
     (GOOD, "p 0 0 2", "p 0 ٣ 2", 2), (GOOD, "p 0 0 2", "", 2), (GOOD, "p 2 0 0\n", "", 9), (GOOD, "p 2 0 0\n", "p 2 0 0\np 3 0 0\n", 5),
     (GOOD, "i 0 1 0000002A", "i 0 1 0000002a", 5), (GOOD, "i 0 1 0000002A", "i 0 1 2A", 5), (GOOD, "i 1 0 F", "i 0 1 F", 6),
@@ -79,8 +79,7 @@ class Packing(unittest.TestCase):
         self.assertGreater(len(files), 20)
         for file in files:
             log = read_log(file.read_bytes())
-            for dma in (DMA, 15) if log.version == 1 else (DMA,):
-                self.assertEqual(write_log(packed(inspected(log, dma))), file.read_bytes(), file)
+            self.assertEqual(write_log(packed(inspected(log))), file.read_bytes(), file)
 
     @unittest.skipUnless(support.can_walk(), support.NOT_BUILT)
     def test_inspected_logs(self):
@@ -102,8 +101,7 @@ class Packing(unittest.TestCase):
             for seed in range(0, 1000, 25):
                 file.write_bytes(write_log(random_log(seed)))
                 inspection = subprocess.run([*program(), "inspect", str(file)], capture_output=True)
-                if inspection.returncode == 0:  # a program that has no version 2 refuses its logs
-                    self.assertEqual(write_log(packed(inspection.stdout.decode())), file.read_bytes(), seed)
+                self.assertEqual(write_log(packed(inspection.stdout.decode())), file.read_bytes(), seed)
 
     def test_bad_texts(self):
         for text, old, new, line in BAD:

@@ -18,7 +18,7 @@ from lib.account import account_lines, program
 from lib.conditions import BadCondition, Ended, read_condition
 from lib.engine import Engine, Options
 from lib.image import read_image
-from lib.judge import Differs, Judge, one_dma
+from lib.judge import Differs, Judge
 from lib.logs import read_log, write_log
 from lib.play import play
 from lib.symbols import Names
@@ -43,7 +43,7 @@ BUGS = [
 def played_account(judge, log):
     """What stands in for the walk of a proved program that isn't built."""
     image = read_image(Path(judge.image).read_bytes(), int(judge.memory))
-    return one_dma(("\n".join(account_lines(play(image, read_log(log)))[0]) + "\n").encode())
+    return ("\n".join(account_lines(play(image, read_log(log)))[0]) + "\n").encode()
 
 
 def command(name, *words):

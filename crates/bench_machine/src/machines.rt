@@ -104,7 +104,10 @@ fn machine_of(alloc: Global, cores: u8, depth: u8) -> anyhow::Result<Machine<Ban
     for _ in 0..cores {
         spheres.push(SphereSetup {
             image: load(alloc, &file(alloc)?, 32_768)?,
-            role: Role::Record(ModeName::OrderSize),
+            role: Role::Record {
+                version: 1,
+                mode: ModeName::OrderSize,
+            },
         })?;
     }
     if spheres.is_empty() || spheres.len() > 8 {

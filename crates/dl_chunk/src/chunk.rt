@@ -59,11 +59,11 @@ impl<G: Sig> Chunk<G> {
     ghost use Rattle.spec_isa.specs.Words.{Apart};
     ghost use Rattle.spec_engine.specs.Chunks.{at_limit, closes};
 
-    /// Room for chunks of `s` instructions and `c` words, each from 1 to 4,096, with signatures of `bits` bits, a power of two
-    /// from 64 to 2,048. Its chunk has run nothing.
+    /// Room for chunks of `s` instructions, from 1 to 65,536, and `c` words, from 1 to 4,096, with signatures of `bits` bits, a
+    /// power of two from 64 to 2,048. Its chunk has run nothing.
     pub fn new(alloc: Global, s: u32, c: u32, bits: u32) -> Result<Chunk<G>, AllocError>
         requires some_instruction { 1 ≤ s }
-        requires most_instructions { s ≤ 4096 }
+        requires most_instructions { s ≤ 65536 }
         requires some_word { 1 ≤ c }
         requires most_words { c ≤ 4096 }
         requires bits { is_size bits ≡ true }
@@ -226,7 +226,7 @@ impl<G: Sig> Chunk<G> {
         self.closed.is_none()
     }
 
-    /// How many instructions the chunk may run, from 1 to 4,096.
+    /// How many instructions the chunk may run, at least 1.
     pub fn limit(&self) -> u32
         ensures value { result ≡ self.now.chunk.limit }
         ensures least { 1 ≤ result }

@@ -50,11 +50,11 @@ impl<G: Sig> Model for Pair<G> {
 impl<G: Sig> Pair<G> {
     ghost use Rattle.dl_chunk.specs.Pairs.{alone, begins_younger, can_step, engine_in, new_pair, pair_cut, pair_squash, pair_step, promoted, with_older};
 
-    /// Room for `depth` chunks, 1 or 2, of `s` instructions and `c` words each, both from 1 to 4,096, with signatures of `bits`
-    /// bits, a power of two from 64 to 2,048. The older chunk has run nothing.
+    /// Room for `depth` chunks, 1 or 2, of `s` instructions, from 1 to 65,536, and `c` words, from 1 to 4,096, each, with
+    /// signatures of `bits` bits, a power of two from 64 to 2,048. The older chunk has run nothing.
     pub fn new(alloc: Global, s: u32, c: u32, bits: u32, depth: u8) -> Result<Pair<G>, AllocError>
         requires some_instruction { 1 ≤ s }
-        requires most_instructions { s ≤ 4096 }
+        requires most_instructions { s ≤ 65536 }
         requires some_word { 1 ≤ c }
         requires most_words { c ≤ 4096 }
         requires bits { is_size bits ≡ true }

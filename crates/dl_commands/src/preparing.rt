@@ -13,7 +13,9 @@ use crate::drilling::drill_number;
 use crate::inspecting::inspect;
 use crate::job::Job;
 use crate::making::make_image;
+use crate::migrating::migrate;
 use crate::plans::run_plan;
+use crate::querying::answer_query;
 use crate::walking::walk_log;
 use dl_files::Files;
 use dl_gather::{Halt, usage_line};
@@ -62,8 +64,10 @@ fn compute_command<F: Files>(
         Command::Run { plan } => run_plan(alloc, files, plan),
         Command::Inspect { log } => inspect(alloc, files, log),
         Command::Walk(pair) => walk_log(alloc, files, &pair),
+        Command::Query(query) => answer_query(alloc, files, &query),
         Command::Make { number, name } => Ok(make_image(alloc, number, name)?),
         Command::Drill { number } => Ok(drill_number(alloc, number)?),
         Command::Asm { source, name } => assemble_source(alloc, files, source, name),
+        Command::Migrate { log, name } => migrate(alloc, files, log, name),
     }
 }

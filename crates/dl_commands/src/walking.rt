@@ -49,8 +49,8 @@ fn walk_whole(alloc: Global, read: &PairRead) -> Result<Job, OutOfMemory>
     Ok(said(alloc, text, matches!(end, End::Diverged(..))))
 }
 
-// How a walk ended that went to the end of its log.
-fn whole_end(end: WalkEnd) -> End
+/// How a walk ended that went to the end of its log.
+pub fn whole_end(end: WalkEnd) -> End
     requires { HasEnded end }
     ensures { end ≡ WalkEnd.Ended result }
 {

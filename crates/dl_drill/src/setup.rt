@@ -17,7 +17,11 @@ pub fn recording_setup(alloc: Global, number: u32) -> Result<Setup, OutOfMemory>
     ensures value { IfOk result (λ s. setup_in s ≡ recording number) }
     ensures within { IfOk result IsWithin }
 {
-    let spheres = one_sphere(alloc, number, Role::Record(ModeName::OrderOnly))?;
+    let role = Role::Record {
+        version: 1,
+        mode: ModeName::OrderOnly,
+    };
+    let spheres = one_sphere(alloc, number, role)?;
     Ok(Setup {
         cores: 4,
         window: 2,

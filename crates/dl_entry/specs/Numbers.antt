@@ -29,19 +29,28 @@ kind_input = 17
 abbrev pub most_bytes : ℕ
 most_bytes = 4096
 
--- the fewest and the most instructions of a standard chunk
+-- the fewest and the most instructions of a standard chunk, and the most in version 1 of logs
 abbrev pub least_chunk : ℕ
 least_chunk = 16
 
 abbrev pub most_chunk : ℕ
-most_chunk = 4096
+most_chunk = 65536
 
--- the threads of a sphere or a log
+abbrev pub most_chunk_v1 : ℕ
+most_chunk_v1 = 4096
+
+-- the most threads of any sphere, and the most of a plain one, which are also the most in version 1 of logs
 abbrev pub most_threads : ℕ
-most_threads = 15
+most_threads = 63
+
+abbrev pub plain_threads : ℕ
+plain_threads = 15
 
 -- ---- actors
 
--- a DMA's code, where a thread has its number
+-- a DMA's code, where a thread has its number: in a byte or a text, and in half a byte, as version 1 of logs has it
 abbrev pub dma_code : ℕ
-dma_code = 15
+dma_code = 63
+
+abbrev pub dma_half : ℕ
+dma_half = 15

@@ -12,7 +12,7 @@ pub enum Actor {
 }
 
 impl Actor {
-    /// The actor as logs and texts write it: a thread's number, or 15 for a DMA.
+    /// The actor as texts write it: a thread's number, or 63 for a DMA.
     pub fn code(self) -> u8
         ensures { result ≡ code self }
     {

@@ -18,8 +18,8 @@ pub use counts::Counts;
 pub use end::{End, SphereLine, Why};
 pub use input::{Input, Request};
 pub use numbers::{
-    DMA_CODE, KIND_CLOCK, KIND_INPUT, KIND_MOMENT, KIND_RANDOM, KIND_READ, KIND_WRITE, LEAST_CHUNK,
-    MOST_BYTES, MOST_CHUNK, MOST_THREADS,
+    DMA_CODE, DMA_HALF, KIND_CLOCK, KIND_INPUT, KIND_MOMENT, KIND_RANDOM, KIND_READ, KIND_WRITE,
+    LEAST_CHUNK, MOST_BYTES, MOST_CHUNK, MOST_CHUNK_V1, MOST_THREADS, PLAIN_THREADS,
 };
 pub use out_of_memory::OutOfMemory;
 pub use point::Point;

@@ -1,6 +1,5 @@
 -- What finishing starts from, and what it leaves.
 use Rattle.std.specs.Prelude.{◌≡◌, ℕ, ◌+◌, ◌<◌, true, List, ◌++◌, length, take, slice_get, Some}
-use Rattle.spec_log.specs.declared.LogParts.{LogParts}
 use Rattle.spec_protocol.specs.declared.event.Event.{Event}
 use Rattle.spec_protocol.specs.machine.World.{World}
 use Rattle.spec_protocol.specs.machine.Machine.{ReplaySetup, IsReplayed, SphereSetup, Setup}

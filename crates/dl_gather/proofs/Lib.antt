@@ -1,6 +1,7 @@
 pub mod Loading
 pub mod Memories
 pub mod Named
+pub mod Recordable
 pub mod SettingUp
 pub mod Spheres
 pub mod Stages

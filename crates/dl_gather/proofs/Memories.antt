@@ -23,10 +23,14 @@ memory_at inputs i d have h = all_at (λ (s : SphereRead). IsMemory s.memory) sp
 pub planned_memory : (spheres : List Sphere) (i : ℕ) (d : Sphere) → AreMemories (map planned spheres) → i < length spheres → IsMemory (get_or spheres i d).memory
 planned_memory spheres i d are h = all_at (λ (s : SphereValues). IsMemory s.memory) planned spheres i d are h
 
+-- with one element more, which has a property, all have it
+pub all_pushed : {X Y : Type 0} (P : Y → Type 0) (f : X → Y) (xs : List X) (x : X) → AllByRecursion P (map f xs) → P (f x) → AllByRecursion P (map f (xs ++ x ∷ []))
+all_pushed P f [] x all is = (is, tt)
+all_pushed P f (y ∷ ys) x all is = (all.0, all_pushed P f ys x all.1 is)
+
 -- with one sphere more, which has a good size of memory, all have
 pub more_memories : (inputs : List SphereInputs) (x : SphereInputs) → HaveMemories (map sphere_view inputs) → IsMemory x.memory → HaveMemories (map sphere_view (inputs ++ x ∷ []))
-more_memories [] x have is = (is, tt)
-more_memories (y ∷ ys) x have is = (have.0, more_memories ys x have.1 is)
+more_memories inputs x have is = all_pushed (λ (s : SphereRead). IsMemory s.memory) sphere_view inputs x have is
 
 -- with one element more a list is longer by one
 pub length_pushed : {X : Type 0} (xs : List X) (x : X) → length (xs ++ x ∷ []) ≡ length xs + 1

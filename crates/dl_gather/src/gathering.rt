@@ -1,5 +1,5 @@
 //! Reading what a plan names, part after part in the order of the work, and nothing after a file that is absent or fails.
-ghost use Rattle.std.specs.Prelude.{◌≡◌, Some, Ok, IfOk, IfErr, OnOk, flat_map, length, map, option_map, option_to_list, string_bytes};
+ghost use Rattle.std.specs.Prelude.{◌≡◌, ℕ, Some, Ok, IfOk, IfErr, OnOk, flat_map, length, map, option_map, option_to_list, string_bytes};
 ghost use Rattle.dl_files.specs.Contents.{Contents};
 ghost use Rattle.dl_plan.specs.Files.{input_names};
 ghost use Rattle.dl_plan.specs.Values.{IsPlan, IsSchedule, AreMemories, plan_view, schedule_view, role_view, sphere_view};
@@ -7,6 +7,7 @@ ghost use Rattle.spec_program.specs.Files.{plan_read, schedule_read, input_read,
 ghost use Rattle.dl_gather.specs.Halts.{Unread};
 ghost use Rattle.dl_gather.specs.Inputs.{AreOf, IsScheduleRead, HaveMemories, inputs_view, schedule_view as schedule_inputs};
 ghost use Rattle.dl_gather.specs.Inputs.{role_view as role_inputs, sphere_view as sphere_inputs};
+ghost use Rattle.dl_gather.specs.Inputs.{IsPlanRecordable, IsReadRecordable, ArePlansRecordable, AreReadRecordable};
 ghost use Rattle.dl_gather.specs.Reads.{read_for_schedule, read_for_role, read_for_sphere};
 
 use crate::halt::Halt;
@@ -85,6 +86,8 @@ fn read_spheres<F: Files>(
         → spheres_read m (map sphere_view spheres.now) ≡ Ok (map sphere_inputs ss.items)) }
     ensures count { IfOk result (λ ss. length ss.items ≡ length spheres.now) }
     ensures memories { IfOk result (λ ss. HaveMemories (map sphere_inputs ss.items)) }
+    ensures recordable { IfOk result (λ ss. (s : ℕ) → ArePlansRecordable s (map sphere_view spheres.now)
+        → AreReadRecordable s (map sphere_inputs ss.items)) }
     ensures halt { IfErr result (Unread (flat_map read_for_sphere (map sphere_view spheres.now))
         (λ m. spheres_read m (map sphere_view spheres.now)) (F.seen files.old) (F.seen files.new)) }
     ensures same { OnOk result (F.seen files.new ≡ F.seen files.old) }
@@ -108,6 +111,8 @@ fn read_sphere<F: Files>(
     ensures read { IfOk result (λ s. (m : Contents) → (F.seen files.old).known ≡ Some m
         → sphere_read m (sphere_view sphere.now) ≡ Ok (sphere_inputs s)) }
     ensures memory { IfOk result (λ s. s.memory ≡ sphere.now.memory) }
+    ensures recordable { IfOk result (λ r. (s : ℕ) → IsPlanRecordable s (role_view sphere.now.role)
+        → IsReadRecordable s (role_inputs r.role)) }
     ensures halt { IfErr result (Unread (read_for_sphere (sphere_view sphere.now))
         (λ m. sphere_read m (sphere_view sphere.now)) (F.seen files.old) (F.seen files.new)) }
     ensures same { OnOk result (F.seen files.new ≡ F.seen files.old) }
@@ -124,13 +129,18 @@ fn read_sphere<F: Files>(
 fn read_role<F: Files>(alloc: Global, files: &mut F, role: &Role) -> Result<RoleInputs, Halt>
     ensures read { IfOk result (λ r. (m : Contents) → (F.seen files.old).known ≡ Some m
         → role_read m (role_view role.now) ≡ Ok (role_inputs r)) }
+    ensures recordable { IfOk result (λ r. (s : ℕ) → IsPlanRecordable s (role_view role.now)
+        → IsReadRecordable s (role_inputs r)) }
     ensures halt { IfErr result (Unread (read_for_role (role_view role.now))
         (λ m. role_read m (role_view role.now)) (F.seen files.old) (F.seen files.new)) }
     ensures same { OnOk result (F.seen files.new ≡ F.seen files.old) }
 {
     match role {
         Role::Plain => Ok(RoleInputs::Plain),
-        Role::Record { mode, .. } => Ok(RoleInputs::Record(*mode)),
+        Role::Record { mode, version, .. } => Ok(RoleInputs::Record {
+            version: *version,
+            mode: *mode,
+        }),
         Role::Replay { log } => {
             let read = read_log(alloc, files, log.as_str())?;
             Ok(RoleInputs::Replay(read))

@@ -35,7 +35,7 @@ pub struct SphereInputs {
 #[derive(Drop)]
 pub enum RoleInputs {
     Plain,
-    Record(Mode),
+    Record { version: u8, mode: Mode },
     /// What the file of a log says.
     Replay(LogRead),
 }

@@ -17,7 +17,9 @@ mod task;
 
 pub use halt::Halt;
 pub use inputs::PairRead;
-pub use lines::{absent_line, assembled_line, fault_line, made_line, source_line, usage_line};
+pub use lines::{
+    absent_line, assembled_line, fault_line, made_line, migrated_line, source_line, usage_line,
+};
 pub use logs::read_good_log;
 pub use pairs::read_pair;
 pub use planning::load_plan;

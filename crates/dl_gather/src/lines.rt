@@ -3,6 +3,7 @@ ghost use Rattle.std.specs.Prelude.{◌≡◌, IfOk};
 ghost use Rattle.spec_program.specs.Lines.{usage_line as usage_text, plan_line as plan_text, image_line as image_text, log_line as log_text};
 ghost use Rattle.spec_program.specs.Lines.{script_line as script_text, source_line as source_text, absent_line as absent_text};
 ghost use Rattle.spec_program.specs.Lines.{fault_line as fault_text, made_line as made_text, assembled_line as assembled_text};
+ghost use Rattle.spec_program.specs.Lines.{migrated_line as migrated_text};
 
 use std::alloc::{AllocError, Global};
 
@@ -69,4 +70,10 @@ pub fn assembled_line(alloc: Global, bytes: usize) -> Result<Vec<u8>, AllocError
     ensures { IfOk result (λ line. line.items ≡ assembled_text bytes) }
 {
     Ok(format!(in alloc; "assembled {bytes}\n")?.into_bytes())
+}
+
+pub fn migrated_line(alloc: Global, bytes: u64) -> Result<Vec<u8>, AllocError>
+    ensures { IfOk result (λ line. line.items ≡ migrated_text bytes) }
+{
+    Ok(format!(in alloc; "migrated {bytes}\n")?.into_bytes())
 }

@@ -62,7 +62,10 @@ fn role_of(alloc: Global, number: usize, role: RoleInputs) -> Result<Role, Halt>
 {
     match role {
         RoleInputs::Plain => Ok(Role::Plain),
-        RoleInputs::Record(mode) => Ok(Role::Record(mode_named(mode))),
+        RoleInputs::Record { version, mode } => Ok(Role::Record {
+            version,
+            mode: mode_named(mode),
+        }),
         RoleInputs::Replay(read) => {
             let log = good_log(alloc, number, read)?;
             Ok(Role::Replay(log))

@@ -1,4 +1,4 @@
--- A log as text: a line for its header, and one for each entry of its sections.
+-- A log as text: a line for its header, in version 2 one for its threads, and one for each entry of its sections.
 use Rattle.std.specs.Prelude.{ℕ, nat_eq, if◌then◌else◌, List, [], ◌∷◌, ◌++◌, length, codes, decimal, flat_map}
 use Rattle.std.specs.List.{zip}
 use Rattle.dl_entry.specs.Actor.{code}
@@ -12,6 +12,7 @@ use Rattle.spec_log.specs.declared.records.Interrupt.{Interrupt}
 use Rattle.spec_log.specs.declared.sizes.ShortSize.{ShortSize}
 use Rattle.spec_log.specs.declared.sizes.Sizes.{Sizes}
 use Rattle.spec_log.specs.declared.sizes.Sizes.TheVariants.{Each, Short}
+use Rattle.spec_log.specs.Versions.{by_version}
 use Rattle.dl_account.specs.Lines.{hex_bytes, hex_word, line, numbered}
 
 abbrev pub mode_word : ModeName → List ℕ
@@ -22,6 +23,10 @@ mode_word Picolog = codes "picolog"
 -- `log VERSION MODE S COMMITS`: the version, the mode, the standard chunk size and the number of commits
 abbrev pub head_line : LogParts → List ℕ
 head_line log = line (codes "log") (decimal log.version ∷ mode_word log.mode ∷ decimal log.s ∷ decimal log.count ∷ [])
+
+-- `threads N`: how many threads the log may have, which version 1 doesn't say
+abbrev pub threads_lines : LogParts → List ℕ
+threads_lines log = by_version log.version [] (line (codes "threads") (decimal log.threads ∷ []))
 
 -- the sizes, if each commit has one
 abbrev pub each_of : Sizes → List ℕ
@@ -75,10 +80,11 @@ input_line input = line (codes "n") (decimal input.kind ∷ hex_word input.resul
 abbrev pub dma_line : DmaRecord → List ℕ
 dma_line dma = line (codes "d") (decimal dma.position ∷ bytes_word dma.bytes ∷ [])
 
--- the header, the order, the sizes, the interrupts, the inputs and the DMAs
+-- the header with its threads, the order, the sizes, the interrupts, the inputs and the DMAs
 abbrev pub inspection_of : LogParts → List ℕ
 inspection_of log =
     head_line log
+    ++ threads_lines log
     ++ order_lines log.mode log.order log.sizes
     ++ size_lines log.mode log.sizes
     ++ flat_map interrupt_line log.interrupts

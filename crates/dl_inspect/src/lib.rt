@@ -1,4 +1,4 @@
-//! A log as text, for a reader: its mode and counts, and a line for each entry.
+//! A log as text, for a reader: its header, and a line for each entry.
 #![tactic(auto)]
 
 mod entry;

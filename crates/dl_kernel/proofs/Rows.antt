@@ -1,6 +1,7 @@
 -- A row with a place for each thread, set one place after another, says the same of every thread.
 use Rattle.std.proofs.Common.{◌≡◌, ℕ, zero, suc, ◌+◌, ◌-◌, ◌<◌, ◌≤◌, List, [], ◌∷◌, ◌++◌, length, map, take, replicate, slice_get, Bool, Option, Some, None, refl, ap, sym, ◌∙◌, arith}
 use Rattle.std.proofs.Math.ListN.{set}
+use Rattle.std.specs.Option.{OnSome}
 use Rattle.std.proofs.lemmas.List.{take_more_set}
 use Rattle.spec_isa.specs.declared.thread.Parts.{Parts}
 use Rattle.spec_kernel.specs.Interrupts.{is_live}
@@ -37,3 +38,8 @@ pub lives-next : (live : List Bool) (ts : List Parts) (i : ℕ) (b : Bool) → i
     → b ≡ lives (slice_get ts i) → take (i + 1) (set live i b) ≡ map is_live (take (i + 1) ts)
 lives-next live ts i b h l e is =
     take_more_set live i b h ∙ rw (e, is) (sym (map-next ts i l))
+
+-- where there is room for a thread in a shorter row, there is in a longer one
+pub room-more : {X : Type 0} (spawned : Option X) (n most places : ℕ) → most ≤ places → OnSome spawned (n < most) → OnSome spawned (n < places)
+room-more None n most places l room = tt
+room-more (Some t) n most places l room = let h : n < most = room in omega (arith, h, l)

@@ -1,12 +1,14 @@
 -- Reading an entry of a section undoes writing it.
-use Rattle.std.proofs.Common.{◌≡◌, ℕ, zero, suc, ◌<◌, ◌≤◌, ◌^◌, ◌==◌, ◌||◌, Bool, true, false, List, [], ◌∷◌, ◌++◌, All, Contains, length, get_or, nat_le, nat_lt, inl, inr, refl, ap, sym, ◌∙◌, append-nil, append_assoc, arith, eq-eqb, lit<}
+use Rattle.std.proofs.Common.{◌≡◌, ℕ, zero, suc, ◌<◌, ◌≤◌, ◌^◌, ◌==◌, ◌||◌, Bool, true, false, List, [], ◌∷◌, ◌++◌, All, Contains, length, get_or, nat_le, nat_lt, inl, inr, if◌then◌else◌, refl, ap, sym, ◌∙◌, append-nil, append_assoc, arith, eq-eqb, lit<}
 use Rattle.std.specs.Bool.{Decides}
 use Rattle.std.specs.List.{list_any}
+use Rattle.std.proofs.Math.Nat.{le_trans}
 use Rattle.std.proofs.lemmas.Bool.{leb-true, le-leb, ltb-true, lt-ltb, eqb-true, or_cases, and_parts, and_from}
 use Rattle.std.proofs.lemmas.Bool.Decides.{Decides-or, Decides-and, Decides-ltb, Decides-eqb}
 use Rattle.std.proofs.lemmas.List.Elements.{All-contains, All-from_recursion}
-use Rattle.spec_log.specs.Bytes.{little, u8, u16, u32, counted_bytes, short_size_bytes, interrupt_bytes, input_bytes, dma_bytes}
-use Rattle.spec_log.specs.Log.{ComesBefore, IsVersion, IsStandard, IsShortSize, IsInterrupt, AreFewBytes, input_kinds, IsInput, IsDmaRecord}
+use Rattle.spec_log.specs.Bytes.{little, u8, u16, u32, counted_bytes, size_bytes, short_size_bytes, interrupt_bytes, input_bytes, dma_bytes}
+use Rattle.spec_log.specs.Log.{ComesBefore, IsShortSize, IsInterrupt, AreFewBytes, input_kinds, IsInput, IsDmaRecord}
+use Rattle.spec_log.specs.Versions.{IsVersion, IsStandard, most_standard, size_width}
 use Rattle.spec_log.specs.declared.shape.Shape.{Shape}
 use Rattle.spec_log.specs.Fields.{Reader, read, gives, raw, number, field, any, at_most, from_to}
 use Rattle.spec_log.specs.Reading.{thread, is_earlier, size, short_size, interrupt, counted, input, dma}
@@ -68,10 +70,17 @@ Codes-u32 = Codes-field 4 5 (λ x. true) (λ x. x < 2 ^ 32) (λ x h l. l) (λ x 
 abbrev pub IsShape : Shape → Type 0
 IsShape shape = IsVersion shape.version shape.threads × IsStandard shape.version shape.s
 
+-- no log may have more than 63 threads
+pub few-threads : (version threads : ℕ) → IsVersion version threads → threads ≤ 63
+few-threads version threads (inl first) = omega (arith, first.1)
+few-threads version threads (inr (second, inl few)) = omega (arith, few)
+few-threads version threads (inr (second, inr many)) = omega (arith, many)
+
 Codes-thread : (shape : Shape) → IsShape shape → Codes (thread shape) u8 (λ t. t < shape.threads)
 Codes-thread shape good =
+    let few = few-threads shape.version shape.threads good.0 in
     Codes-field 1 5 (λ t. nat_lt t shape.threads) (λ t. t < shape.threads) (λ t h l. ltb-true t shape.threads h)
-    (λ t h. (omega (arith, h, good.0.1), lt-ltb t shape.threads h))
+    (λ t h. (omega (arith, h, few), lt-ltb t shape.threads h))
 
 Codes-counted : Codes counted counted_bytes AreFewBytes
 Codes-counted =
@@ -94,24 +103,32 @@ pub Decides-earlier : (t i u j : ℕ) → Decides (is_earlier t i u j) (ComesBef
 Decides-earlier t i u j =
     Decides-or _ _ (Decides-ltb t u) (Decides-and _ _ (Decides-eqb t u) (Decides-ltb i j))
 
+-- a size fits in the bytes that a version has for it
+size-fits : (version size : ℕ) → size ≤ most_standard version → size < 256 ^ size_width version
+size-fits version size h = fits (version == 1) h where
+  fits : (first : Bool) → size ≤ (if first then 4096 else 65536) → size < 256 ^ (if first then 2 else 4)
+  fits true h = omega (arith, h)
+  fits false h = omega (arith, h)
+
 -- reading a size undoes writing it
-pub Codes-size : (shape : Shape) → IsShape shape → Codes (size shape) u16 (λ n. n ≤ shape.s)
+pub Codes-size : (shape : Shape) → IsShape shape → Codes (size shape) (size_bytes shape.version) (λ n. n ≤ shape.s)
 Codes-size shape good =
-    Codes-field 2 5 (at_most shape.s) (λ n. n ≤ shape.s) (λ n h l. leb-true n shape.s h) (λ n h. (omega (arith, h, good.1.1), le-leb n shape.s h))
+    Codes-field (size_width shape.version) 5 (at_most shape.s) (λ n. n ≤ shape.s) (λ n h l. leb-true n shape.s h)
+    (λ n h. (size-fits shape.version n (le_trans h good.1.1), le-leb n shape.s h))
 
 -- reading a short size undoes writing it
-pub Codes-short_size : (shape : Shape) → IsShape shape → Codes (short_size shape) short_size_bytes (IsShortSize shape.threads shape.s)
+pub Codes-short_size : (shape : Shape) → IsShape shape → Codes (short_size shape) (short_size_bytes shape.version) (IsShortSize shape.threads shape.s)
 Codes-short_size shape good =
-    Codes-as (short_size shape) short_size_bytes short_size_bytes _ (IsShortSize shape.threads shape.s)
+    Codes-as (short_size shape) (short_size_bytes shape.version) (short_size_bytes shape.version) _ (IsShortSize shape.threads shape.s)
     (Codes-three (thread_part shape good (λ x. x.thread)) (u32_part (λ x. x.index))
-    (record { of = λ x. x.size; reader = field 2 (from_to 1 shape.s); bytes_of = u16; good = λ size. (1 ≤ size) × (size ≤ shape.s); codes = Codes-over_0 shape.s good.1.1 })
+    (record { of = λ x. x.size; reader = field (size_width shape.version) (from_to 1 shape.s); bytes_of = size_bytes shape.version; good = λ size. (1 ≤ size) × (size ≤ shape.s); codes = Codes-over_0 shape.version shape.s good.1.1 })
     (λ t i size. record { thread = t; index = i; size = size }) (λ t i size. (refl, refl, refl)) (λ x. refl))
     (λ x h. refl) (λ x h. (h.0, h.1, h.2.0, h.2.1)) (λ x h. (h.0, h.1, (h.2, h.3))) where
-      Codes-over_0 : (s : ℕ) → s ≤ 4096 → Codes (field 2 (from_to 1 s)) u16 (λ size. (1 ≤ size) × (size ≤ s))
-      Codes-over_0 s small =
-          Codes-field 2 5 (from_to 1 s) (λ size. (1 ≤ size) × (size ≤ s))
+      Codes-over_0 : (v s : ℕ) → s ≤ most_standard v → Codes (field (size_width v) (from_to 1 s)) (size_bytes v) (λ size. (1 ≤ size) × (size ≤ s))
+      Codes-over_0 v s small =
+          Codes-field (size_width v) 5 (from_to 1 s) (λ size. (1 ≤ size) × (size ≤ s))
           (λ x h l. let p = and_parts (nat_le 1 x) (nat_le x s) h in (leb-true 1 x p.0, leb-true x s p.1))
-          (λ x h. (omega (arith, h.1), and_from (nat_le 1 x) (nat_le x s) (le-leb 1 x h.0) (le-leb x s h.1)))
+          (λ x h. (size-fits v x (le_trans h.1 small), and_from (nat_le 1 x) (nat_le x s) (le-leb 1 x h.0) (le-leb x s h.1)))
 
 -- reading an interrupt undoes writing it
 pub Codes-interrupt : (shape : Shape) → IsShape shape → Codes (interrupt shape) interrupt_bytes (IsInterrupt shape.threads)

@@ -3,6 +3,7 @@ mod ByteNumbers
 pub mod Codes
 mod EntryLaws
 pub mod Feeding
+mod HalvesLaws
 pub mod LogLaws
 mod OrderLaws
 pub mod Parsing

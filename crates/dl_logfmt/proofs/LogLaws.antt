@@ -1,5 +1,5 @@
 -- Reading a log undoes writing it, and bytes that are read as a log are that log's.
-use Rattle.std.proofs.Common.{◌≡◌, ℕ, zero, suc, ◌<◌, ◌≤◌, ◌^◌, ◌==◌, nat_le, nat_lt, true, false, List, [], ◌∷◌, ◌++◌, All, length, drop, None, Result, Ok, Err, refl, ap, sym, subst, ◌∙◌, append-nil, append_assoc, length-append, arith, eq-eqb}
+use Rattle.std.proofs.Common.{◌≡◌, ℕ, zero, suc, ◌<◌, ◌≤◌, ◌^◌, ◌==◌, ◌||◌, nat_le, nat_lt, Bool, true, false, if◌then◌else◌, ◌⊎◌, inl, inr, List, [], ◌∷◌, ◌++◌, All, length, drop, None, Result, Ok, Err, refl, ap, sym, subst, ◌∙◌, append-nil, append_assoc, length-append, arith, eq-eqb}
 use Rattle.std.proofs.lemmas.Bool.{leb-true, le-leb, eqb-true, and_parts, and_from, le-ltb, ltb-false}
 use Rattle.std.proofs.lemmas.List.{nil_from_length}
 use Rattle.dl_entry.specs.declared.input.Input.{Input}
@@ -9,22 +9,24 @@ use Rattle.spec_log.specs.declared.mode_name.ModeName.{ModeName}
 use Rattle.spec_log.specs.declared.mode_name.ModeName.TheVariants.{OrderSize, OrderOnly, Picolog}
 use Rattle.spec_log.specs.declared.records.Interrupt.{Interrupt}
 use Rattle.spec_log.specs.declared.records.DmaRecord.{DmaRecord}
-use Rattle.dl_entry.specs.Numbers.{least_chunk, most_threads}
+use Rattle.dl_entry.specs.Numbers.{least_chunk, most_threads, plain_threads}
 use Rattle.spec_log.specs.declared.shape.Shape.{Shape}
 use Rattle.spec_log.specs.declared.sizes.ShortSize.{ShortSize}
 use Rattle.spec_log.specs.declared.sizes.Sizes.{Sizes}
 use Rattle.spec_log.specs.declared.sizes.Sizes.TheVariants.{Each, Short}
 use Rattle.spec_log.specs.declared.draft.Draft.{Draft}
 use Rattle.spec_log.specs.declared.log.LogParts.{LogParts}
-use Rattle.spec_log.specs.Bytes.{u8, u16, u32, little, magic as magic_bytes, section, header_bytes, order_bytes, sizes_bytes, interrupt_bytes, input_bytes, dma_bytes, log_bytes}
-use Rattle.spec_log.specs.Log.{ComesBefore, IsVersion, most_standard, IsStandard, IsOrder, IsSizes, IsInterrupt, AreInterrupts, IsInput, AreInputs, IsDmaRecord, AreDmas, IsLog}
+use Rattle.spec_log.specs.Bytes.{u8, u16, u32, little, magic as magic_bytes, section, header_bytes, threads_bytes, order_bytes, sizes_bytes, interrupt_bytes, input_bytes, dma_bytes, log_bytes}
+use Rattle.spec_log.specs.Versions.{IsVersion, IsStandard, most_standard}
+use Rattle.spec_log.specs.Log.{ComesBefore, IsOrder, IsSizes, IsInterrupt, AreInterrupts, IsInput, AreInputs, IsDmaRecord, AreDmas, IsLog}
 use Rattle.spec_log.specs.declared.fault.Fault.{Fault}
 use Rattle.spec_log.specs.Fields.{Read, Reader, Stage, continues, read, gives, number, field, any, at_most, from_to, staged, all_of}
 use Rattle.spec_log.specs.Reading.{is_earlier, interrupt, input, dma, size, short_size, magic, version, mode, mode_of, thread_count, threads, chunk_size, commits, order, sizes, interrupts, inputs, dmas, stages, blank, ended, log_of, sizes_in, read_of}
 use Rattle.dl_logfmt.proofs.ByteNumbers.{IsByte}
 use Rattle.dl_logfmt.proofs.Codes.{Codes, Codes-as, Codes-via, Codes-then, Codes-gives, Codes-skip, Codes-part, untested}
 use Rattle.dl_logfmt.proofs.EntryLaws.{IsShape, Codes-field, Codes-interrupt, Codes-input, Codes-dma, Decides-earlier}
-use Rattle.std.proofs.lemmas.Bool.Decides.{Decides-ltb}
+use Rattle.std.specs.Bool.{Decides}
+use Rattle.std.proofs.lemmas.Bool.Decides.{Decides-eqb, Decides-ltb, Decides-or}
 use Rattle.dl_logfmt.proofs.SectionLaws.{entries, section_of, Codes-section, staged-entries}
 use Rattle.dl_logfmt.proofs.OrderLaws.{order_of, Codes-order, staged-actors}
 use Rattle.dl_logfmt.proofs.SizeLaws.{each_of, sizes_of, Codes-sizes}
@@ -76,8 +78,14 @@ Codes-dmas =
 Codes-chunk_size : (v : ℕ) → Codes (field 4 (from_to least_chunk (most_standard v))) u32 (IsStandard v)
 Codes-chunk_size v =
     Codes-field 4 5 (from_to least_chunk (most_standard v)) (IsStandard v)
-    (λ x h l. let p = and_parts (nat_le 16 x) (nat_le x 4096) h in (leb-true 16 x p.0, leb-true x 4096 p.1))
-    (λ x h. (omega (arith, h.1), and_from (nat_le 16 x) (nat_le x 4096) (le-leb 16 x h.0) (le-leb x 4096 h.1)))
+    (λ x h l. let p = and_parts (nat_le 16 x) (nat_le x (most_standard v)) h in (leb-true 16 x p.0, leb-true x (most_standard v) p.1))
+    (λ x h. (fits v x h.1, and_from (nat_le 16 x) (nat_le x (most_standard v)) (le-leb 16 x h.0) (le-leb x (most_standard v) h.1))) where
+      fits-by : (first : Bool) (x : ℕ) → x ≤ (if first then 4096 else 65536) → x < 2 ^ 32
+      fits-by true x h = omega (arith, h)
+      fits-by false x h = omega (arith, h)
+
+      fits : (v x : ℕ) → x ≤ most_standard v → x < 2 ^ 32
+      fits v x h = fits-by (v == 1) x h
 
 Codes-count : Codes (field 4 (at_most (2 ^ 24))) u32 (λ c. c ≤ 2 ^ 24)
 Codes-count =
@@ -152,44 +160,48 @@ bytes-interrupts l = (section interrupt_bytes) l.interrupts ++ (bytes-inputs l)
 abbrev Known-sizes : Shape → ModeName → ℕ → List Actor → Draft → Type 0
 Known-sizes h m c o l = (z : Sizes) × IsSizes m h.threads h.s c z × Known-interrupts h m c o z l
 
-abbrev bytes-sizes : Draft → List ℕ
-bytes-sizes l = sizes_bytes (sizes_in l.mode l.each l.short) ++ (bytes-interrupts l)
+abbrev bytes-sizes : ℕ → Draft → List ℕ
+bytes-sizes v l = sizes_bytes v (sizes_in l.mode l.each l.short) ++ (bytes-interrupts l)
 
 abbrev Known-order : Shape → ModeName → ℕ → Draft → Type 0
 Known-order h m c l = (o : List Actor) × IsOrder m h.threads c o × Known-sizes h m c o l
 
-abbrev bytes-order : Draft → List ℕ
-bytes-order l = order_bytes l.order ++ (bytes-sizes l)
+abbrev bytes-order : ℕ → Draft → List ℕ
+bytes-order v l = order_bytes v l.order ++ (bytes-sizes v l)
 
 abbrev Known-count : Shape → ModeName → Draft → Type 0
 Known-count h m l = (c : ℕ) × (c ≤ 2 ^ 24) × Known-order h m c l
 
-abbrev bytes-count : Draft → List ℕ
-bytes-count l = u32 l.count ++ (bytes-order l)
+abbrev bytes-count : ℕ → Draft → List ℕ
+bytes-count v l = u32 l.count ++ (bytes-order v l)
 
 abbrev Known-s : (v t : ℕ) → ModeName → Draft → Type 0
 Known-s v t m l = (s : ℕ) × IsStandard v s × Known-count (shaped v t s) m l
 
-abbrev bytes-s : Draft → List ℕ
-bytes-s l = u32 l.shape.s ++ (bytes-count l)
+abbrev bytes-s : ℕ → Draft → List ℕ
+bytes-s v l = u32 l.shape.s ++ (bytes-count v l)
 
 abbrev Known-threads : ℕ → ModeName → Draft → Type 0
 Known-threads v m l = (t : ℕ) × IsVersion v t × Known-s v t m l
 
-abbrev bytes-threads : Draft → List ℕ
-bytes-threads l = u16 0 ++ bytes-s l
+abbrev bytes-threads : ℕ → Draft → List ℕ
+bytes-threads v l = threads_bytes v l.shape.threads ++ bytes-s v l
 
 abbrev Known-mode : ℕ → Draft → Type 0
 Known-mode v l = (m : ModeName) × Known-threads v m l
 
-abbrev bytes-mode : Draft → List ℕ
-bytes-mode l = u8 (mode_code l.mode) ++ bytes-threads l
+abbrev bytes-mode : ℕ → Draft → List ℕ
+bytes-mode v l = u8 (mode_code l.mode) ++ bytes-threads v l
+
+-- there are two versions
+abbrev IsNumber : ℕ → Type 0
+IsNumber v = (v ≡ 1) ⊎ (v ≡ 2)
 
 abbrev Known-version : Draft → Type 0
-Known-version l = (v : ℕ) × (v ≡ 1) × Known-mode v l
+Known-version l = (v : ℕ) × IsNumber v × Known-mode v l
 
 abbrev bytes-version : Draft → List ℕ
-bytes-version l = u8 l.shape.version ++ bytes-mode l
+bytes-version l = u8 l.shape.version ++ bytes-mode l.shape.version l
 
 abbrev bytes-all : Draft → List ℕ
 bytes-all l = magic_bytes ++ bytes-version l
@@ -241,43 +253,43 @@ staged-sizes h Picolog c o bytes at =
     staged-entries sizes.one (λ xs. whole h Picolog c o (Short xs) [] [] []) (λ x y. is_earlier x.thread x.index y.thread y.index) (short_size h) (λ xs bytes at. refl) (any 4) bytes at
     ∙ put-put (section_of (λ x y. is_earlier x.thread x.index y.thread y.index) (short_size h) bytes at) Short (λ z. whole h Picolog c o z [] [] []) bytes
 
-Codes-from_sizes : (h : Shape) (m : ModeName) (c : ℕ) (o : List Actor) → IsShape h → c ≤ 2 ^ 24 → Codes (from 7 (whole h m c o (Each []) [] [] [])) bytes-sizes (Known-sizes h m c o)
+Codes-from_sizes : (h : Shape) (m : ModeName) (c : ℕ) (o : List Actor) → IsShape h → c ≤ 2 ^ 24 → Codes (from 7 (whole h m c o (Each []) [] [] [])) (bytes-sizes h.version) (Known-sizes h m c o)
 Codes-from_sizes h m c o good gc =
     let put : Sizes → Draft = λ (z : Sizes). whole h m c o z [] [] [] in
-    Codes-via (from 7 (put (Each []))) (read (sizes_of m h c) (λ z. from 8 (put z))) bytes-sizes (Known-sizes h m c o)
+    Codes-via (from 7 (put (Each []))) (read (sizes_of m h c) (λ z. from 8 (put z))) (bytes-sizes h.version) (Known-sizes h m c o)
     (staged-on sizes (drop 8 stages) (put (Each [])) (sizes_of m h c) put (staged-sizes h m c o))
-    (Codes-then (sizes_of m h c) (λ z. from 8 (put z)) sizes_bytes (IsSizes m h.threads h.s c) (λ z. bytes-interrupts) (λ z. Known-interrupts h m c o z) bytes-sizes (Known-sizes h m c o)
+    (Codes-then (sizes_of m h c) (λ z. from 8 (put z)) (sizes_bytes h.version) (IsSizes m h.threads h.s c) (λ z. bytes-interrupts) (λ z. Known-interrupts h m c o z) (bytes-sizes h.version) (Known-sizes h m c o)
     (Codes-sizes m h c good gc) (λ z g. Codes-from_interrupts h m c o z good)
     (λ l g. (g.0, g.1, g.2, written l g.0 g.1 g.2))
     (λ z l g r. ((z, g, r), written l z g r))) where
-      written : (l : Draft) (z : Sizes) → IsSizes m h.threads h.s c z → Known-interrupts h m c o z l → bytes-sizes l ≡ sizes_bytes z ++ bytes-interrupts l
+      written : (l : Draft) (z : Sizes) → IsSizes m h.threads h.s c z → Known-interrupts h m c o z l → bytes-sizes h.version l ≡ sizes_bytes h.version z ++ bytes-interrupts l
       written l z g (i, gi, (n, gn, (d, gd, e))) = rw (e, same-sizes m h.threads h.s c z g) refl
 
-Codes-from_order : (h : Shape) (m : ModeName) (c : ℕ) → IsShape h → c ≤ 2 ^ 24 → Codes (from 6 (whole h m c [] (Each []) [] [] [])) bytes-order (Known-order h m c)
+Codes-from_order : (h : Shape) (m : ModeName) (c : ℕ) → IsShape h → c ≤ 2 ^ 24 → Codes (from 6 (whole h m c [] (Each []) [] [] [])) (bytes-order h.version) (Known-order h m c)
 Codes-from_order h m c good gc =
     let put : List Actor → Draft = λ (o : List Actor). whole h m c o (Each []) [] [] [] in
-    Codes-via (from 6 (put [])) (read (order_of m c) (λ o. from 7 (put o))) bytes-order (Known-order h m c)
-    (staged-on order (drop 7 stages) (put []) (order_of m c) put (staged-actors order.one put m c (λ xs bytes at. refl)))
-    (Codes-part (order_of m c) (λ o. from 7 (put o)) (λ l. l.order) order_bytes (IsOrder m h.threads c) bytes-sizes (λ o. Known-sizes h m c o)
-    (Codes-order m h.threads c good.0.1 gc) (λ o g. Codes-from_sizes h m c o good gc)
+    Codes-via (from 6 (put [])) (read (order_of h m c) (λ o. from 7 (put o))) (bytes-order h.version) (Known-order h m c)
+    (staged-on order (drop 7 stages) (put []) (order_of h m c) put (staged-actors order.one put h m c (λ xs bytes at. refl)))
+    (Codes-part (order_of h m c) (λ o. from 7 (put o)) (λ l. l.order) (order_bytes h.version) (IsOrder m h.threads c) (bytes-sizes h.version) (λ o. Known-sizes h m c o)
+    (Codes-order h m c good.0 gc) (λ o g. Codes-from_sizes h m c o good gc)
     (λ o l r. ap (λ (l : Draft). l.order) r.2.2.2.2))
 
-Codes-from_count : (h : Shape) (m : ModeName) → IsShape h → Codes (from 5 (whole h m 0 [] (Each []) [] [] [])) bytes-count (Known-count h m)
+Codes-from_count : (h : Shape) (m : ModeName) → IsShape h → Codes (from 5 (whole h m 0 [] (Each []) [] [] [])) (bytes-count h.version) (Known-count h m)
 Codes-from_count h m good =
     let put : ℕ → Draft = λ (c : ℕ). whole h m c [] (Each []) [] [] [] in
-    Codes-via (from 5 (put 0)) (read (field 4 (at_most (2 ^ 24))) (λ c. from 6 (put c))) bytes-count (Known-count h m)
+    Codes-via (from 5 (put 0)) (read (field 4 (at_most (2 ^ 24))) (λ c. from 6 (put c))) (bytes-count h.version) (Known-count h m)
     (staged-on commits (drop 6 stages) (put 0) (field 4 (at_most (2 ^ 24))) put (staged-once (field 4 (at_most (2 ^ 24))) put))
-    (Codes-part (field 4 (at_most (2 ^ 24))) (λ c. from 6 (put c)) (λ l. l.count) u32 (λ c. c ≤ 2 ^ 24) bytes-order (λ c. Known-order h m c)
+    (Codes-part (field 4 (at_most (2 ^ 24))) (λ c. from 6 (put c)) (λ l. l.count) u32 (λ c. c ≤ 2 ^ 24) (bytes-order h.version) (λ c. Known-order h m c)
     Codes-count (λ c g. Codes-from_order h m c good g)
     (λ c l r. ap (λ (l : Draft). l.count) r.2.2.2.2.2))
 
-Codes-from_s : (v t : ℕ) (m : ModeName) → IsVersion v t → Codes (from 4 (whole (shaped v t 0) m 0 [] (Each []) [] [] [])) bytes-s (Known-s v t m)
+Codes-from_s : (v t : ℕ) (m : ModeName) → IsVersion v t → Codes (from 4 (whole (shaped v t 0) m 0 [] (Each []) [] [] [])) (bytes-s v) (Known-s v t m)
 Codes-from_s v t m good =
     let put : ℕ → Draft = λ (s : ℕ). whole (shaped v t s) m 0 [] (Each []) [] [] [] in
     let reader : Reader ℕ = field 4 (from_to least_chunk (most_standard v)) in
-    Codes-via (from 4 (put 0)) (read reader (λ s. from 5 (put s))) bytes-s (Known-s v t m)
+    Codes-via (from 4 (put 0)) (read reader (λ s. from 5 (put s))) (bytes-s v) (Known-s v t m)
     (staged-on chunk_size (drop 5 stages) (put 0) reader put (staged-once reader put))
-    (Codes-part reader (λ s. from 5 (put s)) (λ l. l.shape.s) u32 (IsStandard v) bytes-count (λ s. Known-count (shaped v t s) m)
+    (Codes-part reader (λ s. from 5 (put s)) (λ l. l.shape.s) u32 (IsStandard v) (bytes-count v) (λ s. Known-count (shaped v t s) m)
     (Codes-chunk_size v) (λ s g. Codes-from_count (shaped v t s) m (good, g))
     (λ s l r. ap (λ (l : Draft). l.shape.s) r.2.2.2.2.2.2))
 
@@ -291,22 +303,49 @@ Codes-constant_then stage behind d e width fault value rest_of rest_good fits is
     (staged-on stage behind d (number width fault (λ x. x == value)) (λ x. e) is)
     (Codes-skip (number width fault (λ x. x == value)) (all_of behind e) value (little width) rest_of rest_good (Codes-constant width fault value fits) codes)
 
--- version 1 has 15 threads, and writes 0 in their place
-Codes-from_threads : (v : ℕ) (m : ModeName) → v ≡ 1 → Codes (from 3 (whole (shaped v 0 0) m 0 [] (Each []) [] [] [])) bytes-threads (Known-threads v m)
+-- how many threads the log may have: version 1 has 15, and writes 0 in their place
+Codes-first_count : Codes (thread_count 1) (threads_bytes 1) (IsVersion 1)
+Codes-first_count =
+    Codes-then (field 2 (λ x. x == 0)) (λ x. gives plain_threads) u16 (λ x. x ≡ 0) (λ x t. []) (λ x t. t ≡ plain_threads) (threads_bytes 1) (IsVersion 1)
+    (Codes-constant 2 5 0 (omega arith)) (λ x g. Codes-gives plain_threads (λ t. t ≡ plain_threads) refl (λ t e. e)) split (λ x t g e. (inl (refl, e), rw g refl)) where
+      split : (t : ℕ) → IsVersion 1 t → (x : ℕ) × (x ≡ 0) × (t ≡ plain_threads) × (threads_bytes 1 t ≡ u16 x ++ [])
+      split t (inl first) = (0, refl, first.1, refl)
+      split t (inr second) = absurd (omega (arith, second.0))
+
+Decides-threads : (t : ℕ) → Decides ((t == plain_threads) || (t == most_threads)) ((t ≡ plain_threads) ⊎ (t ≡ most_threads))
+Decides-threads t = Decides-or _ _ (Decides-eqb t plain_threads) (Decides-eqb t most_threads)
+
+Codes-second_count : Codes (thread_count 2) (threads_bytes 2) (IsVersion 2)
+Codes-second_count =
+    Codes-field 2 5 (λ t. (t == plain_threads) || (t == most_threads)) (IsVersion 2)
+    (λ t h l. inr (refl, (Decides-threads t).0 h)) (λ t h. (small t (which t h), (Decides-threads t).1 (which t h))) where
+      which : (t : ℕ) → IsVersion 2 t → (t ≡ plain_threads) ⊎ (t ≡ most_threads)
+      which t (inl first) = absurd (omega (arith, first.0))
+      which t (inr second) = second.1
+
+      small : (t : ℕ) → (t ≡ plain_threads) ⊎ (t ≡ most_threads) → t < 256 ^ 2
+      small t (inl few) = omega (arith, few)
+      small t (inr many) = omega (arith, many)
+
+Codes-thread_count : (v : ℕ) → IsNumber v → Codes (thread_count v) (threads_bytes v) (IsVersion v)
+Codes-thread_count v (inl first) = rw first Codes-first_count
+Codes-thread_count v (inr second) = rw second Codes-second_count
+
+Codes-from_threads : (v : ℕ) (m : ModeName) → IsNumber v → Codes (from 3 (whole (shaped v 0 0) m 0 [] (Each []) [] [] [])) (bytes-threads v) (Known-threads v m)
 Codes-from_threads v m is =
     let put : ℕ → Draft = λ (t : ℕ). whole (shaped v t 0) m 0 [] (Each []) [] [] [] in
-    Codes-as (from 3 (put 0)) bytes-threads bytes-threads (Known-s v most_threads m) (Known-threads v m)
-    (Codes-constant_then threads (drop 4 stages) (put 0) (put most_threads) 2 5 0 bytes-s (Known-s v most_threads m) (omega arith)
-    (λ bytes at. staged-once (thread_count v) put bytes at ∙ put-on (field 2 (λ x. x == 0) bytes at) (λ x. most_threads) (λ t. gives (put t)) bytes)
-    (Codes-from_s v most_threads m (is, refl)))
-    (λ l r. refl) (λ l r. (most_threads, (is, refl), r)) (λ l r. subst (λ (t : ℕ). Known-s v t m l) r.1.1 r.2)
+    Codes-via (from 3 (put 0)) (read (thread_count v) (λ t. from 4 (put t))) (bytes-threads v) (Known-threads v m)
+    (staged-on threads (drop 4 stages) (put 0) (thread_count v) put (staged-once (thread_count v) put))
+    (Codes-part (thread_count v) (λ t. from 4 (put t)) (λ l. l.shape.threads) (threads_bytes v) (IsVersion v) (bytes-s v) (λ t. Known-s v t m)
+    (Codes-thread_count v is) (λ t g. Codes-from_s v t m g)
+    (λ t l r. ap (λ (l : Draft). l.shape.threads) r.2.2.2.2.2.2.2))
 
-Codes-from_mode : (v : ℕ) → v ≡ 1 → Codes (from 2 (whole (shaped v 0 0) OrderSize 0 [] (Each []) [] [] [])) bytes-mode (Known-mode v)
+Codes-from_mode : (v : ℕ) → IsNumber v → Codes (from 2 (whole (shaped v 0 0) OrderSize 0 [] (Each []) [] [] [])) (bytes-mode v) (Known-mode v)
 Codes-from_mode v is =
     let put : ℕ → Draft = λ (code : ℕ). whole (shaped v 0 0) (mode_of code) 0 [] (Each []) [] [] [] in
-    Codes-via (from 2 (put 0)) (read (number 1 4 (at_most 2)) (λ code. from 3 (put code))) bytes-mode (Known-mode v)
+    Codes-via (from 2 (put 0)) (read (number 1 4 (at_most 2)) (λ code. from 3 (put code))) (bytes-mode v) (Known-mode v)
     (staged-on mode (drop 3 stages) (put 0) (number 1 4 (at_most 2)) put (staged-once (number 1 4 (at_most 2)) put))
-    (Codes-then (number 1 4 (at_most 2)) (λ code. from 3 (put code)) u8 (λ code. code ≤ 2) (λ code. bytes-threads) (λ code. Known-threads v (mode_of code)) bytes-mode (Known-mode v)
+    (Codes-then (number 1 4 (at_most 2)) (λ code. from 3 (put code)) u8 (λ code. code ≤ 2) (λ code. bytes-threads v) (λ code. Known-threads v (mode_of code)) (bytes-mode v) (Known-mode v)
     (Codes-field 1 4 (at_most 2) (λ code. code ≤ 2) (λ code h l. leb-true code 2 h) (λ code h. (omega arith, le-leb code 2 h)))
     (λ code g. Codes-from_threads v (mode_of code) is)
     (λ l g. (mode_code g.0, mode_code-small g.0, subst (λ (m : ModeName). Known-threads v m l) (mode_of-code g.0) g.1, rw (in_mode g.0 l g.1) refl))
@@ -314,14 +353,29 @@ Codes-from_mode v is =
       in_mode : (m : ModeName) (l : Draft) → Known-threads v m l → l.mode ≡ m
       in_mode m l r = ap (λ (l : Draft). l.mode) r.2.2.2.2.2.2.2.2
 
+Decides-number : (v : ℕ) → Decides ((v == 1) || (v == 2)) (IsNumber v)
+Decides-number v = Decides-or _ _ (Decides-eqb v 1) (Decides-eqb v 2)
+
+number-small : (v : ℕ) → IsNumber v → v < 256 ^ 1
+number-small v (inl first) = omega (arith, first)
+number-small v (inr second) = omega (arith, second)
+
+Codes-number_of : Codes (number 1 3 (λ v. (v == 1) || (v == 2))) u8 IsNumber
+Codes-number_of =
+    Codes-field 1 3 (λ v. (v == 1) || (v == 2)) IsNumber (λ v h l. (Decides-number v).0 h) (λ v h. (number-small v h, (Decides-number v).1 h))
+
 Codes-from_version : Codes (from 1 blank) bytes-version Known-version
 Codes-from_version =
     let put : ℕ → Draft = λ (v : ℕ). whole (shaped v 0 0) OrderSize 0 [] (Each []) [] [] [] in
-    Codes-via (from 1 blank) (read (number 1 3 (λ x. x == 1)) (λ v. from 2 (put v))) bytes-version Known-version
-    (staged-on version (drop 2 stages) blank (number 1 3 (λ x. x == 1)) put (staged-once (number 1 3 (λ x. x == 1)) put))
-    (Codes-part (number 1 3 (λ x. x == 1)) (λ v. from 2 (put v)) (λ l. l.shape.version) u8 (λ v. v ≡ 1) bytes-mode Known-mode
-    (Codes-constant 1 3 1 (omega arith)) Codes-from_mode
-    (λ v l r. ap (λ (l : Draft). l.shape.version) r.1.2.2.2.2.2.2.2.2))
+    let reader : Reader ℕ = number 1 3 (λ v. (v == 1) || (v == 2)) in
+    Codes-via (from 1 blank) (read reader (λ v. from 2 (put v))) bytes-version Known-version
+    (staged-on version (drop 2 stages) blank reader put (staged-once reader put))
+    (Codes-then reader (λ v. from 2 (put v)) u8 IsNumber bytes-mode Known-mode bytes-version Known-version
+    Codes-number_of Codes-from_mode
+    (λ l g. (g.0, g.1, g.2, rw (in_version g.0 l g.2) refl))
+    (λ v l g r. ((v, g, r), rw (in_version v l r) refl))) where
+      in_version : (v : ℕ) (l : Draft) → Known-mode v l → l.shape.version ≡ v
+      in_version v l r = ap (λ (l : Draft). l.shape.version) r.1.2.2.2.2.2.2.2.2
 
 Codes-all : Codes (all_of stages blank) bytes-all Known-version
 Codes-all =
@@ -333,7 +387,7 @@ same-parts h o z i n d = simp (append_assoc, append-nil)
 
 all-written : (l : Draft) → bytes-all l ≡ log_bytes (log_of l)
 all-written l =
-    same-parts (header_bytes (log_of l)) (order_bytes l.order) (sizes_bytes (sizes_in l.mode l.each l.short)) (section interrupt_bytes l.interrupts)
+    same-parts (header_bytes (log_of l)) (order_bytes l.shape.version l.order) (sizes_bytes l.shape.version (sizes_in l.mode l.each l.short)) (section interrupt_bytes l.interrupts)
     (section input_bytes l.inputs) (section dma_bytes l.dmas)
 
 known-good : (l : Draft) → Known-version l → IsLog (log_of l)
@@ -377,11 +431,15 @@ written_again bytes log are e =
     let f = Codes-draft.finds [] bytes s.0.value s.0.after are s.1 in
     subst (λ (l : LogParts). log_bytes l ≡ bytes) s.3 (nothing-behind bytes (log_bytes (log_of s.0.value)) f.rest f.split (omega (arith, f.here, s.2)))
 
+numbered : (v t : ℕ) → IsVersion v t → IsNumber v
+numbered v t (inl first) = inl first.0
+numbered v t (inr second) = inr second.0
+
 -- a log's bytes are read as that log
 pub read_again : (log : LogParts) → IsLog log → read_of (log_bytes log) ≡ Ok log
 read_again log good =
     let d = draft_of log in
-    let known : Known-version d = (log.version, good.version.0, (log.mode, (log.threads, good.version, (log.s, good.s, (log.count, good.count, (log.order, good.order, (log.sizes, good.sizes, (log.interrupts, good.interrupts, (log.inputs, good.inputs, (log.dmas, good.dmas, refl)))))))))) in
+    let known : Known-version d = (log.version, numbered log.version log.threads good.version, (log.mode, (log.threads, good.version, (log.s, good.s, (log.count, good.count, (log.order, good.order, (log.sizes, good.sizes, (log.interrupts, good.interrupts, (log.inputs, good.inputs, (log.dmas, good.dmas, refl)))))))))) in
     subst (λ (l : LogParts). read_of (log_bytes l) ≡ Ok l) (log-draft log good) (draft_again d known) where
       draft_again : (d : Draft) → Known-version d → read_of (log_bytes (log_of d)) ≡ Ok (log_of d)
       draft_again d known =

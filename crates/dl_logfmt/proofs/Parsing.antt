@@ -1,16 +1,17 @@
 -- A log that is read stage by stage, in pieces, is read as at once, and at the end of its bytes a parser says what they say.
-use Rattle.std.proofs.Common.{◌≡◌, ℕ, suc, ◌+◌, ◌-◌, ◌^◌, ◌<◌, ◌≤◌, ◌==◌, Bool, true, false, nat_lt, if◌then◌else◌, MatchResult, List, [], ◌∷◌, ◌++◌, length, take, Option, Some, None, Result, Ok, Err, refl, ap, sym, subst, ◌∙◌, append_assoc, append-nil, length-append, arith}
+use Rattle.std.proofs.Common.{◌≡◌, ℕ, suc, ◌+◌, ◌-◌, ◌^◌, ◌<◌, ◌≤◌, ◌==◌, ◌||◌, Bool, true, false, nat_lt, if◌then◌else◌, MatchResult, List, [], ◌∷◌, ◌++◌, length, take, Option, Some, None, Result, Ok, Err, refl, ap, sym, subst, ◌∙◌, append_assoc, append-nil, length-append, arith}
 use Rattle.std.proofs.lemmas.Bool.{lt-ltb, le-ltb, eqb-true, eqb-false}
 use Rattle.std.proofs.lemmas.List.{take_at}
 use Rattle.dl_entry.specs.declared.actor.Actor.{Actor}
 use Rattle.spec_log.specs.declared.draft.Draft.{Draft}
+use Rattle.spec_log.specs.declared.shape.Shape.{Shape}
 use Rattle.spec_log.specs.declared.mode_name.ModeName.{ModeName}
 use Rattle.spec_log.specs.declared.mode_name.ModeName.TheVariants.{OrderSize, OrderOnly, Picolog}
-use Rattle.dl_entry.specs.Numbers.{least_chunk}
+use Rattle.dl_entry.specs.Numbers.{least_chunk, most_threads, plain_threads}
 use Rattle.spec_log.specs.declared.fault.Fault.{Fault}
 use Rattle.spec_log.specs.Fields.{Reader, Stage, fails, read, gives, number, field, any, at_most, from_to, one_more}
-use Rattle.spec_log.specs.Log.{most_standard}
-use Rattle.spec_log.specs.Reading.{interrupt, input, dma, is_earlier, last_actor, log_of, more_actors, one_size, ordered, short_size, size, size_count, thread_count, two_actors}
+use Rattle.spec_log.specs.Versions.{by_version, most_standard}
+use Rattle.spec_log.specs.Reading.{actors_by_halves, interrupt, input, dma, is_actor, is_earlier, last_actor, log_of, more_actors, one_actor, one_size, ordered, short_size, size, size_count, thread_count, two_actors}
 use Rattle.dl_logfmt.specs.Answer.{Answers, Makes}
 use Rattle.dl_logfmt.specs.declared.error.LogError.{LogError}
 use Rattle.dl_logfmt.specs.declared.error.LogError.TheVariants.{Malformed, OutOfMemory}
@@ -19,7 +20,7 @@ use Rattle.dl_logfmt.specs.declared.stage_name.StageName.TheVariants.{Magic, Ver
 use Rattle.dl_logfmt.specs.declared.parser.Parser.{Parser}
 use Rattle.dl_logfmt.specs.Parsing.{Came, Extends, Feeds, Grew, Reads, Steps, ahead, cut, mark_of, most, next, rank, remaining, said, said_in, stage_at}
 use Rattle.dl_logfmt.specs.Streams.{Stops, Streams, rest_in}
-use Rattle.dl_logfmt.proofs.Streams.{Streams-gives, Streams-read, Streams-wider, Streams-any, Streams-field, Streams-number, Streams-one_more, Streams-short_size, Streams-interrupt, Streams-input, Streams-dma, step-leads, step-stops}
+use Rattle.dl_logfmt.proofs.Streams.{Streams-gives, Streams-read, Streams-wider, Streams-any, Streams-field, Streams-number, Streams-one_more, Streams-short_size, Streams-interrupt, Streams-input, Streams-dma, Streams-sized, step-leads, step-stops}
 
 -- a stage that isn't the end is the first of those ahead, with those behind it
 pub ahead-more : (stage : StageName) → (stage ≡ End → ⊥) → ahead stage ≡ stage_at stage ∷ ahead (next stage)
@@ -77,30 +78,47 @@ Streams-times Inputs d = Streams-any 4
 Streams-times Dmas d = Streams-any 4
 Streams-times End d = Streams-one 1
 
-Streams-actors : (b : Bool) (order : List Actor) → Streams 1 (if b then last_actor order else two_actors order)
-Streams-actors true order = Streams-put 1 1 (field 1 (at_most 15)) _ (omega arith) (Streams-field 1 (at_most 15))
-Streams-actors false order = Streams-put 1 1 (any 1) _ (omega arith) (Streams-any 1)
+-- of two versions each is a stream
+Streams-by : {X : Type 0} (most v : ℕ) (first second : Reader X) → Streams most first → Streams most second → Streams most (by_version v first second)
+Streams-by {X} most v first second a b = choose (v == 1) where
+  choose : (is : Bool) → Streams most (if is then first else second)
+  choose true = a
+  choose false = b
+
+Streams-thread_count : (v : ℕ) → Streams 2 (thread_count v)
+Streams-thread_count v =
+    let known = λ (x : ℕ). (x == plain_threads) || (x == most_threads) in
+    Streams-by 2 v _ (field 2 known) (Streams-put 2 2 (field 2 (λ x. x == 0)) _ (omega arith) (Streams-field 2 (λ x. x == 0))) (Streams-field 2 known)
+
+Streams-halves : (b : Bool) (order : List Actor) → Streams 1 (if b then last_actor order else two_actors order)
+Streams-halves true order = Streams-put 1 1 (field 1 (at_most 15)) _ (omega arith) (Streams-field 1 (at_most 15))
+Streams-halves false order = Streams-put 1 1 (any 1) _ (omega arith) (Streams-any 1)
+
+Streams-actors : (h : Shape) (count : ℕ) (order : List Actor) → Streams 1 (more_actors h count order)
+Streams-actors h count order =
+    Streams-by 1 h.version (actors_by_halves count order) (one_actor h.threads order) (Streams-halves (length order + 1 == count) order)
+    (Streams-put 1 1 (field 1 (is_actor h.threads)) _ (omega arith) (Streams-field 1 (is_actor h.threads)))
 
 Streams-size : (m : ModeName) (d : Draft) → Streams 4103 (one_size m d)
 Streams-size OrderSize d =
-    Streams-put 2 4103 (one_more (λ x y. true) (size d.shape) d.each) _ (omega arith) (Streams-one_more 2 (λ x y. true) (size d.shape) d.each (Streams-field 2 (at_most d.shape.s)))
+    Streams-put 4 4103 (one_more (λ x y. true) (size d.shape) d.each) _ (omega arith) (Streams-one_more 4 (λ x y. true) (size d.shape) d.each (Streams-sized d.shape.version (at_most d.shape.s)))
 Streams-size OrderOnly d =
-    Streams-put 7 4103 (one_more (λ x y. is_earlier x.thread x.index y.thread y.index) (short_size d.shape) d.short) _ (omega arith) (Streams-one_more 7 _ (short_size d.shape) d.short (Streams-short_size d.shape))
+    Streams-put 9 4103 (one_more (λ x y. is_earlier x.thread x.index y.thread y.index) (short_size d.shape) d.short) _ (omega arith) (Streams-one_more 9 _ (short_size d.shape) d.short (Streams-short_size d.shape))
 Streams-size Picolog d =
-    Streams-put 7 4103 (one_more (λ x y. is_earlier x.thread x.index y.thread y.index) (short_size d.shape) d.short) _ (omega arith) (Streams-one_more 7 _ (short_size d.shape) d.short (Streams-short_size d.shape))
+    Streams-put 9 4103 (one_more (λ x y. is_earlier x.thread x.index y.thread y.index) (short_size d.shape) d.short) _ (omega arith) (Streams-one_more 9 _ (short_size d.shape) d.short (Streams-short_size d.shape))
 
 -- what a stage reads each time is a stream
 Streams-once : (stage : StageName) (d : Draft) → Streams 4103 ((stage_at stage).one d)
 Streams-once Magic d = Streams-put 4 4103 (number 4 2 (λ x. x == 0x4E524C44)) _ (omega arith) (Streams-number 4 2 (λ x. x == 0x4E524C44) (λ e. absurd (omega arith)))
-Streams-once Version d = Streams-put 1 4103 (number 1 3 (λ x. x == 1)) _ (omega arith) (Streams-number 1 3 (λ x. x == 1) (λ e. absurd (omega arith)))
+Streams-once Version d =
+    Streams-put 1 4103 (number 1 3 (λ x. (x == 1) || (x == 2))) _ (omega arith) (Streams-number 1 3 (λ x. (x == 1) || (x == 2)) (λ e. absurd (omega arith)))
 Streams-once Mode d = Streams-put 1 4103 (number 1 4 (at_most 2)) _ (omega arith) (Streams-number 1 4 (at_most 2) (λ e. absurd (omega arith)))
-Streams-once Threads d =
-    Streams-put 2 4103 (thread_count d.shape.version) _ (omega arith) (Streams-put 2 2 (field 2 (λ x. x == 0)) _ (omega arith) (Streams-field 2 (λ x. x == 0)))
+Streams-once Threads d = Streams-put 2 4103 (thread_count d.shape.version) _ (omega arith) (Streams-thread_count d.shape.version)
 Streams-once ChunkSize d =
     Streams-put 4 4103 (field 4 (from_to least_chunk (most_standard d.shape.version))) _ (omega arith)
     (Streams-field 4 (from_to least_chunk (most_standard d.shape.version)))
 Streams-once Count d = Streams-put 4 4103 (field 4 (at_most (2 ^ 24))) _ (omega arith) (Streams-field 4 (at_most (2 ^ 24)))
-Streams-once Order d = Streams-put 1 4103 (more_actors d.count d.order) _ (omega arith) (Streams-actors (length d.order + 1 == d.count) d.order)
+Streams-once Order d = Streams-put 1 4103 (more_actors d.shape d.count d.order) _ (omega arith) (Streams-actors d.shape d.count d.order)
 Streams-once Sizes d = Streams-size d.mode d
 Streams-once Interrupts d =
     Streams-put 9 4103 (one_more (λ x y. is_earlier x.thread x.index y.thread y.index) (interrupt d.shape) d.interrupts) _ (omega arith)

@@ -26,6 +26,12 @@ abbrev pub Rises : {X : Type 0} → (X → X → Bool) → Option X → List X �
 Rises earlier before [] = Unit {0}
 Rises earlier before (x ∷ xs) = (comes_after earlier before x ≡ true) × Rises earlier (Some x) xs
 
+-- entries in any order rise where none needs to be later
+pub Rises-any : {X : Type 0} (xs : List X) (last : Option X) → Rises (λ x y. true) last xs
+Rises-any [] last = tt
+Rises-any (x ∷ xs) None = (refl, Rises-any xs (Some x))
+Rises-any (x ∷ xs) (Some y) = (refl, Rises-any xs (Some x))
+
 -- n good entries, each later than the one before it
 abbrev pub AreEntries : {X : Type 0} → (X → X → Bool) → (X → Type 0) → Option X → ℕ → List X → Type 0
 AreEntries earlier good before n xs = (length xs ≡ n) × AllByRecursion good xs × Rises earlier before xs

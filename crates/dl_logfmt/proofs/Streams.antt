@@ -7,7 +7,8 @@ use Rattle.spec_log.specs.Log.{input_kinds}
 use Rattle.spec_log.specs.declared.fault.Fault.{Fault}
 use Rattle.spec_log.specs.Fields.{Read, Reader, continues, fails, read, gives, raw, passes, number, number_of, field, any, at_most, from_to, comes_after, last, next_entry, one_more}
 use Rattle.spec_log.specs.declared.shape.Shape.{Shape}
-use Rattle.spec_log.specs.Reading.{thread, size, short_size, interrupt, counted, input, dma}
+use Rattle.spec_log.specs.Versions.{size_width}
+use Rattle.spec_log.specs.Reading.{thread, short_size, interrupt, counted, input, dma}
 use Rattle.dl_logfmt.specs.Streams.{Holds, Streams, Leads, Stops}
 
 -- a bound may be wider
@@ -136,11 +137,19 @@ Streams-field width good = Streams-number width 5 good (λ e. absurd (omega arit
 pub Streams-any : (width : ℕ) → Streams width (any width)
 Streams-any width = Streams-field width (λ x. true)
 
--- the entry of a short chunk's size is a stream of 7 bytes
-pub Streams-short_size : (shape : Shape) → Streams 7 (short_size shape)
+-- the number of a size is a stream of at most 4 bytes
+pub Streams-sized : (version : ℕ) (good : ℕ → Bool) → Streams 4 (field (size_width version) good)
+Streams-sized version good =
+    Streams-wider (size_width version) 4 (field (size_width version) good) (narrow (version == 1)) (Streams-field (size_width version) good) where
+      narrow : (first : Bool) → (if first then 2 else 4) ≤ 4
+      narrow true = omega arith
+      narrow false = omega arith
+
+-- the entry of a short chunk's size is a stream of at most 9 bytes
+pub Streams-short_size : (shape : Shape) → Streams 9 (short_size shape)
 Streams-short_size shape =
-    Streams-read 1 6 (thread shape) _ (Streams-field 1 (λ t. nat_lt t shape.threads)) (λ t. Streams-read 4 2 (any 4) _ (Streams-any 4) (λ i.
-    Streams-read 2 0 (field 2 (from_to 1 shape.s)) _ (Streams-field 2 (from_to 1 shape.s)) (λ size. Streams-gives _)))
+    Streams-read 1 8 (thread shape) _ (Streams-field 1 (λ t. nat_lt t shape.threads)) (λ t. Streams-read 4 4 (any 4) _ (Streams-any 4) (λ i.
+    Streams-read 4 0 (field (size_width shape.version) (from_to 1 shape.s)) _ (Streams-sized shape.version (from_to 1 shape.s)) (λ size. Streams-gives _)))
 
 -- the entry of an interrupt is a stream of 9 bytes
 pub Streams-interrupt : (shape : Shape) → Streams 9 (interrupt shape)

@@ -2,7 +2,7 @@
 use Rattle.std.specs.Prelude.{◌≡◌, ℕ, ◌<◌, Bool, true, false, List, [], ◌++◌, length, Option, Some, None}
 use Rattle.std.specs.List.{flat_map}
 use Rattle.dl_entry.specs.declared.actor.Actor.{Actor}
-use Rattle.spec_log.specs.Bytes.{section, order_bytes, nibbles}
+use Rattle.spec_log.specs.Bytes.{section, order_bytes, actor_bytes}
 
 -- the bytes of a section from here on: its count, unless that is begun, and its entries
 abbrev pub section_left : {X : Type 0} → (X → List ℕ) → Bool → List X → List ℕ
@@ -10,9 +10,9 @@ section_left entry false entries = section entry entries
 section_left entry true entries = flat_map entry entries
 
 -- the bytes of the order from here on
-abbrev pub order_left : Bool → List Actor → List ℕ
-order_left false actors = order_bytes actors
-order_left true actors = nibbles actors
+abbrev pub order_left : (version : ℕ) → Bool → List Actor → List ℕ
+order_left version false actors = order_bytes version actors
+order_left version true actors = actor_bytes version actors
 
 -- the first unit of what is left is begun, so that the others are left; at the end there is none
 abbrev pub IsNextUnit : List ℕ → Option (List ℕ) → List ℕ → Type 0

@@ -1,19 +1,21 @@
 //! The entries of a log's sections.
 ghost use Rattle.std.specs.Prelude.{◌≡◌, ℕ, ◌<◌, ◌≤◌, Bool, true, List, length, nat_lt};
-ghost use Rattle.dl_entry.specs.Numbers.{most_chunk, most_threads};
-ghost use Rattle.spec_log.specs.Bytes.{u16 as size_bytes, short_size_bytes, interrupt_bytes, input_bytes, dma_bytes};
+ghost use Rattle.dl_entry.specs.Numbers.{most_threads};
+ghost use Rattle.spec_log.specs.Bytes.{size_bytes, short_size_bytes, interrupt_bytes, input_bytes, dma_bytes};
 ghost use Rattle.spec_log.specs.Log.{IsShortSize, IsInterrupt, IsInput, IsDmaRecord};
 ghost use Rattle.spec_log.specs.Fields.{Reader};
 ghost use Rattle.spec_log.specs.Reading.{size, short_size, interrupt, input, dma, is_earlier};
+ghost use Rattle.spec_log.specs.Versions.{most_standard};
 ghost use Rattle.spec_log.specs.declared.shape.Shape.{Shape};
 ghost use Rattle.dl_logfmt.specs.Answer.{Answers};
 
 use crate::error::LogError;
 use crate::fixed::Fixed;
-use crate::numbers::{FIELD, judge, read_thread, read_u16, read_u32};
+use crate::numbers::{FIELD, judge, read_thread, read_u32};
 use crate::recorded::{is_before, read_counted, read_kind, read_short};
 use crate::source::Source;
 use crate::unit::Unit;
+use crate::version::{put_size, read_size};
 use dl_entry::Input;
 use spec_log::{DmaRecord, Interrupt, Shape, ShortSize};
 
@@ -23,9 +25,9 @@ pub trait Entry: Drop {
 
     ghost earlier: { Self → Self → Bool };
 
-    ghost good: { Self → Type 0 };
+    ghost good: { (version : ℕ) → Self → Type 0 };
 
-    ghost bytes: { Self → List ℕ };
+    ghost bytes: { (version : ℕ) → Self → List ℕ };
 
     /// The next entry of a log of this shape.
     fn read(source: &Source<'_>, at: &mut usize, shape: Shape) -> Result<Self, LogError>
@@ -37,9 +39,10 @@ pub trait Entry: Drop {
     fn comes_before(&self, later: &Self) -> bool
         ensures { result ≡ earlier self.now later.now };
 
-    fn unit(&self) -> Unit<'_>
-        requires { good self.now }
-        ensures bytes { result ≡ bytes self.now }
+    /// The bytes of the entry in a log of this version.
+    fn unit(&self, version: u8) -> Unit<'_>
+        requires { good version self.now }
+        ensures bytes { result ≡ bytes version self.now }
         ensures some { 0 < length result };
 }
 
@@ -49,13 +52,13 @@ impl Entry for u32 {
 
     ghost earlier = { λ x y. true };
 
-    ghost good = { λ size. size ≤ most_chunk };
+    ghost good = { λ version size. size ≤ most_standard version };
 
     ghost bytes = { size_bytes };
 
     fn read(source: &Source<'_>, at: &mut usize, shape: Shape) -> Result<u32, LogError> {
         let start = *at;
-        let size = u32::from(read_u16(source.bytes, at)?);
+        let size = read_size(source.bytes, at, shape.version)?;
         judge(size <= shape.s, FIELD, start)?;
         Ok(size)
     }
@@ -64,9 +67,9 @@ impl Entry for u32 {
         true
     }
 
-    fn unit(&self) -> Unit<'_> {
+    fn unit(&self, version: u8) -> Unit<'_> {
         let mut fixed = Fixed::new();
-        fixed.put_u16(*self as u16);
+        put_size(&mut fixed, version, *self);
         Unit::new(fixed, &[])
     }
 }
@@ -76,14 +79,14 @@ impl Entry for ShortSize {
 
     ghost earlier = { λ x y. is_earlier x.thread x.index y.thread y.index };
 
-    ghost good = { IsShortSize most_threads most_chunk };
+    ghost good = { λ version. IsShortSize most_threads (most_standard version) };
 
     ghost bytes = { short_size_bytes };
 
     fn read(source: &Source<'_>, at: &mut usize, shape: Shape) -> Result<ShortSize, LogError> {
         let thread = read_thread(source.bytes, at, shape)?;
         let index = read_u32(source.bytes, at)?;
-        let size = read_short(source.bytes, at, shape.s)?;
+        let size = read_short(source.bytes, at, shape)?;
         Ok(ShortSize {
             thread,
             index,
@@ -95,11 +98,11 @@ impl Entry for ShortSize {
         is_before((self.thread, self.index), (later.thread, later.index))
     }
 
-    fn unit(&self) -> Unit<'_> {
+    fn unit(&self, version: u8) -> Unit<'_> {
         let mut fixed = Fixed::new();
         fixed.put_u8(self.thread);
         fixed.put_u32(self.index);
-        fixed.put_u16(self.size as u16);
+        put_size(&mut fixed, version, self.size);
         Unit::new(fixed, &[])
     }
 }
@@ -109,9 +112,9 @@ impl Entry for Interrupt {
 
     ghost earlier = { λ x y. is_earlier x.thread x.index y.thread y.index };
 
-    ghost good = { IsInterrupt most_threads };
+    ghost good = { λ version. IsInterrupt most_threads };
 
-    ghost bytes = { interrupt_bytes };
+    ghost bytes = { λ version. interrupt_bytes };
 
     fn read(source: &Source<'_>, at: &mut usize, shape: Shape) -> Result<Interrupt, LogError> {
         let thread = read_thread(source.bytes, at, shape)?;
@@ -128,7 +131,7 @@ impl Entry for Interrupt {
         is_before((self.thread, self.index), (later.thread, later.index))
     }
 
-    fn unit(&self) -> Unit<'_> {
+    fn unit(&self, _: u8) -> Unit<'_> {
         let mut fixed = Fixed::new();
         fixed.put_u8(self.thread);
         fixed.put_u32(self.index);
@@ -142,9 +145,9 @@ impl Entry for Input {
 
     ghost earlier = { λ x y. true };
 
-    ghost good = { IsInput };
+    ghost good = { λ version. IsInput };
 
-    ghost bytes = { input_bytes };
+    ghost bytes = { λ version. input_bytes };
 
     fn read(source: &Source<'_>, at: &mut usize, _: Shape) -> Result<Input, LogError> {
         let kind = read_kind(source.bytes, at)?;
@@ -161,7 +164,7 @@ impl Entry for Input {
         true
     }
 
-    fn unit(&self) -> Unit<'_> {
+    fn unit(&self, _: u8) -> Unit<'_> {
         let mut fixed = Fixed::new();
         fixed.put_u8(self.kind);
         fixed.put_u32(self.result);
@@ -175,9 +178,9 @@ impl Entry for DmaRecord {
 
     ghost earlier = { λ x y. nat_lt x.position y.position };
 
-    ghost good = { IsDmaRecord };
+    ghost good = { λ version. IsDmaRecord };
 
-    ghost bytes = { dma_bytes };
+    ghost bytes = { λ version. dma_bytes };
 
     fn read(source: &Source<'_>, at: &mut usize, _: Shape) -> Result<DmaRecord, LogError> {
         let position = read_u32(source.bytes, at)?;
@@ -189,7 +192,7 @@ impl Entry for DmaRecord {
         self.position < later.position
     }
 
-    fn unit(&self) -> Unit<'_> {
+    fn unit(&self, _: u8) -> Unit<'_> {
         let mut fixed = Fixed::new();
         fixed.put_u32(self.position);
         fixed.put_u16(self.bytes.len() as u16);

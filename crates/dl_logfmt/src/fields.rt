@@ -1,13 +1,15 @@
 //! The fields of a log that stand alone.
-ghost use Rattle.std.specs.Prelude.{◌≡◌, ◌≢◌, ◌^◌, ◌==◌, IfErr};
+ghost use Rattle.std.specs.Prelude.{◌≡◌, ◌≢◌, ◌^◌, ◌==◌, ◌||◌, IfErr};
 ghost use Rattle.spec_log.specs.Fields.{number, field, at_most, from_to};
-ghost use Rattle.dl_entry.specs.Numbers.{least_chunk, most_chunk};
-ghost use Rattle.spec_log.specs.Reading.{mode_of as mode_by, thread_count};
+ghost use Rattle.dl_entry.specs.Numbers.{least_chunk, most_threads, plain_threads};
+ghost use Rattle.spec_log.specs.Reading.{mode_of as mode_by};
+ghost use Rattle.spec_log.specs.Versions.{most_standard as most_of};
 ghost use Rattle.dl_logfmt.specs.Answer.{Answers};
 
 use crate::error::LogError;
 use crate::numbers::{FIELD, judge, read_u8, read_u16, read_u32};
-use dl_entry::{LEAST_CHUNK, MOST_CHUNK, MOST_THREADS};
+use crate::version::most_standard;
+use dl_entry::{LEAST_CHUNK, MOST_THREADS, PLAIN_THREADS};
 use spec_log::ModeName;
 
 /// The magic word.
@@ -23,12 +25,12 @@ pub fn read_magic(bytes: &[u8], at: &mut usize) -> Result<u32, LogError>
 
 /// The version.
 pub fn read_version(bytes: &[u8], at: &mut usize) -> Result<u8, LogError>
-    ensures value { Answers (number 1 3 (λ version. version == 1) bytes.now at.old) result at.new }
+    ensures value { Answers (number 1 3 (λ version. (version == 1) || (version == 2)) bytes.now at.old) result at.new }
     ensures no_memory { IfErr result (λ e. e ≢ LogError.OutOfMemory) }
 {
     let start = *at;
     let version = read_u8(bytes, at)?;
-    judge(version == 1, 3, start)?;
+    judge(version == 1 || version == 2, 3, start)?;
     Ok(version)
 }
 
@@ -43,15 +45,30 @@ pub fn read_code(bytes: &[u8], at: &mut usize) -> Result<u8, LogError>
     Ok(code)
 }
 
-/// How many threads the log may have: version 1 doesn't say it, and has two zero bytes there.
-pub fn read_threads(bytes: &[u8], at: &mut usize) -> Result<u8, LogError>
-    ensures value { Answers (thread_count 1 bytes.now at.old) result at.new }
+/// Two bytes of 0, where version 2 has the number of threads.
+pub fn read_spare(bytes: &[u8], at: &mut usize) -> Result<u16, LogError>
+    ensures value { Answers (field 2 (λ spare. spare == 0) bytes.now at.old) result at.new }
     ensures no_memory { IfErr result (λ e. e ≢ LogError.OutOfMemory) }
 {
     let start = *at;
     let spare = read_u16(bytes, at)?;
     judge(spare == 0, FIELD, start)?;
-    Ok(MOST_THREADS)
+    Ok(spare)
+}
+
+/// How many threads the log may have, where it says so.
+pub fn read_thread_count(bytes: &[u8], at: &mut usize) -> Result<u8, LogError>
+    ensures value { Answers (field 2 (λ x. (x == plain_threads) || (x == most_threads)) bytes.now at.old) result at.new }
+    ensures no_memory { IfErr result (λ e. e ≢ LogError.OutOfMemory) }
+{
+    let start = *at;
+    let count = read_u16(bytes, at)?;
+    judge(
+        count == u16::from(PLAIN_THREADS) || count == u16::from(MOST_THREADS),
+        FIELD,
+        start,
+    )?;
+    Ok(count as u8)
 }
 
 /// The mode of a code.
@@ -65,14 +82,18 @@ pub fn mode_of(code: u8) -> ModeName
     }
 }
 
-/// The standard chunk size.
-pub fn read_chunk_size(bytes: &[u8], at: &mut usize) -> Result<u32, LogError>
-    ensures value { Answers (field 4 (from_to least_chunk most_chunk) bytes.now at.old) result at.new }
+/// The standard chunk size, in a log of this version.
+pub fn read_chunk_size(bytes: &[u8], at: &mut usize, version: u8) -> Result<u32, LogError>
+    ensures value { Answers (field 4 (from_to least_chunk (most_of version)) bytes.now at.old) result at.new }
     ensures no_memory { IfErr result (λ e. e ≢ LogError.OutOfMemory) }
 {
     let start = *at;
     let s = read_u32(bytes, at)?;
-    judge(LEAST_CHUNK <= s && s <= MOST_CHUNK, FIELD, start)?;
+    judge(
+        LEAST_CHUNK <= s && s <= most_standard(version),
+        FIELD,
+        start,
+    )?;
     Ok(s)
 }
 

@@ -5,14 +5,17 @@ ghost use Rattle.dl_entry.specs.Numbers.{most_bytes};
 ghost use Rattle.spec_log.specs.Log.{input_kinds};
 ghost use Rattle.spec_log.specs.Fields.{field, at_most, from_to};
 ghost use Rattle.spec_log.specs.Reading.{is_earlier, counted};
+ghost use Rattle.spec_log.specs.Versions.{size_width};
 ghost use Rattle.dl_logfmt.specs.Answer.{Answers};
 
 use crate::error::LogError;
 use crate::numbers::{FIELD, judge, read_raw, read_u8, read_u16};
 use crate::source::Source;
+use crate::version::read_size;
 use dl_entry::{
     Bytes, KIND_CLOCK, KIND_INPUT, KIND_MOMENT, KIND_RANDOM, KIND_READ, KIND_WRITE, MOST_BYTES,
 };
+use spec_log::Shape;
 
 /// Whether a thread's moment comes before another: of a lower thread, or with fewer of its commits before.
 pub fn is_before(moment: (u8, u32), later: (u8, u32)) -> bool
@@ -21,13 +24,13 @@ pub fn is_before(moment: (u8, u32), later: (u8, u32)) -> bool
     moment.0 < later.0 || (moment.0 == later.0 && moment.1 < later.1)
 }
 
-/// The size of a short chunk.
-pub fn read_short(bytes: &[u8], at: &mut usize, s: u32) -> Result<u32, LogError>
-    ensures { Answers (field 2 (from_to 1 s) bytes.now at.old) result at.new }
+/// The size of a short chunk, in a log of this shape.
+pub fn read_short(bytes: &[u8], at: &mut usize, shape: Shape) -> Result<u32, LogError>
+    ensures { Answers (field (size_width shape.version) (from_to 1 shape.s) bytes.now at.old) result at.new }
 {
     let start = *at;
-    let size = u32::from(read_u16(bytes, at)?);
-    judge(1 <= size && size <= s, FIELD, start)?;
+    let size = read_size(bytes, at, shape.version)?;
+    judge(1 <= size && size <= shape.s, FIELD, start)?;
     Ok(size)
 }
 

@@ -7,9 +7,10 @@ use crate::entry::Entry;
 use crate::unit::Unit;
 use std::marker::Model;
 
-/// The entries that are not begun, and whether their count is; seen as the bytes that are left.
+/// The entries that are not begun, and whether their count is, in a log of this version; seen as the bytes that are left.
 #[derive(Drop)]
 pub struct SectionLeft<'a, E: Entry> {
+    version: u8,
     begun: bool,
     entries: &'a [E],
 }
@@ -20,18 +21,19 @@ impl<'a, E: Entry> Model for SectionLeft<'a, E> {
 
     ghost Value = { List ℕ };
 
-    ghost view = { λ s. section_left E.bytes s.begun s.entries.now };
+    ghost view = { λ s. section_left (E.bytes s.version) s.begun s.entries.now };
 
-    ghost invariant = { λ s. (length s.entries.now < 2 ^ 32) × All E.good s.entries.now };
+    ghost invariant = { λ s. (length s.entries.now < 2 ^ 32) × All (E.good s.version) s.entries.now };
 }
 
 impl<'a, E: Entry> SectionLeft<'a, E> {
-    pub fn new(entries: &'a [E]) -> SectionLeft<'a, E>
+    pub fn new(version: u8, entries: &'a [E]) -> SectionLeft<'a, E>
         requires few { length entries.now < 2 ^ 32 }
-        requires each { All E.good entries.now }
-        ensures { result ≡ section E.bytes entries.now }
+        requires each { All (E.good version) entries.now }
+        ensures { result ≡ section (E.bytes version) entries.now }
     {
         SectionLeft {
+            version,
             begun: false,
             entries,
         }
@@ -42,6 +44,7 @@ impl<'a, E: Entry> SectionLeft<'a, E> {
         ensures { result ≡ [] }
     {
         SectionLeft {
+            version: 1,
             begun: true,
             entries: &[],
         }
@@ -59,6 +62,6 @@ impl<'a, E: Entry> SectionLeft<'a, E> {
             return None;
         };
         self.entries = rest;
-        Some(entry.unit())
+        Some(entry.unit(self.version))
     }
 }

@@ -5,14 +5,14 @@ ghost use Rattle.spec_log.specs.Reading.{one_size, size_count};
 
 use crate::error::LogError;
 use crate::fields::{
-    mode_of, read_chunk_size, read_code, read_count, read_magic, read_sized, read_threads,
-    read_version,
+    mode_of, read_chunk_size, read_code, read_count, read_magic, read_sized, read_version,
 };
 use crate::numbers::read_u32;
-use crate::order::{read_actors, read_named};
+use crate::order::read_named;
 use crate::section::read_next;
 use crate::source::Source;
 use crate::stage_name::StageName;
+use crate::version::{order_len, read_actors, read_threads};
 use spec_log::{Draft, ModeName};
 
 /// How many times the stage is read.
@@ -27,7 +27,7 @@ pub fn read_times(
     match stage {
         StageName::Order => {
             let named = read_named(bytes, at, draft.mode, draft.count)?;
-            Ok(named / 2 + named % 2)
+            Ok(order_len(draft.shape.version, named))
         }
         StageName::Sizes => read_size_count(draft.mode, draft.count, bytes, at),
         StageName::Interrupts | StageName::Inputs | StageName::Dmas => read_u32(bytes, at),
@@ -67,10 +67,10 @@ pub fn read_once(
         }
         StageName::Version => draft.shape.version = read_version(bytes, at)?,
         StageName::Mode => draft.mode = mode_of(read_code(bytes, at)?),
-        StageName::Threads => draft.shape.threads = read_threads(bytes, at)?,
-        StageName::ChunkSize => draft.shape.s = read_chunk_size(bytes, at)?,
+        StageName::Threads => draft.shape.threads = read_threads(bytes, at, draft.shape.version)?,
+        StageName::ChunkSize => draft.shape.s = read_chunk_size(bytes, at, draft.shape.version)?,
         StageName::Count => draft.count = read_count(bytes, at)?,
-        StageName::Order => read_actors(&mut draft.order, bytes, at, draft.count)?,
+        StageName::Order => read_actors(&mut draft.order, bytes, at, draft.shape, draft.count)?,
         StageName::Sizes => read_size(draft, source, at)?,
         StageName::Interrupts => read_next(&mut draft.interrupts, source, at, draft.shape)?,
         StageName::Inputs => read_next(&mut draft.inputs, source, at, draft.shape)?,

@@ -33,18 +33,19 @@ impl<'a> Model for Units<'a> {
 impl<'a> Units<'a> {
     pub fn new(parts: &'a LogParts) -> Units<'a>
         requires { IsLog parts.now }
-        ensures { result ≡ order_bytes parts.now.order ++ sizes_bytes parts.now.sizes
+        ensures { result ≡ order_bytes parts.now.version parts.now.order ++ sizes_bytes parts.now.version parts.now.sizes
             ++ section interrupt_bytes parts.now.interrupts ++ section input_bytes parts.now.inputs
             ++ section dma_bytes parts.now.dmas }
     {
+        let version = parts.version;
         let (each, short) = sizes(parts);
         Units {
-            order: OrderLeft::new(parts.order.as_slice()),
+            order: OrderLeft::new(version, parts.order.as_slice()),
             each,
             short,
-            interrupts: SectionLeft::new(parts.interrupts.as_slice()),
-            inputs: SectionLeft::new(parts.inputs.as_slice()),
-            dmas: SectionLeft::new(parts.dmas.as_slice()),
+            interrupts: SectionLeft::new(version, parts.interrupts.as_slice()),
+            inputs: SectionLeft::new(version, parts.inputs.as_slice()),
+            dmas: SectionLeft::new(version, parts.dmas.as_slice()),
         }
     }
 
@@ -73,10 +74,17 @@ impl<'a> Units<'a> {
 
 fn sizes<'a>(parts: &'a LogParts) -> (SectionLeft<'a, u32>, SectionLeft<'a, ShortSize>)
     requires { IsLog parts.now }
-    ensures { sizes_bytes parts.now.sizes ≡ result.0 ++ result.1 }
+    ensures { sizes_bytes parts.now.version parts.now.sizes ≡ result.0 ++ result.1 }
 {
+    let version = parts.version;
     match &parts.sizes {
-        Sizes::Each(sizes) => (SectionLeft::new(sizes.as_slice()), SectionLeft::none()),
-        Sizes::Short(sizes) => (SectionLeft::none(), SectionLeft::new(sizes.as_slice())),
+        Sizes::Each(sizes) => (
+            SectionLeft::new(version, sizes.as_slice()),
+            SectionLeft::none(),
+        ),
+        Sizes::Short(sizes) => (
+            SectionLeft::none(),
+            SectionLeft::new(version, sizes.as_slice()),
+        ),
     }
 }

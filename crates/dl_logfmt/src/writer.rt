@@ -5,6 +5,7 @@ ghost use Rattle.spec_log.specs.Bytes.{log_bytes, header_bytes};
 use crate::fixed::Fixed;
 use crate::unit::Unit;
 use crate::units::Units;
+use crate::version::threads_field;
 use spec_log::{Log, LogParts};
 use std::marker::Model;
 
@@ -60,7 +61,7 @@ fn header<'a>(parts: &LogParts) -> Unit<'a>
     fixed.put(b"DLRN");
     fixed.put_u8(parts.version);
     fixed.put_u8(parts.mode.code());
-    fixed.put_u16(0);
+    fixed.put_u16(threads_field(parts.version, parts.threads));
     fixed.put_u32(parts.s);
     fixed.put_u32(parts.count);
     Unit::new(fixed, &[])

@@ -1,5 +1,5 @@
 -- Step and Cut of a core are a step and a cut of its pair of chunks.
-use Rattle.std.proofs.Common.{◌≡◌, ℕ, ◌+◌, ◌≤◌, ◌<◌, ◌^◌, Bool, true, false, not, ◌&&◌, ◌||◌, nat_lt, List, Option, Some, None, inl, inr, refl, sym, ap, ◌∙◌, subst, arith}
+use Rattle.std.proofs.Common.{◌≡◌, ℕ, ◌+◌, ◌≤◌, ◌<◌, ◌^◌, Bool, true, false, not, ◌&&◌, nat_lt, List, Option, Some, None, inl, inr, refl, sym, ap, ◌∙◌, subst, arith}
 use Rattle.std.specs.Prelude.{option_map, slice_get}
 use Rattle.std.proofs.lemmas.Bool.{cases_Bool, true≢false}
 use Rattle.std.proofs.lemmas.Option.{none-some, same_Some}
@@ -26,10 +26,10 @@ use Rattle.dl_machine.specs.Rows.{Cores, Spheres, with_held}
 use Rattle.dl_machine.specs.States.{left, world_in}
 use Rattle.dl_machine.proofs.Commits.Able.{few_commits}
 
--- core c of a world, with nothing in its hold
-abbrev pub core_here : World → (core : ℕ) → Core
-core_here w c =
-    record { most = 4096; capacity = w.numbers.capacity; bits = w.numbers.bits; depth = w.numbers.depth; held = at w.cores c }
+-- core c of a world, whose chunks may run so many instructions
+abbrev pub core_here : (most : ℕ) → World → (core : ℕ) → Core
+core_here most w c =
+    record { most = most; capacity = w.numbers.capacity; bits = w.numbers.bits; depth = w.numbers.depth; held = at w.cores c }
 
 -- ---- where Step waits
 
@@ -86,12 +86,12 @@ abbrev pub done_to : World → (core : ℕ) → (Occupant → Reply) → (Occupa
 done_to w c r f h = answered (with_core w c (Some (with_pair h (f h)))) (r h)
 
 -- the step of what a core holds, over this memory
-abbrev pub stepped_pair : World → (core limit : ℕ) → List ℕ → Occupant → PairStepping
-stepped_pair w c limit m h = pair_step m w.slots c limit (pair_in (core_here w c) h)
+abbrev pub stepped_pair : (most : ℕ) → World → (core limit : ℕ) → List ℕ → Occupant → PairStepping
+stepped_pair most w c limit m h = pair_step m w.slots c limit (pair_in (core_here most w c) h)
 
 -- what it leaves
-abbrev pub pair_stepped : World → (core limit : ℕ) → List ℕ → Occupant → EventOutcome
-pair_stepped w c limit m = done_to w c (λ h. reply_of_step (stepped_pair w c limit m h).reply) (λ h. (stepped_pair w c limit m h).pair)
+abbrev pub pair_stepped : (most : ℕ) → World → (core limit : ℕ) → List ℕ → Occupant → EventOutcome
+pair_stepped most w c limit m = done_to w c (λ h. reply_of_step (stepped_pair most w c limit m h).reply) (λ h. (stepped_pair most w c limit m h).pair)
 
 younger_runs : (w : World) (c : ℕ) (h : Occupant) (limit : ℕ) (y : Option Chunk) → let p = sphere_at w h.chunk.sphere in waits_for w.numbers.depth (replays p.role) h y ≡ false → younger_afresh w.numbers p.role h ≡ following limit h.chunk
     → step_younger w c h (younger_for w.numbers p.role h y)
@@ -103,9 +103,9 @@ younger_runs w c h limit None e follows =
     (ap (λ (y : Chunk). let s = step w.numbers.capacity (lays p.memory h.chunk.done.words) w.slots c y in answered (with_core w c (Some (record h { younger = Some s.chunk }))) (reply_of_step s.reply)) follows)
 younger_runs w c h limit (Some y) e follows = rw (not_false (is_open y) e) refl
 
-step_by : (w : World) (c : ℕ) (h : Occupant) (limit : ℕ) → let p = sphere_at w h.chunk.sphere in is_stopped p.role ≡ false → (is_open h.chunk ≡ false → waits w.numbers.depth (replays p.role) h ≡ false)
-    → (is_open h.chunk ≡ false → younger_afresh w.numbers p.role h ≡ following limit h.chunk) → step_held w c (Some h) ≡ pair_stepped w c limit (sphere_at w h.chunk.sphere).memory h
-step_by w c h limit going runs follows =
+step_by : (most : ℕ) (w : World) (c : ℕ) (h : Occupant) (limit : ℕ) → let p = sphere_at w h.chunk.sphere in is_stopped p.role ≡ false → (is_open h.chunk ≡ false → waits w.numbers.depth (replays p.role) h ≡ false)
+    → (is_open h.chunk ≡ false → younger_afresh w.numbers p.role h ≡ following limit h.chunk) → step_held w c (Some h) ≡ pair_stepped most w c limit (sphere_at w h.chunk.sphere).memory h
+step_by most w c h limit going runs follows =
     elim (cases_Bool (is_open h.chunk)) [
       | inl open_ ↦ rw (going, open_) refl
       | inr shut ↦ rw (going, shut) (younger_runs w c h limit h.younger (runs shut) (follows shut))
@@ -124,15 +124,15 @@ both : (a b c : Bool) → (b ≡ true → c ≡ true) → a && b ≡ true → a 
 both true b c f e = f e
 both false b c f e = absurd (true≢false (sym e))
 
-younger_can : (w : World) (c : ℕ) (h : Occupant) (y : Option Chunk) (b : Bool) → waits_for w.numbers.depth b h y ≡ false → runs_younger (record (pair_in (core_here w c) h) { younger = y }) y ≡ true
-younger_can w c h None b e = both (nat_lt 1 w.numbers.depth) (may_follow b h.chunk.closed) (can_be_followed h.chunk.closed) (followed b h.chunk.closed) (not_false _ e)
-younger_can w c h (Some y) b e = not_false (is_open y) e
+younger_can : (most : ℕ) (w : World) (c : ℕ) (h : Occupant) (y : Option Chunk) (b : Bool) → waits_for w.numbers.depth b h y ≡ false → runs_younger (record (pair_in (core_here most w c) h) { younger = y }) y ≡ true
+younger_can most w c h None b e = both (nat_lt 1 w.numbers.depth) (may_follow b h.chunk.closed) (can_be_followed h.chunk.closed) (followed b h.chunk.closed) (not_false _ e)
+younger_can most w c h (Some y) b e = not_false (is_open y) e
 
-pair_can : (w : World) (c : ℕ) (h : Occupant) (b : Bool) → (is_open h.chunk ≡ false → waits w.numbers.depth b h ≡ false) → can_step (pair_in (core_here w c) h) ≡ true
-pair_can w c h b runs =
+pair_can : (most : ℕ) (w : World) (c : ℕ) (h : Occupant) (b : Bool) → (is_open h.chunk ≡ false → waits w.numbers.depth b h ≡ false) → can_step (pair_in (core_here most w c) h) ≡ true
+pair_can most w c h b runs =
     elim (cases_Bool (is_open h.chunk)) [
       | inl open_ ↦ rw open_ refl
-      | inr shut ↦ rw shut (younger_can w c h h.younger b (runs shut))
+      | inr shut ↦ rw shut (younger_can most w c h h.younger b (runs shut))
     ]
 
 -- the older chunk's thread has few commits
@@ -159,54 +159,54 @@ HasLimit w held limit =
     held.closed ≡ true → (t : Parts) → slice_get p.threads held.thread ≡ Some t → limit ≡ limit_after w.numbers.s p.role held.thread (counted t)
 
 -- the pair of a core that doesn't wait can be stepped
-pub can_step_held : (w : World) (c : ℕ) (o : Option Occupant) (held : Seen) (limit : ℕ) → IsReady w → HasRoom w → at w.cores c ≡ o → option_map seen o ≡ Some held → is_stopped (sphere_at w held.sphere).role ≡ false → Runs w c held
-    → 1 ≤ limit → limit ≤ 4096 → CanStepHeld limit (core_here w c) o
-can_step_held w c None held limit ready room is eh going runs least most = absurd (none-some held eh)
-can_step_held w c (Some h) held limit ready room is eh going runs least most =
+pub can_step_held : (most : ℕ) (w : World) (c : ℕ) (o : Option Occupant) (held : Seen) (limit : ℕ) → IsReady w → HasRoom w → at w.cores c ≡ o → option_map seen o ≡ Some held → is_stopped (sphere_at w held.sphere).role ≡ false → Runs w c held
+    → 1 ≤ limit → limit ≤ most → CanStepHeld limit (core_here most w c) o
+can_step_held most w c None held limit ready room is eh going runs least below = absurd (none-some held eh)
+can_step_held most w c (Some h) held limit ready room is eh going runs least below =
     let same : held ≡ seen h = sym (same_Some _ _ eh) in
     let goes : is_stopped (sphere_at w h.chunk.sphere).role ≡ false = subst (λ (s : Seen). is_stopped (sphere_at w s.sphere).role ≡ false) same going in
     record {
-      runs = pair_can w c h (replays (sphere_at w h.chunk.sphere).role) (runs_of w c h held is same runs);
+      runs = pair_can most w c h (replays (sphere_at w h.chunk.sphere).role) (runs_of w c h held is same runs);
       least = λ _. least;
-      most = λ _. most;
+      most = λ _. below;
       commits = λ _. few_of w c h ready room is goes;
     }
 
 -- the step of the core is the step of its pair
-pub step_of_pair : (w : World) (c : ℕ) (o : Option Occupant) (held : Seen) (limit : ℕ) (m : List ℕ) → IsReady w → at w.cores c ≡ o → option_map seen o ≡ Some held → is_stopped (sphere_at w held.sphere).role ≡ false → Runs w c held → HasLimit w held limit
-    → m ≡ (sphere_at w held.sphere).memory → Some (stepping w c) ≡ option_map (pair_stepped w c limit m) o
+pub step_of_pair : (most : ℕ) (w : World) (c : ℕ) (o : Option Occupant) (held : Seen) (limit : ℕ) (m : List ℕ) → IsReady w → at w.cores c ≡ o → option_map seen o ≡ Some held → is_stopped (sphere_at w held.sphere).role ≡ false → Runs w c held → HasLimit w held limit
+    → m ≡ (sphere_at w held.sphere).memory → Some (stepping w c) ≡ option_map (pair_stepped most w c limit m) o
 unfolding stepping
-step_of_pair w c None held limit m ready is eh going runs has em = absurd (none-some held eh)
-step_of_pair w c (Some h) held limit m ready is eh going runs has em =
+step_of_pair most w c None held limit m ready is eh going runs has em = absurd (none-some held eh)
+step_of_pair most w c (Some h) held limit m ready is eh going runs has em =
     let same : held ≡ seen h = sym (same_Some _ _ eh) in
     let goes : is_stopped (sphere_at w h.chunk.sphere).role ≡ false = subst (λ (s : Seen). is_stopped (sphere_at w s.sphere).role ≡ false) same going in
     let limit_of : HasLimit w (seen h) limit = subst (λ (s : Seen). HasLimit w s limit) same has in
     ap (λ (a : EventOutcome). Some a)
     (ap (step_held w c) is
-    ∙ step_by w c h limit goes (runs_of w c h held is same runs) (λ shut. follows_as w c h limit ready is (limit_of (ap not shut)))
-    ∙ ap (λ (n : List ℕ). pair_stepped w c limit n h) (sym (em ∙ ap (λ (s : Seen). (sphere_at w s.sphere).memory) same)))
+    ∙ step_by most w c h limit goes (runs_of w c h held is same runs) (λ shut. follows_as w c h limit ready is (limit_of (ap not shut)))
+    ∙ ap (λ (n : List ℕ). pair_stepped most w c limit n h) (sym (em ∙ ap (λ (s : Seen). (sphere_at w s.sphere).memory) same)))
 
 -- ---- Cut
 
 -- the cut of what a core holds
-abbrev pub cut_pair : World → (core : ℕ) → Occupant → PairCutting
-cut_pair w c h = pair_cut (pair_in (core_here w c) h)
+abbrev pub cut_pair : (most : ℕ) → World → (core : ℕ) → Occupant → PairCutting
+cut_pair most w c h = pair_cut (pair_in (core_here most w c) h)
 
 -- what it leaves
-abbrev pub pair_cut_off : World → (core : ℕ) → Occupant → EventOutcome
-pair_cut_off w c = done_to w c (λ h. reply_of_cut (cut_pair w c h).reply) (λ h. (cut_pair w c h).pair)
+abbrev pub pair_cut_off : (most : ℕ) → World → (core : ℕ) → Occupant → EventOutcome
+pair_cut_off most w c = done_to w c (λ h. reply_of_cut (cut_pair most w c h).reply) (λ h. (cut_pair most w c h).pair)
 
-cut_by : (w : World) (c : ℕ) (h : Occupant) (y : Option Chunk) → cut_in w c h y ≡ (let d = pair_cut_of (pair_in (core_here w c) h) y in answered (with_core w c (Some (with_pair h d.pair))) (reply_of_cut d.reply))
-cut_by w c h None = refl
-cut_by w c h (Some y) = refl
+cut_by : (most : ℕ) (w : World) (c : ℕ) (h : Occupant) (y : Option Chunk) → cut_in w c h y ≡ (let d = pair_cut_of (pair_in (core_here most w c) h) y in answered (with_core w c (Some (with_pair h d.pair))) (reply_of_cut d.reply))
+cut_by most w c h None = refl
+cut_by most w c h (Some y) = refl
 
 -- the cut of the core is the cut of its pair
-pub cut_of_pair : (w : World) (c : ℕ) (o : Option Occupant) (held : Seen) → at w.cores c ≡ o → option_map seen o ≡ Some held → is_stopped (sphere_at w held.sphere).role ≡ false → Some (cutting w c) ≡ option_map (pair_cut_off w c) o
+pub cut_of_pair : (most : ℕ) (w : World) (c : ℕ) (o : Option Occupant) (held : Seen) → at w.cores c ≡ o → option_map seen o ≡ Some held → is_stopped (sphere_at w held.sphere).role ≡ false → Some (cutting w c) ≡ option_map (pair_cut_off most w c) o
 unfolding cutting
-cut_of_pair w c None held is eh going = absurd (none-some held eh)
-cut_of_pair w c (Some h) held is eh going =
+cut_of_pair most w c None held is eh going = absurd (none-some held eh)
+cut_of_pair most w c (Some h) held is eh going =
     let goes : is_stopped (sphere_at w h.chunk.sphere).role ≡ false = subst (λ (s : Seen). is_stopped (sphere_at w s.sphere).role ≡ false) (sym (same_Some _ _ eh)) going in
-    ap (λ (a : EventOutcome). Some a) (ap (cut_held w c) is ∙ rw goes (cut_by w c h h.younger))
+    ap (λ (a : EventOutcome). Some a) (ap (cut_held w c) is ∙ rw goes (cut_by most w c h h.younger))
 
 -- ---- what the code has then
 

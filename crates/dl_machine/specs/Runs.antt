@@ -1,10 +1,8 @@
 -- What is promised of a machine that began as a setup and took some events.
 use Rattle.std.specs.Prelude.{◌≡◌, ℕ, true, false, List, slice_get, Some}
 use Rattle.dl_entry.specs.declared.Point.{Point}
-use Rattle.spec_log.specs.declared.ModeName.{ModeName}
-use Rattle.spec_log.specs.declared.LogParts.{LogParts}
 use Rattle.spec_play.specs.Progress.{position}
-use Rattle.spec_play.specs.Plays.{opened, play, plays}
+use Rattle.spec_play.specs.Plays.{plays}
 use Rattle.spec_protocol.specs.declared.event.Event.{Event}
 use Rattle.spec_protocol.specs.machine.Spheres.{Recording, Cursor, Record, Replay, Sphere, is_over}
 use Rattle.spec_protocol.specs.machine.Placing.{replays}

@@ -1,11 +1,12 @@
 -- What a machine is made of.
-use Rattle.std.specs.Prelude.{◌≡◌, ℕ, ◌≤◌, true, map, length, Option, Some, None}
+use Rattle.std.specs.Prelude.{◌≡◌, ℕ, ◌≤◌, true, max, All, map, length, List, [], ◌∷◌, Option, Some, None}
 use Rattle.spec_engine.specs.Signatures.{is_size}
 use Rattle.spec_protocol.specs.machine.Spheres.{Sphere}
 use Rattle.spec_protocol.specs.machine.World.{Occupant, Numbers, held_afresh}
 use Rattle.spec_protocol.specs.machine.Machine as protocol
 use Rattle.spec_protocol.specs.promises.Sound.{IsChunkSize, AreFew}
-use Rattle.dl_sphere.specs.Setups.{setup_of}
+use Rattle.dl_sphere.specs.declared.setup.SphereSetup.{SphereSetup}
+use Rattle.dl_sphere.specs.Setups.{IsRecordableIf, role_setup, setup_of, standard_asked}
 use Rattle.dl_machine.specs.declared.setup.Setup.{Setup}
 use Rattle.dl_machine.specs.Rows.{Spheres}
 
@@ -21,7 +22,7 @@ setup_in s =
       spheres = map setup_of s.spheres;
     }
 
--- its numbers are within the limits
+-- its numbers are within the limits, and standard chunks fit the version of each log that is recorded
 pub record IsWithin (s : Setup) : Type 0 where
   pub cores : AreFew s.cores
   pub window : AreFew s.window
@@ -32,6 +33,12 @@ pub record IsWithin (s : Setup) : Type 0 where
   pub signature : is_size s.bits ≡ true
   pub depth : 1 ≤ s.depth
   pub most_depth : s.depth ≤ 2
+  pub recorded : All (λ image. IsRecordableIf s.s image.role) (map setup_of s.spheres)
+
+-- the greatest standard size: that of the plan, or of a log that is replayed
+abbrev pub greatest : (s : ℕ) → List SphereSetup → ℕ
+greatest s [] = s
+greatest s (sphere ∷ spheres) = max (standard_asked s (role_setup sphere.role)) (greatest s spheres)
 
 -- the numbers of a setup whose spheres are made
 abbrev pub numbers_with : Setup → Spheres → Numbers

@@ -21,10 +21,11 @@ world_in cores spheres flights devices counts points =
       points = points;
     }
 
--- each flight is told to the cores that there are, at most 8
-pub record IsState (cores : Cores) (flights : Flights) : Type 0 where
+-- each flight is told to the cores that there are, at most 8, which have room for the chunks of any sphere
+pub record IsState (cores : Cores) (spheres : Spheres) (flights : Flights) : Type 0 where
   pub told : flights.cores ≡ length cores.held
   pub few : length cores.held ≤ 8
+  pub most : cores.most ≡ spheres.most
 
 -- the world that an event leaves, before it is counted
 abbrev pub left : EventOutcome → World

@@ -7,6 +7,7 @@ ghost use Rattle.spec_protocol.specs.machine.Flying.{squashed, squashed_younger,
 ghost use Rattle.spec_protocol.specs.machine.Machine.{first_cores};
 ghost use Rattle.spec_protocol.specs.machine.World.{held_afresh, runs};
 ghost use Rattle.dl_chunk.specs.Pairs.{pair_cut, pair_step};
+ghost use Rattle.dl_sphere.specs.Setups.{standard_in};
 ghost use Rattle.dl_machine.specs.Cores.{holding, idle};
 ghost use Rattle.dl_machine.specs.Setups.{IsWithin, first_held, numbers_with};
 
@@ -21,10 +22,11 @@ use dl_sphere::Sphere;
 use std::alloc::{AllocError, Global};
 use std::marker::Model;
 
-// From 1 to 8 cores, which are alike: each may have `depth` chunks, which may store `capacity` words each and have signatures of
-// `bits` bits.
+// From 1 to 8 cores, which are alike: each may have `depth` chunks, which may run `most` instructions and store `capacity` words
+// each, and have signatures of `bits` bits.
 #[derive(Drop)]
 pub(crate) struct Cores<G: Sig> {
+    most: u32,
     capacity: u32,
     bits: u32,
     depth: u8,
@@ -41,16 +43,17 @@ impl<G: Sig> Model for Cores<G> {
 
     ghost coded = { Prim.hlevel (codes, places_code) };
 
-    ghost view = { λ c. record { capacity = c.capacity; bits = c.bits; depth = c.depth; held = map held_by c.row.items } };
+    ghost view = { λ c. record { most = c.most; capacity = c.capacity; bits = c.bits; depth = c.depth; held = map held_by c.row.items } };
 
-    ghost invariant = { λ c. AreCores c.capacity c.bits c.depth c.row.items };
+    ghost invariant = { λ c. AreCores c.most c.capacity c.bits c.depth c.row.items };
 }
 
 impl<G: Sig> Cores<G> {
     ghost use Rattle.dl_machine.specs.Cores.{CanStepHeld, given_up, goes_on, pair_in, reads_in, seen, waits, with_pair, writes_in};
     ghost use Rattle.dl_machine.specs.Rows.{core_in, numbers_in, with_held};
 
-    /// The cores of a setup, each with thread 0 of its own sphere, or idle where there is none.
+    /// The cores of a setup, each with thread 0 of its own sphere, or idle where there is none. They have room for the loads of the
+    /// greatest chunk of any sphere.
     pub(crate) fn new(
         alloc: Global,
         setup: &Setup,
@@ -59,6 +62,7 @@ impl<G: Sig> Cores<G> {
         requires { IsWithin setup.now }
         ensures { let z = numbers_with setup.now spheres.now in
             IfOk result (λ c. c ≡ record {
+              most = spheres.now.most;
               capacity = setup.now.capacity;
               bits = setup.now.bits;
               depth = setup.now.depth;
@@ -70,6 +74,7 @@ impl<G: Sig> Cores<G> {
             row.push_reserved(first(alloc, setup, core, spheres)?);
         }
         Ok(Cores {
+            most: spheres.most(),
             capacity: setup.capacity,
             bits: setup.bits,
             depth: setup.depth,
@@ -116,7 +121,8 @@ impl<G: Sig> Cores<G> {
 
     /// A core goes on with thread `thread` of sphere `sphere`, which is `of`, or is idle where there is no such live thread.
     pub(crate) fn begin(&mut self, core: u8, sphere: u8, thread: u8, of: &Sphere)
-        requires { core < length self.old.held }
+        requires core { core < length self.old.held }
+        requires most { standard_in of.now.s of.now.sphere.role ≤ self.old.most }
         ensures { let z = numbers_in self.old of.now in
             self.new ≡ with_held core (held_afresh z sphere thread of.now.sphere) self.old }
     {
@@ -240,6 +246,7 @@ impl<G: Sig> Cores<G> {
     pub(crate) fn go_on(&mut self, core: u8, of: &Sphere)
         requires core { core < length self.old.held }
         requires held { IsSome (at self.old.held core) }
+        requires most { standard_in of.now.s of.now.sphere.role ≤ self.old.most }
         ensures { let z = numbers_in self.old of.now in
             self.new ≡ with_held core (goes_on z of.now.sphere (at self.old.held core)) self.old }
     {
@@ -257,9 +264,15 @@ fn first<G: Sig>(
 ) -> Result<Core<G>, AllocError>
     requires { IsWithin setup.now }
     ensures { let z = numbers_with setup.now spheres.now in
-        IfOk result (λ c. c ≡ holding (first_held z core (slice_get spheres.now.spheres core)) (idle 4096 setup.now.capacity setup.now.bits setup.now.depth)) }
+        IfOk result (λ c. c ≡ holding (first_held z core (slice_get spheres.now.spheres core)) (idle spheres.now.most setup.now.capacity setup.now.bits setup.now.depth)) }
 {
-    let mut made = Core::new(alloc, setup.capacity, setup.bits, setup.depth)?;
+    let mut made = Core::new(
+        alloc,
+        spheres.most(),
+        setup.capacity,
+        setup.bits,
+        setup.depth,
+    )?;
     if core < spheres.len() {
         made.begin(core, 0, spheres.get(core));
     }

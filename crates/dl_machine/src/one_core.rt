@@ -6,6 +6,7 @@ ghost use Rattle.spec_protocol.specs.machine.Asking.{was_interrupted as interrup
 ghost use Rattle.spec_protocol.specs.machine.Flying.{squashed, squashed_younger, younger_of};
 ghost use Rattle.spec_protocol.specs.machine.World.{runs};
 ghost use Rattle.dl_chunk.specs.Pairs.{pair_cut, pair_step};
+ghost use Rattle.dl_sphere.specs.Setups.{standard_in};
 ghost use Rattle.dl_machine.specs.Cores.{is_whole as is_whole_if, stays};
 
 use dl_chunk::{Chunk, CutReply, How, Pair, Stepped, Which};
@@ -16,9 +17,6 @@ use dl_sphere::Sphere;
 use dl_thread::{Thread, ThreadStatus};
 use std::alloc::{AllocError, Global};
 use std::marker::Model;
-
-// The most instructions that any chunk may run.
-const MOST: u32 = 4096;
 
 /// What a core holds that isn't idle: a sphere's thread, and whether its older chunk is closed.
 #[derive(Clone, Copy, Debug, PartialEq, Eq)]
@@ -54,24 +52,27 @@ impl<G: Sig> Core<G> {
     ghost use Rattle.dl_machine.specs.Cores.{CanStepHeld, afresh, given_up, goes_on, holding, idle, numbers_of, pair_in, reads_in, seen, waits};
     ghost use Rattle.dl_machine.specs.Cores.{with_pair, writes_in};
 
-    /// An idle core, which may have `depth` chunks that store `capacity` words each.
+    /// An idle core, which may have `depth` chunks that run up to `most` instructions and store `capacity` words each.
     pub(crate) fn new(
         alloc: Global,
+        most: u32,
         capacity: u32,
         bits: u32,
         depth: u8,
     ) -> Result<Core<G>, AllocError>
-        requires least { 1 ≤ capacity }
-        requires most { capacity ≤ 4096 }
+        requires some_instruction { 1 ≤ most }
+        requires most_instructions { most ≤ 65536 }
+        requires some_word { 1 ≤ capacity }
+        requires most_words { capacity ≤ 4096 }
         requires bits { is_size bits ≡ true }
         requires some_chunk { 1 ≤ depth }
         requires most_chunks { depth ≤ 2 }
-        ensures { IfOk result (λ c. c ≡ idle 4096 capacity bits depth) }
+        ensures { IfOk result (λ c. c ≡ idle most capacity bits depth) }
     {
         Ok(Core {
             busy: false,
             thread: 0,
-            pair: Pair::new(alloc, MOST, capacity, bits, depth)?,
+            pair: Pair::new(alloc, most, capacity, bits, depth)?,
         })
     }
 
@@ -99,7 +100,7 @@ impl<G: Sig> Core<G> {
 
     /// Goes on with thread `thread` of a sphere as it is now, by a chunk of its own, or rests where there is no such live thread.
     pub(crate) fn begin(&mut self, sphere: u8, thread: u8, of: &Sphere)
-        requires { self.old.most ≡ 4096 }
+        requires { standard_in of.now.s of.now.sphere.role ≤ self.old.most }
         ensures { self.new ≡ holding (afresh self.old of.now sphere thread) self.old }
     {
         let Some(state) = of.threads().get(thread) else {
@@ -219,7 +220,7 @@ impl<G: Sig> Core<G> {
     /// the thread goes on by a chunk of its own.
     pub(crate) fn go_on(&mut self, of: &Sphere)
         requires held { IsSome self.old.held }
-        requires most { self.old.most ≡ 4096 }
+        requires most { standard_in of.now.s of.now.sphere.role ≤ self.old.most }
         ensures { self.new ≡ holding (goes_on (numbers_of self.old of.now) of.now.sphere self.old.held) self.old }
     {
         if self.keeps_younger(of) {

@@ -1,5 +1,5 @@
 //! The row of spheres.
-ghost use Rattle.std.specs.Prelude.{◌≡◌, ◌≤◌, ◌<◌, ◌^◌, IfOk, IfSome, OnOk, OnErr, IsSome, Some, false, true, length, map, slice_get, All};
+ghost use Rattle.std.specs.Prelude.{◌≡◌, ◌≤◌, ◌<◌, ◌^◌, max, IfOk, IfSome, OnOk, OnErr, IsSome, Some, false, true, length, map, slice_get, All};
 ghost use Rattle.spec_isa.specs.declared.thread.Parts.{Parts};
 ghost use Rattle.spec_engine.specs.declared.answers.How.{How};
 ghost use Rattle.spec_engine.specs.Flights.{IsInside, at, drain};
@@ -12,7 +12,8 @@ ghost use Rattle.spec_protocol.specs.machine.Asking.{is_short};
 ghost use Rattle.spec_protocol.specs.machine.Commits.{chunk_moved, dma_moved, is_piece, raised, serial_moved};
 ghost use Rattle.dl_fly.specs.Slots.{set_slot};
 ghost use Rattle.spec_protocol.specs.machine.Machine.{sphere_of};
-ghost use Rattle.dl_sphere.specs.Setups.{setup_of};
+ghost use Rattle.dl_sphere.specs.Setups.{IsRecordableIf, setup_of, standard_in};
+ghost use Rattle.dl_machine.specs.Setups.{greatest};
 ghost use Rattle.dl_sphere.specs.Moving.{CanCommit, IsTurnOf, IsTurnOfDma, came};
 
 use dl_chunk::Chunk;
@@ -24,10 +25,11 @@ use dl_sphere::{Moved, Sphere, SphereSetup};
 use std::alloc::Global;
 use std::marker::Model;
 
-// From 1 to 8 spheres, of one standard size of a chunk.
+// From 1 to 8 spheres, of one standard size of a chunk in the plan; a replayed one has that of its log. `most` is the greatest.
 #[derive(Drop)]
 pub(crate) struct Spheres {
     s: u32,
+    most: u32,
     row: Vec<Sphere>,
 }
 
@@ -37,9 +39,9 @@ impl Model for Spheres {
 
     ghost Value = { Spheres };
 
-    ghost view = { λ r. record { s = r.s; spheres = map sphere_in r.row.items } };
+    ghost view = { λ r. record { s = r.s; most = r.most; spheres = map sphere_in r.row.items } };
 
-    ghost invariant = { λ r. AreSpheres r.s r.row.items };
+    ghost invariant = { λ r. AreSpheres r.s r.most r.row.items };
 }
 
 impl Spheres {
@@ -49,14 +51,18 @@ impl Spheres {
     pub(crate) fn new(alloc: Global, setups: &[SphereSetup], s: u32) -> Result<Spheres, OutOfMemory>
         requires few { AreFew (length setups.now) }
         requires size { IsChunkSize s }
-        ensures made { IfOk result (λ r. r ≡ record { s = s; spheres = map (sphere_of s) (map setup_of setups.now) }) }
-        ensures images { IfOk result (λ r. All (λ setup. IsImage (setup_of setup)) setups.now) }
+        requires recorded { All (λ image. IsRecordableIf s image.role) (map setup_of setups.now) }
+        ensures made { IfOk result (λ r. r ≡ record { s = s; most = greatest s setups.now; spheres = map (sphere_of s) (map setup_of setups.now) }) }
+        ensures images { IfOk result (λ r. All (λ setup. IsImage s (setup_of setup)) setups.now) }
     {
         let mut row = Vec::with_capacity(alloc, setups.len())?;
+        let mut most = s;
         for setup in setups {
-            row.push_reserved(Sphere::new(alloc, setup, s)?);
+            let sphere = Sphere::new(alloc, setup, s)?;
+            most = most.max(sphere.standard());
+            row.push_reserved(sphere);
         }
-        Ok(Spheres { s, row })
+        Ok(Spheres { s, most, row })
     }
 
     /// How many there are, from 1 to 8.
@@ -75,10 +81,19 @@ impl Spheres {
         self.s
     }
 
+    /// The greatest standard size of a sphere's chunks.
+    pub(crate) fn most(&self) -> u32
+        ensures value { result ≡ self.now.most }
+        ensures size { IsChunkSize result }
+    {
+        self.most
+    }
+
     /// The i-th.
     pub(crate) fn get(&self, i: u8) -> &Sphere
         requires { i < length self.now.spheres }
-        ensures { result.now ≡ record { s = self.now.s; sphere = nth_sphere i self.now } }
+        ensures sphere { result.now ≡ record { s = self.now.s; sphere = nth_sphere i self.now } }
+        ensures most { max 1 (standard_in self.now.s (nth_sphere i self.now).role) ≤ self.now.most }
     {
         &self.row[i as usize]
     }

@@ -46,7 +46,7 @@ impl<G: Sig> Model for State<G> {
 
     ghost view = { λ s. world_in s.cores s.spheres s.flights s.devices s.counts s.points.items };
 
-    ghost invariant = { λ s. IsState s.cores s.flights };
+    ghost invariant = { λ s. IsState s.cores s.spheres s.flights };
 }
 
 impl<G: Sig> State<G> {
@@ -57,7 +57,7 @@ impl<G: Sig> State<G> {
     pub(crate) fn new(alloc: Global, setup: &Setup) -> Result<State<G>, OutOfMemory>
         requires { IsWithin setup.now }
         ensures made { IfOk result (λ s. s ≡ world_of (setup_in setup.now)) }
-        ensures images { IfOk result (λ s. All (λ image. IsImage (setup_of image)) setup.now.spheres) }
+        ensures images { IfOk result (λ s. All (λ image. IsImage setup.now.s (setup_of image)) setup.now.spheres) }
         ensures input { IfOk result (λ s. All (λ byte. byte < 2 ^ 8) setup.now.input) }
     {
         let input = bytes_of(&setup.input);

@@ -1,10 +1,11 @@
 //! The events of a running chunk: Step and Cut.
-ghost use Rattle.std.specs.Prelude.{◌≡◌, ◌≤◌, ◌<◌, true, false, length, slice_get, Some};
+ghost use Rattle.std.specs.Prelude.{◌≡◌, ◌≤◌, ◌<◌, max, true, false, length, slice_get, Some};
 ghost use Rattle.spec_isa.specs.declared.thread.Parts.{Parts};
 ghost use Rattle.spec_play.specs.Effects.{counted};
 ghost use Rattle.spec_protocol.specs.machine.Spheres.{is_stopped, limit_after};
 ghost use Rattle.spec_protocol.specs.machine.Stepping.{cutting, reply_of_cut as cut_named, reply_of_step as step_named, stepping};
 ghost use Rattle.spec_protocol.specs.machine.World.{sphere_at};
+ghost use Rattle.dl_sphere.specs.Setups.{standard_in};
 ghost use Rattle.dl_machine.specs.Held.{IsOf};
 ghost use Rattle.dl_machine.specs.Ready.{HasRoom, IsReady};
 ghost use Rattle.dl_machine.specs.Requests.{Holds, Runs};
@@ -67,7 +68,7 @@ impl<G: Sig> State<G> {
             held.closed ≡ true → (t : Parts) → slice_get p.threads held.thread ≡ Some t →
             result ≡ limit_after self.now.numbers.s p.role held.thread (counted t) }
         ensures least { 1 ≤ result }
-        ensures most { result ≤ 4096 }
+        ensures most { result ≤ max 1 (standard_in self.now.numbers.s (sphere_at self.now held.sphere).role) }
     {
         if held.closed {
             self.spheres.get(held.sphere).limit(held.thread, true)

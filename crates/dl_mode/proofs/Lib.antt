@@ -1,2 +1,3 @@
 mod ShortLists
 mod SizeLookups
+pub mod Nothing

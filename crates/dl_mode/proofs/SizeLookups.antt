@@ -173,7 +173,7 @@ IsWhole-noted order sizes threads new actor size w good few e d =
 
 -- the commits of an order that were counted
 pub counted-more : (order : List Actor) (i : ℕ) (d : Actor) → i < length order → counted (take (i + 1) order) ≡ done_with (counted (take i order)) (get_or order i d)
-counted-more order i d h = fold_more done_with (replicate 15 0) order i d h
+counted-more order i d h = fold_more done_with (replicate most_threads 0) order i d h
 
 -- a range that isn't empty is its first number, and then the range behind it
 pub range-next : (t n m : ℕ) → n ≡ suc m → range_with_len t n ≡ t ∷ range_with_len (t + 1) m

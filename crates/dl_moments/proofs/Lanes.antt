@@ -1,11 +1,11 @@
 -- Of the lists of all threads, a change of one leaves the others.
-use Rattle.std.proofs.Common.{◌≡◌, ℕ, zero, suc, ◌+◌, ◌<◌, Bool, true, ◌&&◌, List, [], ◌∷◌, ◌++◌, length, map, get_or, replicate, inl, inr, refl, ap, sym, ◌∙◌, arith}
+use Rattle.std.proofs.Common.{◌≡◌, ℕ, zero, suc, ◌+◌, ◌<◌, ◌≤◌, Bool, true, ◌&&◌, List, [], ◌∷◌, ◌++◌, length, map, take, get_or, replicate, inl, inr, refl, ap, sym, ◌∙◌, arith}
 use Rattle.std.proofs.Math.ListN.{set}
 use Rattle.std.specs.List.{list_all}
 use Rattle.std.proofs.lemmas.Bool.{cases_eq, and_parts}
 use Rattle.std.proofs.lemmas.List.{map-set, map-append, length-set, set-get_or, get_or-set_same, get_or-set_other, replicate_more}
 use Rattle.dl_moments.specs.declared.lane.Mark.{Mark}
-use Rattle.dl_moments.specs.Views.{LaneState}
+use Rattle.dl_moments.specs.Views.{LaneState, HaveNone}
 
 -- the values of a thread's list, without its room
 abbrev pub marks_of : {V : Type 0} → LaneState V → List (Mark V)
@@ -40,6 +40,26 @@ same_count lanes t old new h is e =
     let was : old.marks ≡ get_or (map marks_of lanes) t [] = ap marks_of is ∙ sym (get_or-map lanes t old h) in
     ap length now ∙ (e ∙ ap length was)
 
+-- if from a thread on none has a value, a list there is empty
+pub none_at : {V : Type 0} (lanes : List (LaneState V)) (n t : ℕ) (lane : LaneState V) → HaveNone n (map marks_of lanes) → n ≤ t → t < length lanes
+    → lane ≡ get_or lanes t lane → lane.marks ≡ []
+none_at lanes n t lane none past h is = ap marks_of is ∙ (sym (get_or-map lanes t lane h) ∙ none t past)
+
+-- a change of one list leaves none in those after it
+pub HaveNone-set : {V : Type 0} (lanes : List (LaneState V)) (n m t : ℕ) (new : LaneState V) → HaveNone n (map marks_of lanes) → n ≤ m → t < m
+    → HaveNone m (map marks_of (set lanes t new))
+HaveNone-set lanes n m t new none up within k h =
+    rw (map-set marks_of lanes t new, get_or-set_other (map marks_of lanes) t k new.marks [] (λ e. omega arith)) (none k (omega arith))
+
+replicate_at : {X : Type 0} (x : X) (n k : ℕ) → get_or (replicate n x) k x ≡ x
+replicate_at x zero k = refl
+replicate_at x (suc n) zero = refl
+replicate_at x (suc n) (suc k) = replicate_at x n k
+
+-- of empty lists, from the first on none has a value
+pub empty_none : {V : Type 0} (lanes : List (LaneState V)) (n : ℕ) → map marks_of lanes ≡ replicate n [] → HaveNone 0 (map marks_of lanes)
+empty_none lanes n e k h = rw e (replicate_at [] n k)
+
 -- empty lists with one more empty list are empty lists
 pub empty_lane : {V : Type 0} (lanes : List (LaneState V)) (n : ℕ) (new : LaneState V) → map marks_of lanes ≡ replicate n [] → new.marks ≡ []
     → map marks_of (lanes ++ new ∷ []) ≡ replicate (n + 1) []
@@ -58,24 +78,29 @@ Roomy-more lanes t new h rooms room k d l =
       | inr other ↦ rw (get_or-set_other lanes t k new d other) (rooms k d (omega arith))
     ]
 
--- if each list has room, all have
-pub all_room : {V : Type 0} (lanes : List (LaneState V)) → Roomy lanes (length lanes) → list_all (λ lane. lane.room) lanes ≡ true
-all_room [] h = refl
-all_room (x ∷ xs) h = rw (h 0 x (omega arith), all_room xs (λ k d l. h (suc k) d (omega arith))) refl
+-- if each of the first n lists has room, all have
+pub all_room : {V : Type 0} (lanes : List (LaneState V)) (n : ℕ) → n ≤ length lanes → Roomy lanes n → list_all (λ lane. lane.room) (take n lanes) ≡ true
+all_room lanes zero h rooms = refl
+all_room [] (suc n) h rooms = absurd (omega arith)
+all_room (x ∷ xs) (suc n) h rooms = rw (rooms 0 x (omega arith), all_room xs n (omega arith) (λ k d l. rooms (suc k) d (omega arith))) refl
 
--- room in a list if there is room in each
-pub room_at : {V : Type 0} (lanes : List (LaneState V)) (t : ℕ) (d : LaneState V) → t < length lanes → list_all (λ lane. lane.room) lanes ≡ true → (get_or lanes t d).room ≡ true
-room_at [] t d h e = absurd (omega arith)
-room_at (x ∷ xs) zero d h e = (and_parts x.room (list_all (λ lane. lane.room) xs) e).0
-room_at (x ∷ xs) (suc t) d h e = room_at xs t d (omega arith) (and_parts x.room (list_all (λ lane. lane.room) xs) e).1
+-- if all of the first n lists have room, each has
+pub room_at : {V : Type 0} (lanes : List (LaneState V)) (n t : ℕ) (d : LaneState V) → t < n → n ≤ length lanes → list_all (λ lane. lane.room) (take n lanes) ≡ true
+    → (get_or lanes t d).room ≡ true
+room_at lanes zero t d within h e = absurd (omega arith)
+room_at [] (suc n) t d within h e = absurd (omega arith)
+room_at (x ∷ xs) (suc n) zero d within h e = (and_parts x.room (list_all (λ lane. lane.room) (take n xs)) e).0
+room_at (x ∷ xs) (suc n) (suc t) d within h e =
+    room_at xs n t d (omega arith) (omega arith) (and_parts x.room (list_all (λ lane. lane.room) (take n xs)) e).1
 
 -- a list replaced by one with as much room leaves as much room in all
-pub same_room : {V : Type 0} (lanes : List (LaneState V)) (t : ℕ) (old new : LaneState V) → t < length lanes → old ≡ get_or lanes t old → new.room ≡ old.room
-    → list_all (λ lane. lane.room) (set lanes t new) ≡ list_all (λ lane. lane.room) lanes
-same_room [] t old new h is e = absurd (omega arith)
-same_room (x ∷ xs) zero old new h is e =
-    ap (λ (b : Bool). b && list_all (λ lane. lane.room) xs) (e ∙ ap (λ (lane : LaneState _). lane.room) is)
-same_room (x ∷ xs) (suc t) old new h is e = ap (λ (b : Bool). x.room && b) (same_room xs t old new (omega arith) is e)
+pub same_room : {V : Type 0} (lanes : List (LaneState V)) (n t : ℕ) (old new : LaneState V) → t < length lanes → old ≡ get_or lanes t old → new.room ≡ old.room
+    → list_all (λ lane. lane.room) (take n (set lanes t new)) ≡ list_all (λ lane. lane.room) (take n lanes)
+same_room lanes zero t old new h is e = refl
+same_room [] (suc n) t old new h is e = absurd (omega arith)
+same_room (x ∷ xs) (suc n) zero old new h is e =
+    ap (λ (b : Bool). b && list_all (λ lane. lane.room) (take n xs)) (e ∙ ap (λ (lane : LaneState _). lane.room) is)
+same_room (x ∷ xs) (suc n) (suc t) old new h is e = ap (λ (b : Bool). x.room && b) (same_room xs n t old new (omega arith) is e)
 
 -- if each list has room, each still has it after one with room was set among them
 pub Roomy-set : {V : Type 0} (lanes : List (LaneState V)) (n t : ℕ) (new : LaneState V) → t < length lanes → Roomy lanes n → new.room ≡ true → Roomy (set lanes t new) n

@@ -8,27 +8,36 @@ use crate::lane::{Lane, Mark};
 use dl_entry::{MOST_THREADS, OutOfMemory};
 use std::alloc::Global;
 use std::marker::Model;
+use std::mem;
 
 /// How many threads there may be.
 pub const THREADS: usize = MOST_THREADS as usize;
 
 /// Values of all threads that there may be, each thread's by rising indices, and whether there is room for one more of any thread.
+/// From thread `used` on none has a value. The first value of such a thread is put into the spare lane, which then becomes the
+/// thread's: so making room goes through no lane that was never used.
 #[derive(Debug, Drop)]
 pub struct Moments<V> {
     lanes: Vec<Lane<V>>,
+    used: usize,
+    spare: Lane<V>,
 }
 
 impl<V> Model for Moments<V> {
     ghost use Rattle.dl_entry.specs.Numbers.{most_threads};
-    ghost use Rattle.std.specs.Prelude.{◌≡◌, length, map};
+    ghost use Rattle.std.specs.Prelude.{◌≡◌, ◌≤◌, ◌&&◌, [], length, map, take};
     ghost use Rattle.std.specs.List.{list_all};
-    ghost use Rattle.dl_moments.specs.Views.{By};
+    ghost use Rattle.dl_moments.specs.Views.{By, HaveNone};
 
     ghost Value = { By V };
 
-    ghost view = { λ m. record { lanes = map (λ lane. lane.marks) m.lanes.items; room = list_all (λ lane. lane.room) m.lanes.items } };
+    ghost view = { λ m. record {
+      lanes = map (λ lane. lane.marks) m.lanes.items;
+      room = list_all (λ lane. lane.room) (take m.used m.lanes.items) && m.spare.room;
+    } };
 
-    ghost invariant = { λ m. length m.lanes.items ≡ most_threads };
+    ghost invariant = { λ m. (length m.lanes.items ≡ most_threads) × (m.used ≤ most_threads)
+        × HaveNone m.used (map (λ lane. lane.marks) m.lanes.items) × (m.spare.marks ≡ []) };
 }
 
 impl<V: Copy> Moments<V> {
@@ -40,7 +49,11 @@ impl<V: Copy> Moments<V> {
         for _ in 0..THREADS {
             lanes.push(Lane::new(alloc))?;
         }
-        Ok(Moments { lanes })
+        Ok(Moments {
+            lanes,
+            used: 0,
+            spare: Lane::new(alloc),
+        })
     }
 
     /// Makes room for one more value.
@@ -49,11 +62,11 @@ impl<V: Copy> Moments<V> {
         ensures ok { OnOk result (IsTrue self.new.room) }
         ensures room { IsTrue self.old.room → IsOk result }
     {
-        for thread in 0..self.lanes.len() {
+        for thread in 0..self.used {
             let lane = &mut self.lanes[thread];
             lane.reserve()?;
         }
-        Ok(())
+        self.spare.reserve()
     }
 
     /// Puts a thread's value at an index, in place of any other that is there. If there is room, it isn't refused.
@@ -64,8 +77,15 @@ impl<V: Copy> Moments<V> {
         ensures err { OnErr result (self.new.lanes ≡ self.old.lanes) }
         ensures room { IsTrue self.old.room → IsOk result }
     {
-        let lane = &mut self.lanes[usize::from(thread)];
-        lane.put(index, value)
+        let place = usize::from(thread);
+        if place < self.used {
+            let lane = &mut self.lanes[place];
+            return lane.put(index, value);
+        }
+        self.spare.put(index, value)?;
+        mem::swap(&mut self.lanes[place], &mut self.spare);
+        self.used = place + 1;
+        Ok(())
     }
 
     /// Puts a value in place of the thread's value at an index, if there is one.
@@ -75,8 +95,9 @@ impl<V: Copy> Moments<V> {
         ensures count { length (slice_index_or self.new.lanes thread []) ≡ length (slice_index_or self.old.lanes thread []) }
         ensures room { self.new.room ≡ self.old.room }
     {
-        if usize::from(thread) < THREADS {
-            let lane = &mut self.lanes[usize::from(thread)];
+        let place = usize::from(thread);
+        if place < self.used {
+            let lane = &mut self.lanes[place];
             lane.set(index, value);
         }
     }

@@ -1,4 +1,5 @@
 pub mod Counted
 pub mod Documents
 pub mod Each
+pub mod Longest
 pub mod Texts

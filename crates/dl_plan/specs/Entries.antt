@@ -17,7 +17,7 @@ top_keys =
 
 -- the keys of a sphere
 abbrev pub sphere_keys : List (List ℕ)
-sphere_keys = codes "image" ∷ codes "memory" ∷ codes "role" ∷ codes "mode" ∷ codes "log" ∷ codes "account" ∷ []
+sphere_keys = codes "image" ∷ codes "memory" ∷ codes "role" ∷ codes "mode" ∷ codes "version" ∷ codes "log" ∷ codes "account" ∷ []
 
 -- where this is a table, its keys are those of a sphere
 abbrev pub has_sphere_keys : Data → Bool
@@ -54,6 +54,7 @@ pub record SphereEntries : Type 0 where
   pub memory : ℤ
   pub role : RoleName
   pub mode : Option Mode
+  pub version : Option ℤ
   pub log : Option (List ℕ)
   pub account : Option (List ℕ)
 
@@ -117,9 +118,10 @@ sphere_of ms =
     number ms (codes "memory") >>= λ memory.
     text ms (codes "role") >>= role_named >>= λ role.
     mode_at ms >>= λ mode.
+    optional_number ms (codes "version") >>= λ version.
     optional_text ms (codes "log") >>= λ log.
     optional_text ms (codes "account") >>= λ account.
-    Some (record { image = image; memory = memory; role = role; mode = mode; log = log; account = account })
+    Some (record { image = image; memory = memory; role = role; mode = mode; version = version; log = log; account = account })
 
 -- one item of the array of spheres
 abbrev pub sphere_in : Data → Option SphereEntries

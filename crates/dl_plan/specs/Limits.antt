@@ -1,5 +1,5 @@
 -- The limits of a plan's numbers.
-use Rattle.std.specs.Prelude.{ℕ, ◌==◌, ◌%◌, nat_le, ℤ, pos, negsuc, Bool, ◌&&◌, [], ◌∷◌, Option, Some, None, if◌then◌else◌}
+use Rattle.std.specs.Prelude.{ℕ, ◌==◌, ◌%◌, nat_le, ℤ, pos, negsuc, Bool, ◌&&◌, [], ◌∷◌, Option, Some, None, unwrap_or, if◌then◌else◌}
 use Rattle.std.specs.List.{list_any}
 use Rattle.dl_plan.specs.Optional.{◌>>=◌}
 
@@ -19,3 +19,11 @@ signature_of z = limited 64 2048 z >>= λ n. if is_signature n then Some n else 
 -- the bytes of a memory: a multiple of 4096, up to 2^24
 abbrev pub memory_of : ℤ → Option ℕ
 memory_of z = limited 4096 16777216 z >>= λ n. if n % 4096 == 0 then Some n else None
+
+-- the version of a log, 1 or 2; one that is absent is 1
+abbrev pub version_of : Option ℤ → Option ℕ
+version_of version = limited 1 2 (unwrap_or version (pos 1))
+
+-- the instructions of the longest chunk that logs of a version can have
+abbrev pub longest_chunk : (version : ℕ) → ℕ
+longest_chunk version = if version == 1 then 4096 else 65536

@@ -1,17 +1,18 @@
 -- Which bytes are a plan, and what it asks for; and of any others, the first rule that the whole of them breaks.
-use Rattle.std.specs.Prelude.{ℕ, Bool, ◌&&◌, List, Option, Some, None, if◌then◌else◌, Result, Ok, Err, ok_or}
+use Rattle.std.specs.Prelude.{ℕ, nat_le, Bool, true, ◌&&◌, List, Option, Some, None, if◌then◌else◌, Result, Ok, Err, ok_or}
+use Rattle.std.specs.List.{list_all}
 use Rattle.std.specs.Str.{is_utf8}
 use Rattle.toml.specs.Data.{Members}
 use Rattle.toml.specs.Parse.{parse_document}
 use Rattle.dl_plan.specs.declared.plan.Sizes.{Sizes}
 use Rattle.dl_plan.specs.Entries.{has_known_keys, TopEntries, SphereEntries, Entries, entries_of}
 use Rattle.dl_plan.specs.Files.{written_names, read_names}
-use Rattle.dl_plan.specs.Limits.{memory_of}
+use Rattle.dl_plan.specs.Limits.{memory_of, longest_chunk}
 use Rattle.dl_plan.specs.Names.{none_is_empty, all_differ, none_is_one_of}
 use Rattle.dl_plan.specs.Optional.{◌>>=◌, ◌>>◌, each_of}
 use Rattle.dl_plan.specs.Roles.{role_of}
 use Rattle.dl_plan.specs.Sizes.{sizes_in, events_in}
-use Rattle.dl_plan.specs.Values.{ScheduleValues, Script, Seeded, SphereValues, PlanValues}
+use Rattle.dl_plan.specs.Values.{ScheduleValues, Script, Seeded, RoleValues, Plain, Record, Replay, SphereValues, PlanValues}
 
 -- ---- rule 1: a TOML document
 
@@ -40,6 +41,16 @@ has_good_names name p =
     let written = written_names p in
     let read = read_names name p in
     none_is_empty written && none_is_empty read && all_differ written && none_is_one_of read written
+
+-- ---- rule 8: no chunk is longer than the log of a recorded sphere can have it
+
+abbrev pub can_have : (chunk : ℕ) → RoleValues → Bool
+can_have chunk Plain = true
+can_have chunk (Record values) = nat_le chunk (longest_chunk values.version)
+can_have chunk (Replay values) = true
+
+abbrev pub has_good_chunk : PlanValues → Bool
+has_good_chunk p = list_all (λ (s : SphereValues). can_have p.sizes.chunk s.role) p.spheres
 
 -- ---- the rules in their order
 
@@ -70,9 +81,13 @@ values_in e =
 abbrev pub named_well : (name : List ℕ) → PlanValues → Result PlanValues ℕ
 named_well name p = if has_good_names name p then Ok p else Err 7
 
--- rules 4 to 7, all of the same entries
+-- rule 8
+abbrev pub cut_well : PlanValues → Result PlanValues ℕ
+cut_well p = if has_good_chunk p then Ok p else Err 8
+
+-- rules 4 to 8, all of the same entries
 abbrev pub plan_in : (name : List ℕ) → Entries → Result PlanValues ℕ
-plan_in name e = values_in e >> named_well name
+plan_in name e = values_in e >> named_well name >> cut_well
 
 -- the plan in the bytes of the file `name`, or the first rule that they break
 unfoldable pub plan_of : (name bytes : List ℕ) → Result PlanValues ℕ

@@ -3,14 +3,14 @@ use Rattle.std.specs.Prelude.{ℕ, pos, nat_le, Bool, ◌&&◌, List, length, is
 use Rattle.std.specs.List.{list_all}
 use Rattle.dl_plan.specs.declared.plan.Sizes.{Sizes}
 use Rattle.dl_plan.specs.Entries.{TopEntries, SphereEntries, Entries}
-use Rattle.dl_plan.specs.Limits.{limited, signature_of, memory_of}
+use Rattle.dl_plan.specs.Limits.{limited, signature_of, memory_of, version_of}
 use Rattle.dl_plan.specs.Optional.{◌>>=◌, if_there}
 
 -- the numbers at the top; a depth that is absent is 1, and a seed 0
 abbrev pub sizes_of : TopEntries → Option Sizes
 sizes_of top =
     limited 1 8 top.cores >>= λ cores.
-    limited 16 4096 top.chunk >>= λ chunk.
+    limited 16 65536 top.chunk >>= λ chunk.
     limited 1 4096 top.buffer >>= λ buffer.
     limited 1 8 top.window >>= λ window.
     limited 1 2 (unwrap_or top.depth (pos 1)) >>= λ depth.
@@ -22,13 +22,13 @@ sizes_of top =
 abbrev pub events_in : TopEntries → Option (Option ℕ)
 events_in top = if_there (limited 0 16777216) top.events
 
--- the memory of each sphere is in its limits
-abbrev pub have_memories : List SphereEntries → Bool
-have_memories spheres = list_all (λ (s : SphereEntries). is_some (memory_of s.memory)) spheres
+-- the numbers of a sphere are in their limits, whatever its role
+abbrev pub has_good_numbers : SphereEntries → Bool
+has_good_numbers s = is_some (memory_of s.memory) && is_some (version_of s.version)
 
--- there are 1 to 8 spheres, each with its memory
+-- there are 1 to 8 spheres, and the numbers of each are in their limits
 abbrev pub has_good_spheres : List SphereEntries → Bool
-has_good_spheres spheres = nat_le 1 (length spheres) && nat_le (length spheres) 8 && have_memories spheres
+has_good_spheres spheres = nat_le 1 (length spheres) && nat_le (length spheres) 8 && list_all has_good_numbers spheres
 
 abbrev pub sizes_in : Entries → Option Sizes
 sizes_in e = if has_good_spheres e.spheres then sizes_of e.top else None

@@ -7,16 +7,17 @@ use Rattle.dl_plan.specs.declared.plan.Role.{Role}
 use Rattle.dl_plan.specs.declared.plan.Schedule.{Schedule}
 use Rattle.dl_plan.specs.declared.plan.Sizes.{Sizes}
 use Rattle.dl_plan.specs.declared.plan.Sphere.{Sphere}
-use Rattle.dl_plan.specs.Limits.{is_signature}
+use Rattle.dl_plan.specs.Limits.{is_signature, longest_chunk}
 
 -- where the events come from: a script of that name, or so many that are drawn from the plan's seed
 pub data ScheduleValues : Type 0 where
   Script : (name : List ℕ) → ScheduleValues
   Seeded : (events : ℕ) → ScheduleValues
 
--- of what is recorded, the mode, and the name of the log
+-- of what is recorded, the mode, and the version and the name of the log
 pub record RecordValues : Type 0 where
   pub mode : Mode
+  pub version : ℕ
   pub log : List ℕ
 
 -- of what is replayed, the name of the log
@@ -52,7 +53,7 @@ schedule_view (Schedule.Seeded events) = Seeded events
 
 abbrev pub role_view : Role → RoleValues
 role_view Role.Plain = Plain
-role_view (Role.Record mode log) = Record (record { mode = mode; log = string_bytes log })
+role_view (Role.Record mode version log) = Record (record { mode = mode; version = version; log = string_bytes log })
 role_view (Role.Replay log) = Replay (record { log = string_bytes log })
 
 abbrev pub sphere_view : Sphere → SphereValues
@@ -79,7 +80,7 @@ pub record IsMemory (n : ℕ) : Type 0 where
 -- signature and the seed
 pub record AreSizes (s : Sizes) : Type 0 where
   pub cores : (1 ≤ s.cores) × (s.cores ≤ 8)
-  pub chunk : (16 ≤ s.chunk) × (s.chunk ≤ 4096)
+  pub chunk : (16 ≤ s.chunk) × (s.chunk ≤ 65536)
   pub buffer : (1 ≤ s.buffer) × (s.buffer ≤ 4096)
   pub window : (1 ≤ s.window) × (s.window ≤ 8)
   pub depth : (1 ≤ s.depth) × (s.depth ≤ 2)
@@ -95,9 +96,33 @@ IsSchedule (Seeded events) = events ≤ 2 ^ 24
 abbrev pub AreMemories : List SphereValues → Type 0
 AreMemories spheres = AllByRecursion (λ (s : SphereValues). IsMemory s.memory) spheres
 
+-- the version of what is recorded is in its limits
+abbrev pub IsRole : RoleValues → Type 0
+IsRole Plain = ⊤
+IsRole (Record values) = (1 ≤ values.version) × (values.version ≤ 2)
+IsRole (Replay values) = ⊤
+
+abbrev pub AreRoles : List SphereValues → Type 0
+AreRoles spheres = AllByRecursion (λ (s : SphereValues). IsRole s.role) spheres
+
+-- the log of what is recorded can have chunks of this length
+abbrev pub CanHave : (chunk : ℕ) → RoleValues → Type 0
+CanHave chunk Plain = ⊤
+CanHave chunk (Record values) = chunk ≤ longest_chunk values.version
+CanHave chunk (Replay values) = ⊤
+
+abbrev pub CanAllHave : (chunk : ℕ) → List SphereValues → Type 0
+CanAllHave chunk spheres = AllByRecursion (λ (s : SphereValues). CanHave chunk s.role) spheres
+
 -- each number of a plan is in its limits
-pub record IsPlan (p : PlanValues) : Type 0 where
+pub record AreNumbers (p : PlanValues) : Type 0 where
   pub sizes : AreSizes p.sizes
   pub schedule : IsSchedule p.schedule
   pub spheres : (1 ≤ length p.spheres) × (length p.spheres ≤ 8)
   pub memories : AreMemories p.spheres
+  pub roles : AreRoles p.spheres
+
+-- and each log that is written can have the plan's chunks
+pub record IsPlan (p : PlanValues) : Type 0 where
+  pub numbers : AreNumbers p
+  pub chunk : CanAllHave p.sizes.chunk p.spheres

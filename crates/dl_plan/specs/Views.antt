@@ -26,7 +26,15 @@ top_view t = record {
 }
 
 abbrev pub entry_view : SphereStruct → SphereEntries
-entry_view s = record { image = s.image.now; memory = s.memory; role = s.role; mode = s.mode; log = option_copied s.log; account = option_copied s.account }
+entry_view s = record {
+  image = s.image.now;
+  memory = s.memory;
+  role = s.role;
+  mode = s.mode;
+  version = s.version;
+  log = option_copied s.log;
+  account = option_copied s.account;
+}
 
 abbrev pub entries_view : EntriesStruct → Entries
 entries_view e = record { top = top_view e.top; spheres = map entry_view e.spheres.items }

@@ -29,7 +29,9 @@ const TOP_KEYS: [&str; 13] = [
 ];
 
 /// The keys of a sphere.
-const SPHERE_KEYS: [&str; 6] = ["image", "memory", "role", "mode", "log", "account"];
+const SPHERE_KEYS: [&str; 7] = [
+    "image", "memory", "role", "mode", "version", "log", "account",
+];
 
 /// Whether each key is one of a plan, or of a sphere in its spheres.
 pub(crate) fn has_known_keys(table: &Table) -> bool

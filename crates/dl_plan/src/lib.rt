@@ -2,6 +2,7 @@
 //! plan's own name and of its bytes.
 #![tactic(auto)]
 
+mod chunks;
 mod document;
 mod entries;
 mod error;

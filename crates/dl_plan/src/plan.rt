@@ -21,7 +21,7 @@ pub struct Plan {
 pub struct Sizes {
     /// Cores of the machine, 1 to 8.
     pub cores: u8,
-    /// Instructions in a standard chunk, 16 to 4096.
+    /// Instructions in a standard chunk, 16 to 65536; if a log of version 1 is recorded, at most 4096.
     pub chunk: u32,
     /// Words in a write buffer, 1 to 4096.
     pub buffer: u32,
@@ -61,10 +61,16 @@ pub struct Sphere {
 pub enum Role {
     /// It runs, and no log is written or read.
     Plain,
-    /// It is recorded into the file `log`.
-    Record { mode: Mode, log: String },
+    /// It is recorded into the file `log`, in a log of that version, 1 or 2.
+    Record {
+        mode: Mode,
+        version: u8,
+        log: String,
+    },
     /// It replays the log in the file `log`, in the log's own mode.
-    Replay { log: String },
+    Replay {
+        log: String,
+    },
 }
 
 /// What a log keeps of the chunks and of their order.

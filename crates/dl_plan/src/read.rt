@@ -5,6 +5,7 @@ ghost use Rattle.dl_plan.specs.Refusal.{Says};
 ghost use Rattle.dl_plan.specs.Values.{plan_view, IsPlan};
 ghost use Rattle.dl_plan.specs.Views.{entries_view};
 
+use crate::chunks::has_good_chunk;
 use crate::document::read_document;
 use crate::entries::{Entries, read_entries};
 use crate::error::PlanError;
@@ -15,7 +16,8 @@ use std::alloc::Global;
 
 /// Reads the plan in `bytes`, the bytes of the file `name`. Refused is the first rule that the whole plan breaks:
 /// 1 it is no TOML, 2 it has another key, 3 a key is missing or its value is of another kind, 4 a number is outside
-/// its limits, 5 it has not one schedule, 6 a role has not what it needs, 7 its names conflict.
+/// its limits, 5 it has not one schedule, 6 a role has not what it needs, 7 its names conflict, 8 its chunk is too long for
+/// a log that is recorded.
 #[tactic(auto, unfolding(crate::specs::Plans::plan_of))]
 pub fn read_plan(alloc: Global, name: &str, bytes: &[u8]) -> Result<Plan, PlanError>
     ensures ok { IfOk result (λ p. plan_of name.now bytes.now ≡ Ok (plan_view p)) }
@@ -27,16 +29,18 @@ pub fn read_plan(alloc: Global, name: &str, bytes: &[u8]) -> Result<Plan, PlanEr
     plan_in(alloc, name, &entries)
 }
 
-/// The plan of these entries: what the keys hold, judged by rules 4 to 7.
+/// The plan of these entries: what the keys hold, judged by rules 4 to 8.
 fn plan_in(alloc: Global, name: &str, entries: &Entries<'_>) -> Result<Plan, PlanError>
     ensures ok { IfOk result (λ p. plan_in name.now (entries_view entries.now) ≡ Ok (plan_view p)) }
     ensures limits { IfOk result (λ p. IsPlan (plan_view p)) }
     ensures refused { IfErr result (Says (plan_in name.now (entries_view entries.now))) }
 {
     let plan = to_plan(alloc, entries)?;
-    if has_good_names(alloc, name, &plan)? {
-        Ok(plan)
-    } else {
-        Err(PlanError::Refused(7))
+    if !has_good_names(alloc, name, &plan)? {
+        return Err(PlanError::Refused(7));
     }
+    if !has_good_chunk(&plan) {
+        return Err(PlanError::Refused(8));
+    }
+    Ok(plan)
 }

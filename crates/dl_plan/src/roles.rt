@@ -1,18 +1,21 @@
 //! The role of a sphere, by the keys that stand with it.
-ghost use Rattle.std.specs.Prelude.{◌≡◌, Some, IfOk, IfErr};
+ghost use Rattle.std.specs.Prelude.{◌≡◌, ◌≤◌, Some, IfOk, IfErr};
+ghost use Rattle.dl_plan.specs.Limits.{version_of};
 ghost use Rattle.dl_plan.specs.Refusal.{IsBroken};
 ghost use Rattle.dl_plan.specs.Roles.{has_role_keys, role_of};
-ghost use Rattle.dl_plan.specs.Values.{role_view};
+ghost use Rattle.dl_plan.specs.Values.{IsRole, role_view};
 ghost use Rattle.dl_plan.specs.Views.{entry_view};
 
 use crate::error::PlanError;
 use crate::plan::Role;
+use crate::sizes::version_of;
 use crate::sphere::{RoleName, SphereEntries};
 use std::alloc::Global;
 
 /// The role of a sphere. Refused by rule 6 if it has not the keys that it needs, or has one that it may not have.
 pub(crate) fn role_of(alloc: Global, entry: &SphereEntries<'_>) -> Result<Role, PlanError>
     ensures ok { IfOk result (λ r. role_of (entry_view entry.now) ≡ Some (role_view r)) }
+    ensures limits { IfOk result (λ r. IsRole (role_view r)) }
     ensures refused { IfErr result (IsBroken 6 (role_of (entry_view entry.now))) }
 {
     if !has_role_keys(entry) {
@@ -22,6 +25,7 @@ pub(crate) fn role_of(alloc: Global, entry: &SphereEntries<'_>) -> Result<Role, 
         (RoleName::Plain, _, _) => Ok(Role::Plain),
         (RoleName::Record, Some(mode), Some(log)) => Ok(Role::Record {
             mode,
+            version: version_in(entry)?,
             log: String::from_str(alloc, log)?,
         }),
         (RoleName::Replay, _, Some(log)) => Ok(Role::Replay {
@@ -35,10 +39,26 @@ pub(crate) fn role_of(alloc: Global, entry: &SphereEntries<'_>) -> Result<Role, 
 fn has_role_keys(entry: &SphereEntries<'_>) -> bool
     ensures { result ≡ has_role_keys (entry_view entry.now) }
 {
-    let (mode, log) = (entry.mode.is_some(), entry.log.is_some());
+    let (mode, version, log) = (
+        entry.mode.is_some(),
+        entry.version.is_some(),
+        entry.log.is_some(),
+    );
     match entry.role {
-        RoleName::Plain => !mode && !log,
+        RoleName::Plain => !mode && !version && !log,
         RoleName::Record => mode && log,
-        RoleName::Replay => !mode && log,
+        RoleName::Replay => !mode && !version && log,
+    }
+}
+
+/// The version of the log of a recorded sphere. Refused by rule 6 if there is no such version.
+fn version_in(entry: &SphereEntries<'_>) -> Result<u8, PlanError>
+    ensures ok { IfOk result (λ v. version_of entry.now.version ≡ Some v) }
+    ensures limits { IfOk result (λ v. (1 ≤ v) × (v ≤ 2)) }
+    ensures refused { IfErr result (IsBroken 6 (version_of entry.now.version)) }
+{
+    match version_of(entry.version) {
+        Some(version) => Ok(version),
+        None => Err(PlanError::Refused(6)),
     }
 }

@@ -1,7 +1,8 @@
 //! The numbers in a plan, each in its limits.
 ghost use Rattle.std.specs.Prelude.{◌≡◌, ◌≤◌, ◌^◌, IfSome, IsTrue, map};
-ghost use Rattle.dl_plan.specs.Limits.{limited, is_signature, signature_of, memory_of};
-ghost use Rattle.dl_plan.specs.Sizes.{sizes_of, sizes_in, events_in, has_good_spheres, have_memories};
+ghost use Rattle.std.specs.List.{list_all};
+ghost use Rattle.dl_plan.specs.Limits.{limited, is_signature, signature_of, memory_of, version_of, longest_chunk};
+ghost use Rattle.dl_plan.specs.Sizes.{sizes_of, sizes_in, events_in, has_good_spheres, has_good_numbers};
 ghost use Rattle.dl_plan.specs.Values.{AreSizes, IsMemory};
 ghost use Rattle.dl_plan.specs.Views.{top_view, entry_view, entries_view};
 
@@ -26,21 +27,26 @@ pub(crate) fn sizes_in(entries: &Entries<'_>) -> Option<Sizes>
     }
 }
 
-/// Whether there are 1 to 8 spheres, each with a memory in its limits.
+/// Whether there are 1 to 8 spheres, each with its numbers in their limits.
 fn has_good_spheres(spheres: &[SphereEntries<'_>]) -> bool
     ensures { result ≡ has_good_spheres (map entry_view spheres.now) }
 {
     let count = spheres.len();
-    1 <= count && count <= 8 && have_memories(spheres)
+    1 <= count && count <= 8 && have_good_numbers(spheres)
 }
 
-/// Whether the memory of each sphere is in its limits.
-fn have_memories(spheres: &[SphereEntries<'_>]) -> bool
-    ensures { result ≡ have_memories (map entry_view spheres.now) }
+/// Whether the numbers of each sphere are in their limits.
+fn have_good_numbers(spheres: &[SphereEntries<'_>]) -> bool
+    ensures { result ≡ list_all has_good_numbers (map entry_view spheres.now) }
 {
-    spheres
-        .iter()
-        .all(|sphere| memory_of(sphere.memory).is_some())
+    spheres.iter().all(|sphere| has_good_numbers(sphere))
+}
+
+/// Whether the numbers of the sphere are in their limits, whatever its role.
+fn has_good_numbers(sphere: &SphereEntries<'_>) -> bool
+    ensures { result ≡ has_good_numbers (entry_view sphere.now) }
+{
+    memory_of(sphere.memory).is_some() && version_of(sphere.version).is_some()
 }
 
 /// The numbers at a plan's top. `None` if one is outside its limits.
@@ -50,7 +56,7 @@ fn sizes_of(top: &TopEntries<'_>) -> Option<Sizes>
 {
     Some(Sizes {
         cores: limited(top.cores, 1, 8)? as u8,
-        chunk: limited(top.chunk, 16, 4096)? as u32,
+        chunk: limited(top.chunk, 16, 65536)? as u32,
         buffer: limited(top.buffer, 1, 4096)? as u32,
         window: limited(top.window, 1, 8)? as u8,
         depth: limited(top.depth.unwrap_or(1), 1, 2)? as u8,
@@ -86,6 +92,21 @@ pub(crate) fn memory_of(number: i64) -> Option<u32>
 {
     let bytes = limited(number, 4096, MOST)? as u32;
     if bytes % 4096 == 0 { Some(bytes) } else { None }
+}
+
+/// The version of a log, 1 if the key isn't there.
+pub(crate) fn version_of(version: Option<i64>) -> Option<u8>
+    ensures value { result ≡ version_of version }
+    ensures within { IfSome result (λ v. (1 ≤ v) × (v ≤ 2)) }
+{
+    Some(limited(version.unwrap_or(1), 1, 2)? as u8)
+}
+
+/// The instructions of the longest chunk that logs of a version can have.
+pub(crate) fn longest_chunk(version: u8) -> u32
+    ensures { result ≡ longest_chunk version }
+{
+    if version == 1 { 4096 } else { 65_536 }
 }
 
 /// The number, where it stands from `low` to `high`.

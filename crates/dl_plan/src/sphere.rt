@@ -4,7 +4,7 @@ ghost use Rattle.dl_plan.specs.Entries.{sphere_of, sphere_in, role_named, mode_n
 ghost use Rattle.dl_plan.specs.Views.{entry_view};
 ghost use Rattle.toml.specs.View.{view, table_view};
 
-use crate::document::{number, optional_text, text};
+use crate::document::{number, optional_number, optional_text, text};
 use crate::plan::Mode;
 use toml::{Table, Value};
 
@@ -23,6 +23,7 @@ pub(crate) struct SphereEntries<'a> {
     pub memory: i64,
     pub role: RoleName,
     pub mode: Option<Mode>,
+    pub version: Option<i64>,
     pub log: Option<&'a str>,
     pub account: Option<&'a str>,
 }
@@ -46,6 +47,7 @@ fn read_keys(table: &Table) -> Option<SphereEntries<'_>>
         memory: number(table, "memory")?,
         role: role_named(text(table, "role")?)?,
         mode: mode_at(table)?,
+        version: optional_number(table, "version")?,
         log: optional_text(table, "log")?,
         account: optional_text(table, "account")?,
     })

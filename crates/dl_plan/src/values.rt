@@ -3,7 +3,7 @@ ghost use Rattle.std.specs.Prelude.{◌≡◌, ◌≤◌, ◌^◌, Ok, Some, IfO
 ghost use Rattle.dl_plan.specs.Optional.{each_of};
 ghost use Rattle.dl_plan.specs.Plans.{schedule_of, sphere_asked, values_in};
 ghost use Rattle.dl_plan.specs.Refusal.{Says, IsBroken};
-ghost use Rattle.dl_plan.specs.Values.{plan_view, schedule_view, sphere_view, IsPlan, IsSchedule, IsMemory, AreMemories};
+ghost use Rattle.dl_plan.specs.Values.{plan_view, schedule_view, sphere_view, role_view, AreNumbers, IsSchedule, IsMemory, AreMemories, IsRole, AreRoles};
 ghost use Rattle.dl_plan.specs.Views.{entry_view, entries_view};
 
 use crate::entries::Entries;
@@ -18,7 +18,7 @@ use std::alloc::{AllocError, Global};
 /// one schedule, else by rule 6 where a role has not what it needs.
 pub(crate) fn to_plan(alloc: Global, entries: &Entries<'_>) -> Result<Plan, PlanError>
     ensures ok { IfOk result (λ p. values_in (entries_view entries.now) ≡ Ok (plan_view p)) }
-    ensures limits { IfOk result (λ p. IsPlan (plan_view p)) }
+    ensures limits { IfOk result (λ p. AreNumbers (plan_view p)) }
     ensures refused { IfErr result (Says (values_in (entries_view entries.now))) }
 {
     let sizes = match sizes_in(entries) {
@@ -62,7 +62,8 @@ fn schedule_of(
 /// What each sphere is to do. Refused by rule 6 where a role has not what it needs.
 fn spheres_of(alloc: Global, entries: &[SphereEntries<'_>]) -> Result<Vec<Sphere>, PlanError>
     ensures ok { IfOk result (λ ss. each_of sphere_asked (map entry_view entries.now) ≡ Some (map sphere_view ss.items)) }
-    ensures limits { IfOk result (λ ss. AreMemories (map sphere_view ss.items)) }
+    ensures memories { IfOk result (λ ss. AreMemories (map sphere_view ss.items)) }
+    ensures roles { IfOk result (λ ss. AreRoles (map sphere_view ss.items)) }
     ensures refused { IfErr result (IsBroken 6 (each_of sphere_asked (map entry_view entries.now))) }
 {
     let mut spheres = Vec::new(alloc);
@@ -79,10 +80,11 @@ fn spheres_of(alloc: Global, entries: &[SphereEntries<'_>]) -> Result<Vec<Sphere
     Ok(spheres)
 }
 
-/// What one sphere is to do, whose memory is in its limits.
+/// What one sphere is to do, whose numbers are in their limits.
 fn sphere_of(alloc: Global, entry: &SphereEntries<'_>) -> Result<Sphere, PlanError>
     ensures ok { IfOk result (λ s. sphere_asked (entry_view entry.now) ≡ Some (sphere_view s)) }
-    ensures limits { IfOk result (λ s. IsMemory s.memory) }
+    ensures memory { IfOk result (λ s. IsMemory s.memory) }
+    ensures role { IfOk result (λ s. IsRole (role_view s.role)) }
     ensures refused { IfErr result (IsBroken 6 (sphere_asked (entry_view entry.now))) }
 {
     let role = role_of(alloc, entry)?;

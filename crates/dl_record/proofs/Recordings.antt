@@ -3,7 +3,7 @@ use Rattle.std.proofs.Common.{◌≡◌, ℕ, ◌+◌, ◌-◌, ◌^◌, ◌<◌
 use Rattle.std.proofs.lemmas.Bool.{cases_lt, cases_eq, cases_Bool}
 use Rattle.std.proofs.lemmas.List.{length_push, get_or-set_same, get_or-set_other, set_past}
 use Rattle.std.proofs.lemmas.Option.{none-some}
-use Rattle.std.proofs.lemmas.List.Elements.{All-push, All-weaker, All-get_or}
+use Rattle.std.proofs.lemmas.List.Elements.{All-nil, All-push, All-weaker, All-get_or}
 use Rattle.dl_entry.specs.declared.input.Input.{Input}
 use Rattle.dl_entry.specs.declared.commit.Commit.{Commit}
 use Rattle.dl_entry.specs.declared.actor.Actor.{Actor}
@@ -15,12 +15,13 @@ use Rattle.spec_log.specs.declared.records.DmaRecord.{DmaRecord}
 use Rattle.spec_log.specs.declared.sizes.ShortSize.{ShortSize}
 use Rattle.spec_log.specs.declared.sizes.Sizes.{Sizes}
 use Rattle.spec_log.specs.declared.sizes.Sizes.TheVariants.{Each, Short}
-use Rattle.dl_entry.specs.Numbers.{most_threads}
-use Rattle.spec_log.specs.Log.{IsActor, IsOrder, IsSizes, IsShortSize, AreShortSizes, IsInterrupt, IsInput, AreInputs, IsDmaRecord, AreDmas, AreFewBytes}
-use Rattle.spec_log.specs.Noting.{Kept, Note, noted, order_with, short_with, sizes_with, done_with, insert_interrupt}
+use Rattle.spec_log.specs.Log.{IsSection, IsActor, IsOrder, IsSizes, IsShortSize, AreShortSizes, IsInterrupt, IsInput, AreInputs, IsDmaRecord, AreDmas, AreFewBytes}
+use Rattle.spec_log.specs.Versions.{IsVersion, IsStandard, new_threads}
+use Rattle.spec_log.specs.Noting.{Kept, Note, nothing_kept, no_sizes, noted, order_with, short_with, sizes_with, done_with, insert_interrupt}
 use Rattle.spec_log.proofs.Sections.{IsSection-push}
 use Rattle.dl_input.specs.Tracked.{Tracked, raised_at, interrupt_of}
 use Rattle.dl_mode.specs.Logged.{note_of}
+use Rattle.dl_mode.proofs.Nothing.{AreAmong-none}
 use Rattle.dl_record.specs.Recording.{IsRecording, CanCommit, IsFresh, with_input, with_dma, short_sizes}
 use Rattle.dl_record.proofs.Inserted.{IsSection-insert, length-insert}
 
@@ -35,34 +36,34 @@ done_with-few done (Thread u) n h t =
       ]
     ]
 
-order-noted : (mode : ModeName) (count : ℕ) (order : List Actor) (actor : Actor) → IsActor most_threads actor → IsOrder mode most_threads count order
-    → IsOrder mode most_threads (count + 1) (order_with mode order actor)
-order-noted OrderSize count order actor good o = (omega (arith, length_push order actor, o.0), All-push (IsActor most_threads) order actor o.1 good)
-order-noted OrderOnly count order actor good o = (omega (arith, length_push order actor, o.0), All-push (IsActor most_threads) order actor o.1 good)
-order-noted Picolog count order actor good o = o
+order-noted : (threads : ℕ) (mode : ModeName) (count : ℕ) (order : List Actor) (actor : Actor) → IsActor threads actor → IsOrder mode threads count order
+    → IsOrder mode threads (count + 1) (order_with mode order actor)
+order-noted threads OrderSize count order actor good o = (omega (arith, length_push order actor, o.0), All-push (IsActor threads) order actor o.1 good)
+order-noted threads OrderOnly count order actor good o = (omega (arith, length_push order actor, o.0), All-push (IsActor threads) order actor o.1 good)
+order-noted threads Picolog count order actor good o = o
 
-short-noted : (s count : ℕ) (sizes : List ShortSize) (done : List ℕ) (actor : Actor) (size : ℕ) (short : Bool) → IsActor most_threads actor → size ≤ s
+short-noted : (threads s count : ℕ) (sizes : List ShortSize) (done : List ℕ) (actor : Actor) (size : ℕ) (short : Bool) → IsActor threads actor → size ≤ s
     → (short ≡ true → 1 ≤ size) → count < 2 ^ 24 → ((t : ℕ) → slice_index done t ≤ count) → length sizes ≤ count
-    → AreShortSizes most_threads s sizes → AreShortSizes most_threads s (short_with sizes done actor size short)
-short-noted s count sizes done Dma size short good fits over few counts room are = are
-short-noted s count sizes done (Thread t) size false good fits over few counts room are = are
-short-noted s count sizes done (Thread t) size true good fits over few counts room are =
-    IsSection-insert (λ x. x.thread) (λ x. x.index) (IsShortSize most_threads s) (record { thread = t; index = slice_index done t; size = size }) sizes
+    → AreShortSizes threads s sizes → AreShortSizes threads s (short_with sizes done actor size short)
+short-noted threads s count sizes done Dma size short good fits over few counts room are = are
+short-noted threads s count sizes done (Thread t) size false good fits over few counts room are = are
+short-noted threads s count sizes done (Thread t) size true good fits over few counts room are =
+    IsSection-insert (λ x. x.thread) (λ x. x.index) (IsShortSize threads s) (record { thread = t; index = slice_index done t; size = size }) sizes
     (omega (arith, few, room, length-insert (λ x. x.thread) (λ x. x.index) (record { thread = t; index = slice_index done t; size = size }) sizes))
     (good, omega (arith, counts t), over refl, fits) are
 
-sizes-noted : (mode : ModeName) (s count : ℕ) (sizes : Sizes) (done : List ℕ) (note : Note) → IsActor most_threads note.actor → note.size ≤ s
+sizes-noted : (threads : ℕ) (mode : ModeName) (s count : ℕ) (sizes : Sizes) (done : List ℕ) (note : Note) → IsActor threads note.actor → note.size ≤ s
     → (note.short ≡ true → 1 ≤ note.size) → count < 2 ^ 24 → ((t : ℕ) → slice_index done t ≤ count) → length (short_sizes sizes) ≤ count
-    → IsSizes mode most_threads s count sizes → IsSizes mode most_threads s (count + 1) (sizes_with sizes done note)
-sizes-noted OrderSize s count (Each sizes) done note good fits over few counts room are =
+    → IsSizes mode threads s count sizes → IsSizes mode threads s (count + 1) (sizes_with sizes done note)
+sizes-noted threads OrderSize s count (Each sizes) done note good fits over few counts room are =
     (omega (arith, length_push sizes note.size, are.0), All-push (λ size. size ≤ s) sizes note.size are.1 fits)
-sizes-noted OrderSize s count (Short sizes) done note good fits over few counts room are = absurd are
-sizes-noted OrderOnly s count (Each sizes) done note good fits over few counts room are = absurd are
-sizes-noted OrderOnly s count (Short sizes) done note good fits over few counts room are =
-    short-noted s count sizes done note.actor note.size note.short good fits over few counts room are
-sizes-noted Picolog s count (Each sizes) done note good fits over few counts room are = absurd are
-sizes-noted Picolog s count (Short sizes) done note good fits over few counts room are =
-    short-noted s count sizes done note.actor note.size note.short good fits over few counts room are
+sizes-noted threads OrderSize s count (Short sizes) done note good fits over few counts room are = absurd are
+sizes-noted threads OrderOnly s count (Each sizes) done note good fits over few counts room are = absurd are
+sizes-noted threads OrderOnly s count (Short sizes) done note good fits over few counts room are =
+    short-noted threads s count sizes done note.actor note.size note.short good fits over few counts room are
+sizes-noted threads Picolog s count (Each sizes) done note good fits over few counts room are = absurd are
+sizes-noted threads Picolog s count (Short sizes) done note good fits over few counts room are =
+    short-noted threads s count sizes done note.actor note.size note.short good fits over few counts room are
 
 short-length : (sizes : List ShortSize) (done : List ℕ) (actor : Actor) (size : ℕ) (short : Bool) → length (short_with sizes done actor size short) ≤ length sizes + 1
 short-length sizes done Dma size short = omega arith
@@ -98,12 +99,48 @@ dmas-with dmas n (Some bytes) few h good positions are =
           (All-weaker (λ dma. dma.position < n) (λ dma. dma.position < n + 1) (λ dma l. omega arith) dmas positions) (omega arith),
     )
 
+IsSection-none : {X : Type 0} (good : X → Type 0) (before : X → X → Type 0) → IsSection good before []
+IsSection-none good before = record { few = omega arith; each = All-nil good; rising = λ k d h. absurd (omega arith) }
+
+order-none : (threads : ℕ) (mode : ModeName) → IsOrder mode threads 0 []
+order-none threads OrderSize = (refl, All-nil (IsActor threads))
+order-none threads OrderOnly = (refl, All-nil (IsActor threads))
+order-none threads Picolog = refl
+
+sizes-none : (threads s : ℕ) (mode : ModeName) → IsSizes mode threads s 0 (no_sizes mode) × (length (short_sizes (no_sizes mode)) ≡ 0)
+sizes-none threads s OrderSize = ((refl, All-nil (λ size. size ≤ s)), refl)
+sizes-none threads s OrderOnly = (IsSection-none (IsShortSize threads s) _, refl)
+sizes-none threads s Picolog = (IsSection-none (IsShortSize threads s) _, refl)
+
+-- a recording of nothing is one
+pub IsRecording-none : (version : ℕ) (mode : ModeName) (s : ℕ) → IsVersion version (new_threads version) → IsStandard version s
+    → IsRecording version mode (nothing_kept mode s) [] [] []
+IsRecording-none version mode s is_version standard =
+    let sizes = sizes-none (new_threads version) s mode in
+    record {
+      log = record {
+        version = is_version;
+        s = standard;
+        count = omega arith;
+        order = order-none (new_threads version) mode;
+        sizes = sizes.0;
+        interrupts = IsSection-none (IsInterrupt (new_threads version)) _;
+        inputs = IsSection-none IsInput _;
+        dmas = IsSection-none IsDmaRecord _;
+      };
+      done = AreAmong-none (nothing_kept mode s).done 0 refl;
+      sizes = omega (arith, sizes.1);
+      few_inputs = omega arith;
+      few_dmas = omega arith;
+      positions = All-nil (λ dma. dma.position < 0);
+    }
+
 -- a recording is still one with one more commit and its records
-pub IsRecording-commit : (mode : ModeName) (kept : Kept) (interrupts : List Interrupt) (inputs : List Input) (dmas : List DmaRecord)
+pub IsRecording-commit : (version : ℕ) (mode : ModeName) (kept : Kept) (interrupts : List Interrupt) (inputs : List Input) (dmas : List DmaRecord)
     (commit : Commit) (short : Bool) (input : Option Input) (bytes : Option (List ℕ))
-    → IsRecording mode kept interrupts inputs dmas → CanCommit kept commit short → IfThere IsInput input → IfThere AreFewBytes bytes
-    → IsRecording mode (noted mode kept (note_of commit short)) interrupts (with_input inputs input) (with_dma dmas kept.count bytes)
-IsRecording-commit mode kept interrupts inputs dmas commit short input bytes r can good few =
+    → IsRecording version mode kept interrupts inputs dmas → CanCommit version kept commit short → IfThere IsInput input → IfThere AreFewBytes bytes
+    → IsRecording version mode (noted mode kept (note_of commit short)) interrupts (with_input inputs input) (with_dma dmas kept.count bytes)
+IsRecording-commit version mode kept interrupts inputs dmas commit short input bytes r can good few =
     let i = inputs-with inputs input kept.count can.few r.few_inputs good r.log.inputs in
     let d = dmas-with dmas kept.count bytes can.few r.few_dmas few r.positions r.log.dmas in
     record {
@@ -111,8 +148,8 @@ IsRecording-commit mode kept interrupts inputs dmas commit short input bytes r c
         version = r.log.version;
         s = r.log.s;
         count = omega (arith, can.few);
-        order = order-noted mode kept.count kept.order commit.actor can.actor r.log.order;
-        sizes = sizes-noted mode kept.s kept.count kept.sizes kept.done (note_of commit short) can.actor can.size can.over can.few r.done r.sizes r.log.sizes;
+        order = order-noted (new_threads version) mode kept.count kept.order commit.actor can.actor r.log.order;
+        sizes = sizes-noted (new_threads version) mode kept.s kept.count kept.sizes kept.done (note_of commit short) can.actor can.size can.over can.few r.done r.sizes r.log.sizes;
         interrupts = r.log.interrupts;
         inputs = i.0;
         dmas = d.0;
@@ -125,10 +162,10 @@ IsRecording-commit mode kept interrupts inputs dmas commit short input bytes r c
     }
 
 -- a recording is still one with one more interrupt
-pub IsRecording-interrupt : (mode : ModeName) (kept : Kept) (interrupts : List Interrupt) (inputs : List Input) (dmas : List DmaRecord) (interrupt : Interrupt)
-    → IsRecording mode kept interrupts inputs dmas → IsInterrupt most_threads interrupt → length (insert_interrupt interrupt interrupts) < 2 ^ 32
-    → IsRecording mode kept (insert_interrupt interrupt interrupts) inputs dmas
-IsRecording-interrupt mode kept interrupts inputs dmas interrupt r good few =
+pub IsRecording-interrupt : (version : ℕ) (mode : ModeName) (kept : Kept) (interrupts : List Interrupt) (inputs : List Input) (dmas : List DmaRecord) (interrupt : Interrupt)
+    → IsRecording version mode kept interrupts inputs dmas → IsInterrupt (new_threads version) interrupt → length (insert_interrupt interrupt interrupts) < 2 ^ 32
+    → IsRecording version mode kept (insert_interrupt interrupt interrupts) inputs dmas
+IsRecording-interrupt version mode kept interrupts inputs dmas interrupt r good few =
     record {
       log = record {
         version = r.log.version;
@@ -136,7 +173,7 @@ IsRecording-interrupt mode kept interrupts inputs dmas interrupt r good few =
         count = r.log.count;
         order = r.log.order;
         sizes = r.log.sizes;
-        interrupts = IsSection-insert (λ i. i.thread) (λ i. i.index) (IsInterrupt most_threads) interrupt interrupts few good r.log.interrupts;
+        interrupts = IsSection-insert (λ i. i.thread) (λ i. i.index) (IsInterrupt (new_threads version)) interrupt interrupts few good r.log.interrupts;
         inputs = r.log.inputs;
         dmas = r.log.dmas;
       };

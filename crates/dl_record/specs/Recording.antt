@@ -8,12 +8,14 @@ use Rattle.spec_log.specs.declared.records.DmaRecord.{DmaRecord}
 use Rattle.spec_log.specs.declared.sizes.ShortSize.{ShortSize}
 use Rattle.spec_log.specs.declared.sizes.Sizes.{Sizes}
 use Rattle.spec_log.specs.declared.sizes.Sizes.TheVariants.{Each, Short}
-use Rattle.dl_entry.specs.Numbers.{most_threads}
 use Rattle.spec_log.specs.Log.{IsActor, IsLog}
+use Rattle.spec_log.specs.Versions.{new_threads}
 use Rattle.spec_log.specs.Noting.{Kept, log_of}
 
--- what is kept of the commits, the records, and whether there is room for one commit with its records, and for one interrupt
+-- the version, what is kept of the commits, the records, and whether there is room for one commit with its records, and for
+-- one interrupt
 pub record Recording : Type 0 where
+  pub version : ℕ
   pub kept : Kept
   pub interrupts : List Interrupt
   pub inputs : List Input
@@ -21,10 +23,10 @@ pub record Recording : Type 0 where
   pub room : Bool
   pub interrupt_room : Bool
 
--- a commit that can be noted: of an actor of a log, no larger than a standard chunk, over 0 if it is short, and with
--- fewer than 2^24 commits before it
-pub record CanCommit (kept : Kept) (commit : Commit) (short : Bool) : Type 0 where
-  pub actor : IsActor most_threads commit.actor
+-- a commit that can be noted: of an actor of a log of the version, no larger than a standard chunk, over 0 if it is short,
+-- and with fewer than 2^24 commits before it
+pub record CanCommit (version : ℕ) (kept : Kept) (commit : Commit) (short : Bool) : Type 0 where
+  pub actor : IsActor (new_threads version) commit.actor
   pub size : commit.size ≤ kept.s
   pub over : short ≡ true → 1 ≤ commit.size
   pub few : kept.count < 2 ^ 24
@@ -44,8 +46,8 @@ short_sizes (Each sizes) = []
 short_sizes (Short sizes) = sizes
 
 -- what a recorder holds together: a log, of which no part has more entries than there are commits
-pub record IsRecording (mode : ModeName) (kept : Kept) (interrupts : List Interrupt) (inputs : List Input) (dmas : List DmaRecord) : Type 0 where
-  pub log : IsLog (log_of mode kept interrupts inputs dmas)
+pub record IsRecording (version : ℕ) (mode : ModeName) (kept : Kept) (interrupts : List Interrupt) (inputs : List Input) (dmas : List DmaRecord) : Type 0 where
+  pub log : IsLog (log_of version (new_threads version) mode kept interrupts inputs dmas)
   pub done : (t : ℕ) → slice_index kept.done t ≤ kept.count
   pub sizes : length (short_sizes kept.sizes) ≤ kept.count
   pub few_inputs : length inputs ≤ kept.count

@@ -1,4 +1,4 @@
-//! Recording: the log of the commits and interrupts that are noted, in any mode.
+//! Recording: the log of the commits and interrupts that are noted, in either version and in any mode.
 #![tactic(auto)]
 
 mod recorder;

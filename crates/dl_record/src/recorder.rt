@@ -1,12 +1,12 @@
 //! The recorder of a sphere.
 ghost use Rattle.std.specs.Prelude.{◌≡◌, ◌^◌, ◌+◌, [], IfOk, IfSome, IsOk, IsTrue, OnOk, OnErr, ◌<◌, option_map, All};
-ghost use Rattle.dl_entry.specs.Numbers.{most_threads};
-ghost use Rattle.spec_log.specs.Log.{IsStandard, IsInput, AreFewBytes};
+ghost use Rattle.spec_log.specs.Log.{IsInput, AreFewBytes};
+ghost use Rattle.spec_log.specs.Versions.{IsVersion, IsStandard, new_threads as threads_of};
 ghost use Rattle.spec_log.specs.Noting.{nothing_kept, noted, insert_interrupt, log_of};
 ghost use Rattle.dl_mode.specs.Logged.{note_of};
 ghost use Rattle.dl_record.specs.Recording.{CanCommit, IsFresh, interrupt, with_input, with_dma};
 
-use dl_entry::{Commit, Input, MOST_THREADS, OutOfMemory};
+use dl_entry::{Commit, Input, MOST_THREADS, OutOfMemory, PLAIN_THREADS};
 use dl_input::{Dmas, Inputs, Interrupts};
 use dl_mode::Noting;
 use spec_log::{Log, LogParts};
@@ -17,6 +17,7 @@ use std::marker::Model;
 #[derive(Drop)]
 pub struct Recorder<M: Noting> {
     alloc: Global,
+    version: u8,
     count: u32,
     log: M::Log,
     interrupts: Interrupts,
@@ -32,6 +33,7 @@ impl<M: Noting> Model for Recorder<M> {
     ghost Value = { Recording };
 
     ghost view = { λ r. record {
+      version = r.version;
       kept = (M.logged r.log).kept;
       interrupts = map interrupt_of r.interrupts.entries;
       inputs = r.inputs.inputs;
@@ -41,14 +43,16 @@ impl<M: Noting> Model for Recorder<M> {
     } };
 
     ghost invariant = { λ r.
-        IsRecording M.mode (M.logged r.log).kept (map interrupt_of r.interrupts.entries) r.inputs.inputs r.dmas.dmas
+        IsRecording r.version M.mode (M.logged r.log).kept (map interrupt_of r.interrupts.entries) r.inputs.inputs r.dmas.dmas
         × (r.count ≡ (M.logged r.log).kept.count) };
 }
 
 impl<M: Noting> Recorder<M> {
-    /// Nothing is noted yet; a standard chunk has `s` instructions.
-    pub fn new(alloc: Global, s: u32) -> Result<Recorder<M>, OutOfMemory>
-        requires { IsStandard 1 s }
+    /// Nothing is noted yet, for a log of this version, 1 or 2; a standard chunk has `s` instructions.
+    pub fn new(alloc: Global, version: u8, s: u32) -> Result<Recorder<M>, OutOfMemory>
+        requires version { IsVersion version (threads_of version) }
+        requires s { IsStandard version s }
+        ensures version { IfOk result (λ recorder. recorder.version ≡ version) }
         ensures kept { IfOk result (λ recorder. recorder.kept ≡ nothing_kept M.mode s) }
         ensures interrupts { IfOk result (λ recorder. recorder.interrupts ≡ []) }
         ensures inputs { IfOk result (λ recorder. recorder.inputs ≡ []) }
@@ -56,6 +60,7 @@ impl<M: Noting> Recorder<M> {
     {
         Ok(Recorder {
             alloc,
+            version,
             count: 0,
             log: M::new(alloc, s)?,
             interrupts: Interrupts::new(alloc)?,
@@ -66,6 +71,7 @@ impl<M: Noting> Recorder<M> {
 
     /// Makes room for one commit with its records, and one interrupt. If there is already room for both, it isn't refused.
     pub fn reserve(&mut self) -> Result<(), OutOfMemory>
+        ensures version { self.new.version ≡ self.old.version }
         ensures kept { self.new.kept ≡ self.old.kept }
         ensures interrupts { self.new.interrupts ≡ self.old.interrupts }
         ensures inputs { self.new.inputs ≡ self.old.inputs }
@@ -88,7 +94,7 @@ impl<M: Noting> Recorder<M> {
         input: Option<&Input>,
         dma: Option<&[u8]>,
     ) -> Result<(), OutOfMemory>
-        requires commit { CanCommit self.old.kept commit.now closed_short }
+        requires commit { CanCommit self.old.version self.old.kept commit.now closed_short }
         requires input { IfSome input (λ i. IsInput i.now) }
         requires dma { IfSome dma (λ bytes. AreFewBytes bytes.now) }
         ensures kept { OnOk result (self.new.kept ≡ noted M.mode self.old.kept (note_of commit.now closed_short)) }
@@ -97,6 +103,7 @@ impl<M: Noting> Recorder<M> {
         ensures kept_still { OnErr result (self.new.kept ≡ self.old.kept) }
         ensures inputs_still { OnErr result (self.new.inputs ≡ self.old.inputs) }
         ensures dmas_still { OnErr result (self.new.dmas ≡ self.old.dmas) }
+        ensures version { self.new.version ≡ self.old.version }
         ensures interrupts { self.new.interrupts ≡ self.old.interrupts }
         ensures room { IsTrue self.old.room → IsOk result }
         ensures interrupt_room { self.new.interrupt_room ≡ self.old.interrupt_room }
@@ -112,11 +119,12 @@ impl<M: Noting> Recorder<M> {
 
     /// Notes an interrupt of a new moment. If there is room, it isn't refused.
     pub fn interrupt(&mut self, thread: u8, index: u32, value: u32) -> Result<(), OutOfMemory>
-        requires thread { thread < most_threads }
+        requires thread { thread < threads_of self.old.version }
         requires fresh { IsFresh self.old.interrupts thread index }
         ensures ok { let interrupt = interrupt thread index value in
             OnOk result (self.new.interrupts ≡ insert_interrupt interrupt self.old.interrupts) }
         ensures err { OnErr result (self.new.interrupts ≡ self.old.interrupts) }
+        ensures version { self.new.version ≡ self.old.version }
         ensures kept { self.new.kept ≡ self.old.kept }
         ensures inputs { self.new.inputs ≡ self.old.inputs }
         ensures dmas { self.new.dmas ≡ self.old.dmas }
@@ -126,14 +134,22 @@ impl<M: Noting> Recorder<M> {
         self.interrupts.note(thread, index, value)
     }
 
+    /// How many threads its log may have.
+    pub fn threads(&self) -> u8
+        ensures { result ≡ threads_of self.now.version }
+    {
+        new_threads(self.version)
+    }
+
     /// The log of what was noted.
     pub fn finish(&self) -> Result<Log, OutOfMemory>
-        ensures { IfOk result (λ log. log ≡ log_of M.mode self.now.kept self.now.interrupts self.now.inputs self.now.dmas) }
+        ensures { IfOk result (λ log. log ≡ log_of self.now.version (threads_of self.now.version)
+            M.mode self.now.kept self.now.interrupts self.now.inputs self.now.dmas) }
     {
         let lists = M::lists(self.alloc, &self.log)?;
         Ok(Log::new(LogParts {
-            version: 1,
-            threads: MOST_THREADS,
+            version: self.version,
+            threads: self.threads(),
             mode: lists.mode,
             s: lists.s,
             count: lists.count,
@@ -143,6 +159,17 @@ impl<M: Noting> Recorder<M> {
             inputs: self.inputs.list(self.alloc)?,
             dmas: self.dmas.list(self.alloc)?,
         }))
+    }
+}
+
+/// How many threads a new log of this version may have.
+fn new_threads(version: u8) -> u8
+    ensures { result ≡ threads_of version }
+{
+    if version == 1 {
+        PLAIN_THREADS
+    } else {
+        MOST_THREADS
     }
 }
 

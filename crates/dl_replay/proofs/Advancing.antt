@@ -1,8 +1,7 @@
 -- With one commit more, the threads and the replay are what judging that commit makes of them.
-use Rattle.std.proofs.Common.{◌≡◌, ℕ, zero, suc, ◌+◌, ◌<◌, ◌≤◌, Bool, true, false, List, [], ◌∷◌, ◌++◌, length, slice_get, slice_index, nat_lt, cond, Option, Some, None, Ok, refl, ap, sym, subst, ◌∙◌, arith, add-one}
+use Rattle.std.proofs.Common.{◌≡◌, ℕ, zero, suc, ◌+◌, ◌<◌, ◌≤◌, Bool, true, false, List, [], ◌∷◌, ◌++◌, length, slice_get, slice_index, nat_lt, cond, Option, Some, None, Ok, inl, inr, refl, ap, sym, subst, ◌∙◌, arith, add-one}
 use Rattle.std.specs.Prelude.{slice_set}
-use Rattle.std.specs.Option.{OnSome}
-use Rattle.std.proofs.lemmas.List.{length-append, length-set}
+use Rattle.std.proofs.lemmas.Bool.{cases_Bool, ltb-true, true≢false}
 use Rattle.dl_entry.specs.declared.commit.Commit.{Commit}
 use Rattle.spec_isa.specs.declared.thread.Parts.{Parts}
 use Rattle.dl_entry.specs.declared.actor.Actor.{Actor}
@@ -11,6 +10,8 @@ use Rattle.dl_wbuf.specs.Buffers.{Words}
 use Rattle.spec_isa.specs.Threads.{started}
 use Rattle.spec_isa.specs.Runs.{Run}
 use Rattle.spec_log.specs.Head.{head}
+use Rattle.spec_log.specs.Log.{IsLog}
+use Rattle.spec_protocol.specs.machine.Spheres.{is_over}
 use Rattle.spec_log.specs.declared.sizes.ShortSize.{ShortSize}
 use Rattle.spec_log.specs.declared.sizes.Sizes.{Sizes}
 use Rattle.spec_log.specs.declared.sizes.Sizes.TheVariants.{Each, Short}
@@ -21,11 +22,10 @@ use Rattle.spec_play.specs.Progress.{Progress, position, no_progress, with_effec
 use Rattle.spec_play.specs.Transfers.{DmaVerdict, DmaGoes}
 use Rattle.spec_play.specs.Turns.{TurnOrEnd, now_at, turn_of, at_end, is_size_used, are_sizes_used, has_left_over}
 use Rattle.spec_play.specs.Verdicts.{LogVerdict, Goes}
-use Rattle.spec_protocol.proofs.Moves.Threads.{AreNew}
 use Rattle.dl_kernel.specs.Calls.{spawned_list}
 use Rattle.dl_replay.specs.Served.{Served}
 use Rattle.dl_replay.specs.Replaying.{Replaying, Agrees, replay_start, commits_at, commits_of}
-use Rattle.dl_replay.specs.Replays.{now_for, advanced}
+use Rattle.dl_replay.specs.Replays.{now_for, advanced, IsReplaying}
 use Rattle.dl_kernel.specs.StepResults.{result_in}
 use Rattle.dl_replay.specs.declared.verdict.Verdict.{Verdict}
 use Rattle.dl_replay.specs.declared.verdict.Verdict.TheVariants.{Went}
@@ -61,54 +61,28 @@ one-used : (u : Used) → record u { dmas = u.dmas + 1 } ≡ with_dma_used u
 one-used u = ap (λ (n : ℕ). record u { dmas = n }) (add-one u.dmas)
 
 -- one record of DMAs more is taken by a replay that is the same
-pub advanced-same : (r same new : Replaying) (ts : List Parts) → same ≡ r → new ≡ advanced r.log (r.done + 1) same.last (record same.used { dmas = same.used.dmas + 1 }) ts
+pub advanced-same : (r same new : Replaying) (ts : List Parts) → same ≡ r → new ≡ advanced r.log (r.done + 1) r.last (record same.used { dmas = same.used.dmas + 1 }) ts
     → new ≡ advanced r.log (r.done + 1) r.last (with_dma_used r.used) ts
 advanced-same r same new ts e m =
-    m ∙ ap (λ (x : Replaying). advanced r.log (r.done + 1) x.last (record x.used { dmas = x.used.dmas + 1 }) ts) e
+    m ∙ ap (λ (x : Replaying). advanced r.log (r.done + 1) r.last (record x.used { dmas = x.used.dmas + 1 }) ts) e
     ∙ ap (λ (u : Used). advanced r.log (r.done + 1) r.last u ts) (one-used r.used)
 
 -- ---- the threads
 
-abbrev AreBelow : ℕ → List Parts → Type 0
-AreBelow n ts = (j : ℕ) → commits_at (slice_get ts j) ≤ n
-
-spawned-below : (n : ℕ) (spawned : Option Parts) → AreNew (spawned_list spawned) → AreBelow n (spawned_list spawned)
-spawned-below n None new j = omega arith
-spawned-below n (Some t) new zero = omega (arith, new.0.commits)
-spawned-below n (Some t) new (suc j) = omega arith
-
-append-below : (n : ℕ) (ts us : List Parts) → AreBelow n ts → AreBelow n us → AreBelow n (ts ++ us)
-append-below n [] us h l j = l j
-append-below n (t ∷ ts) us h l zero = h 0
-append-below n (t ∷ ts) us h l (suc j) = append-below n ts us (λ i. h (suc i)) l j
-
-set-below : (n : ℕ) (ts : List Parts) (k : ℕ) (t : Parts) → AreBelow n ts → t.commits ≤ n + 1 → AreBelow (n + 1) (slice_set ts k t)
-set-below n [] k t h l j = omega arith
-set-below n (x ∷ ts) zero t h l zero = l
-set-below n (x ∷ ts) zero t h l (suc j) = omega (arith, h (suc j))
-set-below n (x ∷ ts) (suc k) t h l zero = omega (arith, h 0)
-set-below n (x ∷ ts) (suc k) t h l (suc j) = set-below n ts k t (λ i. h (suc i)) l j
-
 -- a thread has done no more commits than the bound on all counts of commits
-pub thread-below : (n : ℕ) (ts : List Parts) (commits : List ℕ) (k : ℕ) (t : Parts) → length ts ≤ 15 → commits ≡ commits_of ts → ((j : ℕ) → slice_index commits j ≤ n)
+pub thread-below : (n : ℕ) (ts : List Parts) (commits : List ℕ) (k : ℕ) (t : Parts) → length ts ≤ 63 → commits ≡ commits_of ts → ((j : ℕ) → slice_index commits j ≤ n)
     → slice_get ts k ≡ Some t → t.commits ≤ n
 thread-below n ts commits k t few e h is =
     let same : slice_index commits k ≡ t.commits = ap (λ (xs : List ℕ). slice_index xs k) e ∙ commits-found ts k few ∙ ap commits_at is in
     omega (arith, same, h k)
 
-settled-few : (ts : List Parts) (k : ℕ) (t : Parts) (spawned : Option Parts) → length ts ≤ 15 → OnSome spawned (length ts < 15) → length (slice_set ts k t ++ spawned_list spawned) ≤ 15
-settled-few ts k t None few room = omega (arith, length-append (slice_set ts k t) [], length-set ts k t)
-settled-few ts k t (Some u) few room = omega (arith, length-append (slice_set ts k t) (u ∷ []), length-set ts k t)
-
--- no thread has done more than one commit more than before
-pub settled-below : (n : ℕ) (ts us : List Parts) (commits : List ℕ) (k : ℕ) (t : Parts) (spawned : Option Parts) → length ts ≤ 15 → OnSome spawned (length ts < 15) → commits ≡ commits_of ts
-    → ((j : ℕ) → slice_index commits j ≤ n) → t.commits ≤ n + 1 → AreNew (spawned_list spawned) → us ≡ slice_set ts k t ++ spawned_list spawned
-    → (j : ℕ) → slice_index (commits_of us) j ≤ n + 1
-settled-below n ts us commits k t spawned few room e h l new is j =
-    let before : AreBelow n ts = λ i. let same : slice_index commits i ≡ commits_at (slice_get ts i) = ap (λ (xs : List ℕ). slice_index xs i) e ∙ commits-found ts i few in omega (arith, same, h i) in
-    let after : AreBelow (n + 1) us = subst (AreBelow (n + 1)) (sym is) (append-below (n + 1) (slice_set ts k t) (spawned_list spawned) (set-below n ts k t before l) (spawned-below (n + 1) spawned new)) in
-    let few2 : length us ≤ 15 = rw is (settled-few ts k t spawned few room) in
-    omega (arith, commits-found us j few2, after j)
+-- where one count has grown by at most one, none is over the bound by more than one
+pub counted-below : (n : ℕ) (commits : List ℕ) (k m : ℕ) → ((j : ℕ) → slice_index commits j ≤ n) → m ≤ n + 1 → (j : ℕ) → slice_index (slice_set commits k m) j ≤ n + 1
+counted-below n [] k m h l j = omega arith
+counted-below n (c ∷ cs) zero m h l zero = l
+counted-below n (c ∷ cs) zero m h l (suc j) = omega (arith, h (suc j))
+counted-below n (c ∷ cs) (suc k) m h l zero = omega (arith, h 0)
+counted-below n (c ∷ cs) (suc k) m h l (suc j) = counted-below n cs k m (λ i. h (suc i)) l j
 
 -- ---- what is answered
 
@@ -206,5 +180,32 @@ now-any entry log false o = ap (at_end 0) (left-any entry log nothing_used)
 -- a replay begins the same, whatever the entry
 pub replay_start-is : (log : LogParts) (entry : ℕ) → advanced log 0 None nothing_used (started 0 ∷ []) ≡ replay_start log entry
 replay_start-is log entry =
-    ap (λ (n : TurnOrEnd). record { log = log; used = nothing_used; now = n; total = 0; done = 0; last = None; commits = 0 ∷ 0 ∷ 0 ∷ 0 ∷ 0 ∷ 0 ∷ 0 ∷ 0 ∷ 0 ∷ 0 ∷ 0 ∷ 0 ∷ 0 ∷ 0 ∷ 0 ∷ [] })
+    ap (λ (n : TurnOrEnd). record { log = log; used = nothing_used; now = n; total = 0; done = 0; last = None; commits = commits_of (started 0 ∷ []) })
     (now-any entry log (nat_lt 0 log.count) (head log 0 None (true ∷ [])) ∙ now-is log no_progress nothing_used (started entry ∷ []) 0 None refl refl)
+
+end_over : (done : ℕ) (left_over : Bool) → is_over (at_end done left_over) ≡ true
+end_over done true = refl
+end_over done false = refl
+
+-- a replay that isn't over has commits left
+now-left : (log : LogParts) (done : ℕ) (last : Option ℕ) (u : Used) (ts : List Parts) → is_over (now_for log done last u ts) ≡ false → done < log.count
+now-left log done last u ts e =
+    elim (cases_Bool (nat_lt done log.count)) [
+      | inl before ↦ ltb-true done log.count before
+      | inr past ↦ absurd (true≢false (sym (end_over done (has_left_over log u ts)) ∙ rw past at e))
+    ]
+
+none-done : (k : ℕ) → commits_at (slice_get (started 0 ∷ []) k) ≡ 0
+none-done zero = refl
+none-done (suc k) = refl
+
+-- a replay stands before its first commit
+pub start-stands : (log : LogParts) → IsLog log → IsReplaying (advanced log 0 None nothing_used (started 0 ∷ []))
+start-stands log is =
+    record {
+      is_log = is;
+      within = omega arith;
+      left = now-left log 0 None nothing_used (started 0 ∷ []);
+      commits = λ k. omega (arith, commits-found (started 0 ∷ []) k (omega arith), none-done k);
+      interrupts = omega arith;
+    }

@@ -4,6 +4,7 @@ pub mod Counts
 pub mod Answered
 mod Turns
 mod Verdicts
+mod Kept
 mod Lists
 mod Limits
 mod Advancing

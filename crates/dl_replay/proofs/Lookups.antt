@@ -16,10 +16,10 @@ use Rattle.dl_input.specs.Dmas.{bytes_at}
 use Rattle.dl_input.specs.Tracked.{Tracked, raised_at, interrupt_of}
 
 -- the size that is kept of an actor's commit is the one that the log has
-pub size-is : (mode : ModeName) (kept : Kept) (interrupts : List Interrupt) (inputs : List Input) (dmas : List DmaRecord) (actor : Actor) (index : ℕ)
-    → kept_size kept actor index ≡ size_in (log_of mode kept interrupts inputs dmas) actor index
-size-is mode kept interrupts inputs dmas (Actor.Thread thread) index = refl
-size-is mode kept interrupts inputs dmas Actor.Dma index = refl
+pub size-is : (version threads : ℕ) (mode : ModeName) (kept : Kept) (interrupts : List Interrupt) (inputs : List Input) (dmas : List DmaRecord) (actor : Actor) (index : ℕ)
+    → kept_size kept actor index ≡ size_in (log_of version threads mode kept interrupts inputs dmas) actor index
+size-is version threads mode kept interrupts inputs dmas (Actor.Thread thread) index = refl
+size-is version threads mode kept interrupts inputs dmas Actor.Dma index = refl
 
 -- the value that is held at a moment is that of the log's interrupt
 pub interrupt-is : (entries : List Tracked) (thread commits : ℕ)
@@ -49,9 +49,9 @@ dma-is position dmas now None h = sym (ap is_some h) ∙ dma-found position dmas
 dma-is position dmas now (Some b) h = sym (ap is_some h) ∙ dma-found position dmas
 
 -- the head by what a mode keeps is the head by the log
-pub head-is : (mode : ModeName) (kept : Kept) (interrupts : List Interrupt) (inputs : List Input) (dmas : List DmaRecord)
+pub head-is : (version threads : ℕ) (mode : ModeName) (kept : Kept) (interrupts : List Interrupt) (inputs : List Input) (dmas : List DmaRecord)
     (position : ℕ) (last : Option ℕ) (live : List Bool)
-    → kept_head mode kept.order position (is_dma_at dmas position) last live ≡ head (log_of mode kept interrupts inputs dmas) position last live
-head-is OrderSize kept interrupts inputs dmas position last live = refl
-head-is OrderOnly kept interrupts inputs dmas position last live = refl
-head-is Picolog kept interrupts inputs dmas position last live = refl
+    → kept_head mode kept.order position (is_dma_at dmas position) last live ≡ head (log_of version threads mode kept interrupts inputs dmas) position last live
+head-is version threads OrderSize kept interrupts inputs dmas position last live = refl
+head-is version threads OrderOnly kept interrupts inputs dmas position last live = refl
+head-is version threads Picolog kept interrupts inputs dmas position last live = refl

@@ -17,4 +17,4 @@ pub same_commits : (ts : List Parts) (k : ℕ) (s t : Parts) → slice_get ts k 
 same_commits ts k s t is same =
     let f : Parts → ℕ = λ p. p.commits in
     let at : f s ≡ f (get_or ts k t) = same ∙ sym (ap f (get_or_from_slice_get ts k t t is)) in
-    ap (λ xs. xs ++ replicate (15 - length (set ts k s)) 0) (map-set_same f ts k s t at) ∙ ap (λ n. map f ts ++ replicate (15 - n) 0) (length-set ts k s)
+    ap (λ xs. xs ++ replicate (63 - length (set ts k s)) 0) (map-set_same f ts k s t at) ∙ ap (λ n. map f ts ++ replicate (63 - n) 0) (length-set ts k s)

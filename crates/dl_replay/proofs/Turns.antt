@@ -21,7 +21,7 @@ each-used Picolog t s count sizes ts e are = cc
 
 -- in a mode that keeps short sizes, all are used just where the threads have done those commits
 pub short-used : (mode : ModeName) (t s count : ℕ) (sizes : Sizes) (order : List Actor) (commits : List ℕ) (ts : List Parts) → (mode ≡ OrderSize → ⊥)
-    → IsSizes mode t s count sizes → length ts ≤ 15 → commits ≡ commits_of ts → sizes_used order sizes commits ≡ are_sizes_used ts sizes
+    → IsSizes mode t s count sizes → length ts ≤ 63 → commits ≡ commits_of ts → sizes_used order sizes commits ≡ are_sizes_used ts sizes
 short-used OrderSize t s count sizes order commits ts e are h is = absurd (e refl)
 short-used OrderOnly t s count (Each sizes) order commits ts e are h is = absurd are
 short-used OrderOnly t s count (Short sizes) order commits ts e are h is = rw is (sizes-used ts sizes h)

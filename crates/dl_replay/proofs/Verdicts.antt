@@ -1,6 +1,5 @@
 -- A verdict is found step by step: by the logged size, by what is given, and by what stands at the end.
 use Rattle.std.proofs.Common.{◌≡◌, ℕ, true, false, List, Option, Some, None, slice_get, refl, ap, sym, ◌∙◌}
-use Rattle.dl_entry.specs.Numbers.{most_threads}
 use Rattle.dl_entry.specs.declared.actor.Actor.{Actor}
 use Rattle.dl_entry.specs.declared.input.Request.{Request}
 use Rattle.dl_entry.specs.declared.end.Why.{Why}
@@ -44,9 +43,9 @@ module _ (log : LogParts) (p : Progress) (u : Used) (k : ℕ) where
     -- a serial step that is done with the input that the log gives has the verdict of the definitions
     pub step-is : (request : Option Request) (g : TakenRecord) (left : StepResult) (out : LogVerdict)
         → p.request ≡ request → None ≡ serial_why (size_in log (Actor.Thread k) t.commits) → Some g ≡ given (need t m) (slice_get log.inputs u.inputs) u
-        → left ≡ serve most_threads k threads request t m g.input → out ≡ ended log k (serial_effect k left) g.used → out ≡ serial_verdict log p u k threads t m
+        → left ≡ serve log.threads k threads request t m g.input → out ≡ ended log k (serial_effect k left) g.used → out ≡ serial_verdict log p u k threads t m
     step-is request g left out q e f l o =
-        o ∙ ap (λ (v : StepResult). ended log k (serial_effect k v) g.used) (l ∙ ap (λ (x : Option Request). serve most_threads k threads x t m g.input) (sym q))
+        o ∙ ap (λ (v : StepResult). ended log k (serial_effect k v) g.used) (l ∙ ap (λ (x : Option Request). serve log.threads k threads x t m g.input) (sym q))
         ∙ sym (serial-is None (Some g) e f)
 
 -- a DMA is judged by its logged size, and then by the request and its record

@@ -14,7 +14,7 @@ ghost use Rattle.dl_replay.specs.Judging.{verdict_of, given_by, step_verdict, tr
 
 use crate::lookup::Lookup;
 use crate::place::{LogPlace, Used};
-use dl_entry::{Actor, Input, MOST_THREADS, OutOfMemory, Request, Why};
+use dl_entry::{Actor, Input, OutOfMemory, Request, Why};
 use dl_kernel::{
     Injected, Step, StepResult, counted, dma_words, inject, interrupted, serve, takes_interrupt,
     wants_record,
@@ -109,7 +109,7 @@ pub struct Taken<'a> {
     pub used: Used,
 }
 
-/// Judges a serial step, and does it apart from the sphere.
+/// Judges a serial step, and does it apart from the sphere. Spawn is refused at as many threads as the log may have.
 pub fn judge_step<M: Mode>(
     alloc: Global,
     log: &Lookup<M>,
@@ -132,7 +132,7 @@ pub fn judge_step<M: Mode>(
     let Some(given) = given(log, used, &step.thread, step.memory) else {
         return Ok(Err(Why::Input));
     };
-    let left = serve(alloc, step, given.input, MOST_THREADS)?;
+    let left = serve(alloc, step, given.input, log.threads())?;
     match ended(log, step.number, &counted(&left.thread), given.used) {
         Ok(finish) => Ok(Ok(Done { left, finish })),
         Err(why) => Ok(Err(why)),

@@ -21,8 +21,11 @@ use std::marker::Model;
 /// A log of a mode, seen as its parts.
 #[derive(Drop)]
 pub struct Lookup<M: Mode> {
-    log: M::Log,
+    version: u8,
+    threads: u8,
+    s: u32,
     count: u32,
+    log: M::Log,
     interrupts: Interrupts,
     inputs: Inputs,
     dmas: Dmas,
@@ -37,11 +40,11 @@ impl<M: Mode> Model for Lookup<M> {
 
     ghost Value = { LogParts };
 
-    ghost view = { λ l. log_of M.mode (M.logged l.log).kept (map interrupt_of l.interrupts.entries) l.inputs.inputs l.dmas.dmas };
+    ghost view = { λ l. log_of l.version l.threads M.mode (M.logged l.log).kept (map interrupt_of l.interrupts.entries) l.inputs.inputs l.dmas.dmas };
 
     ghost invariant = { λ l.
-        IsLog (log_of M.mode (M.logged l.log).kept (map interrupt_of l.interrupts.entries) l.inputs.inputs l.dmas.dmas)
-        × (l.count ≡ (M.logged l.log).kept.count) };
+        IsLog (log_of l.version l.threads M.mode (M.logged l.log).kept (map interrupt_of l.interrupts.entries) l.inputs.inputs l.dmas.dmas)
+        × (l.s ≡ (M.logged l.log).kept.s) × (l.count ≡ (M.logged l.log).kept.count) };
 }
 
 impl<M: Noting> Lookup<M> {
@@ -51,8 +54,11 @@ impl<M: Noting> Lookup<M> {
     {
         let parts = log.parts();
         Ok(Lookup {
-            log: kept_of::<M>(alloc, parts)?,
+            version: parts.version,
+            threads: parts.threads,
+            s: parts.s,
             count: parts.count,
+            log: kept_of::<M>(alloc, parts)?,
             interrupts: interrupts_of(alloc, parts.interrupts.as_slice())?,
             inputs: inputs_of(alloc, parts.inputs.as_slice())?,
             dmas: dmas_of(alloc, parts.dmas.as_slice())?,
@@ -68,6 +74,21 @@ impl<M: Mode> Lookup<M> {
         ensures mode { self.now.mode ≡ M.mode }
     {
         self.count
+    }
+
+    /// How many threads it may have.
+    pub fn threads(&self) -> u8
+        ensures value { result ≡ self.now.threads }
+        ensures few { result ≤ most_threads }
+    {
+        self.threads
+    }
+
+    /// The standard size of its chunks.
+    pub fn standard(&self) -> u32
+        ensures { result ≡ self.now.s }
+    {
+        self.s
     }
 
     /// The logged size of an actor's commit: of a thread by the number of its commits before, of a DMA by its position.

@@ -104,6 +104,21 @@ impl<M: Mode> Replayer<M> {
         }
     }
 
+    /// How many threads the log may have.
+    pub fn threads(&self) -> u8
+        ensures value { result ≡ self.now.log.threads }
+        ensures few { result ≤ most_threads }
+    {
+        self.log.threads()
+    }
+
+    /// The standard size of the log's chunks, in instructions.
+    pub fn standard(&self) -> u32
+        ensures { result ≡ self.now.log.s }
+    {
+        self.log.standard()
+    }
+
     /// How many instructions a chunk of the thread may run: the logged size, or else a standard chunk's, and 1 at least. It is
     /// of the thread's present commit, less the pieces before it; or of the commit after that one.
     pub fn limit(&self, thread: u8, after: bool) -> u32
@@ -112,6 +127,7 @@ impl<M: Mode> Replayer<M> {
         ensures of_thread { (s : ℕ) (loads : List Load) (threads : List Parts) (t : Parts) →
             length threads ≤ most_threads → self.now.commits ≡ commits_of threads → slice_get threads thread ≡ Some t →
             result ≡ chunk_limit after s (Replay (cursor_of self.now loads)) thread t }
+        ensures most { result ≤ self.now.log.s }
     {
         let commits = self.commits_of(thread);
         if after {
@@ -156,6 +172,7 @@ impl<M: Mode> Replayer<M> {
         requires turn { self.old.now ≡ Turn number }
         requires thread { number < length threads.old }
         requires commits { self.old.commits ≡ commits_of threads.old }
+        ensures log { self.new.log ≡ self.old.log }
         ensures threads_left { (why : Why) → result ≡ Verdict.Diverged why → threads.new ≡ threads.old }
         ensures judged { (p : Progress) (before : List Parts) (r : Run) (request : Option Request) (served : Served) →
             Agrees self.old p → p.request ≡ request → HasRun before threads.old number total r →
@@ -187,6 +204,7 @@ impl<M: Mode> Replayer<M> {
             let v = serial_verdict self.old.log p self.old.used number threads.old t memory.now in
             IfOk result (λ r. record { verdict = verdict_left r; replay = self.new; threads = threads.new; request = request.new; served = served_left r }
             ≡ serial_judged self.old p number threads.old request.old nothing_served v) }
+        ensures log { self.new.log ≡ self.old.log }
         ensures replay_still { OnErr result (self.new ≡ self.old) }
         ensures threads_still { OnErr result (threads.new ≡ threads.old) }
         ensures request_still { OnErr result (request.new ≡ request.old) }
@@ -226,6 +244,7 @@ impl<M: Mode> Replayer<M> {
             let v = dma_verdict self.old.log p self.old.used in
             IfOk result (λ r. record { verdict = verdict_stored r; replay = self.new; threads = threads.now; request = request.new; served = served_stored r }
             ≡ dma_judged self.old p threads.now request.old nothing_served v) }
+        ensures log { self.new.log ≡ self.old.log }
         ensures replay_still { OnErr result (self.new ≡ self.old) }
         ensures request_still { OnErr result (request.new ≡ request.old) }
     {
@@ -239,7 +258,7 @@ impl<M: Mode> Replayer<M> {
                     dmas: place.used.dmas + 1,
                     ..place.used
                 };
-                self.advance(used, place.last, threads);
+                self.advance(used, threads);
                 Ok(Ok(words))
             }
             Err(why) => {
@@ -304,26 +323,32 @@ impl<M: Mode> Replayer<M> {
         ensures replay { self.new ≡ advanced self.old.log (self.old.done + 1) (Some number) (used_seen finish.now.used) threads.new }
     {
         settle(threads, number, &finish.thread, spawned);
-        self.advance(finish.used, Some(number), threads)
+        // no other thread has done more than before, and one that was spawned has done none
+        self.commits[usize::from(number)] = finish.thread.commits();
+        self.place = LogPlace {
+            used: finish.used,
+            done: self.place.done + 1,
+            last: Some(number),
+        };
+        self.total = 0;
+        self.turn = now_at(&self.log, &self.place, threads);
+        Verdict::Went
     }
 
-    // One commit more, behind which the end is looked at.
-    fn advance(&mut self, used: Used, last: Option<u8>, threads: &Threads) -> Verdict
+    // A DMA went, after which the end is looked at. The threads are as they were.
+    fn advance(&mut self, used: Used, threads: &Threads)
         requires left { self.old.done < self.old.log.count }
-        requires commits { (k : ℕ) → slice_index (commits_of threads.now) k ≤ self.old.done + 1 }
+        requires commits { self.old.commits ≡ commits_of threads.now }
         requires interrupts { used.interrupts ≤ self.old.used.interrupts + 1 }
-        ensures verdict { result ≡ Verdict.Went }
-        ensures replay { self.new ≡ advanced self.old.log (self.old.done + 1) last (used_seen used) threads.now }
+        ensures { self.new ≡ advanced self.old.log (self.old.done + 1) self.old.last (used_seen used) threads.now }
     {
         self.place = LogPlace {
             used,
             done: self.place.done + 1,
-            last,
+            ..self.place
         };
         self.total = 0;
-        self.commits = commits_of(threads);
         self.turn = now_at(&self.log, &self.place, threads);
-        Verdict::Went
     }
 
     fn diverge(&mut self, why: Why) -> Verdict

@@ -8,7 +8,6 @@ use Rattle.dl_account.specs.Report.{report_of}
 use Rattle.dl_account.specs.Summary.{summary_of}
 use Rattle.dl_entry.specs.declared.End.{End}
 use Rattle.dl_entry.specs.declared.SphereLine.{SphereLine}
-use Rattle.spec_log.specs.declared.ModeName.{ModeName}
 use Rattle.spec_log.specs.declared.LogParts.{LogParts}
 use Rattle.spec_log.specs.Bytes.{log_bytes}
 use Rattle.spec_kernel.specs.Devices.{Devices}
@@ -124,18 +123,18 @@ live-end (Replay b) n e = absurd (true≢false e)
 -- ---- logs
 
 -- a sphere that was set up to be recorded holds the log that the run tells
-pub recorded-role : (es : List Event) (r : Ran) (i : ℕ) (asked : RecordSetup) → IsOver es r → i < length r.setup.spheres → (image_at r.setup i).role ≡ IsRecorded asked → (sphere_at r.world i).role ≡ Record (record { log = log_of_points r.setup es i asked.mode })
+pub recorded-role : (es : List Event) (r : Ran) (i : ℕ) (asked : RecordSetup) → IsOver es r → i < length r.setup.spheres → (image_at r.setup i).role ≡ IsRecorded asked → (sphere_at r.world i).role ≡ Record (record { log = log_of_points r.setup es i asked })
 recorded-role es r i asked over inside is = has_role es r i (IsRecorded asked) over inside is
 
 -- the log that the machine has of a recorded sphere is the one that the run tells
-pub log-of_points : (es : List Event) (r : Ran) (i : ℕ) (asked : RecordSetup) (log : LogParts) → IsOver es r → i < length r.setup.spheres → (image_at r.setup i).role ≡ IsRecorded asked → log_in (sphere_at r.world i).role ≡ Some log → log ≡ log_of_points r.setup es i asked.mode
+pub log-of_points : (es : List Event) (r : Ran) (i : ℕ) (asked : RecordSetup) (log : LogParts) → IsOver es r → i < length r.setup.spheres → (image_at r.setup i).role ≡ IsRecorded asked → log_in (sphere_at r.world i).role ≡ Some log → log ≡ log_of_points r.setup es i asked
 log-of_points es r i asked log over inside is there =
     let role = recorded-role es r i asked over inside is in
-    let e : Some log ≡ Some (log_of_points r.setup es i asked.mode) = sym there ∙ ap log_in role in
+    let e : Some log ≡ Some (log_of_points r.setup es i asked) = sym there ∙ ap log_in role in
     cc
 
 -- the bytes of the log that the run tells are the text of a recorded sphere's log
-pub log-is : (s : Setup) (es : List Event) (i : ℕ) (asked : RecordSetup) (log : LogParts) → (image_at s i).role ≡ IsRecorded asked → log ≡ log_of_points s es i asked.mode → log_bytes log ≡ log_text s es i
+pub log-is : (s : Setup) (es : List Event) (i : ℕ) (asked : RecordSetup) (log : LogParts) → (image_at s i).role ≡ IsRecorded asked → log ≡ log_of_points s es i asked → log_bytes log ≡ log_text s es i
 unfolding log_text
 log-is s es i asked log is same = ap log_bytes same ∙ ap (log_as s es i) (sym is)
 

@@ -31,7 +31,7 @@ impl Run {
         ensures { let image = image_at self.now.setup sphere in result ≡ diverges_as image image.role }
     {
         match self.role(sphere) {
-            Role::Plain | Role::Record(_) => false,
+            Role::Plain | Role::Record { .. } => false,
             Role::Replay(_) => is_divergence(self.end(sphere)),
         }
     }
@@ -56,7 +56,7 @@ impl Run {
     {
         match self.role(sphere) {
             Role::Plain => SphereLine::Plain(self.commits(sphere)),
-            Role::Record(_) => SphereLine::Record(self.commits(sphere)),
+            Role::Record { .. } => SphereLine::Record(self.commits(sphere)),
             Role::Replay(_) => line_of_end(self.end(sphere)),
         }
     }

@@ -21,7 +21,7 @@ impl Run {
         ensures { IfOk result (λ log. (es : List Event) → IsOver es self.now → log_bytes_if log ≡ log_text self.now.setup es sphere) }
     {
         match self.role(sphere) {
-            Role::Record(_) => Ok(Some(self.recording(sphere)?)),
+            Role::Record { .. } => Ok(Some(self.recording(sphere)?)),
             Role::Plain => Ok(None),
             Role::Replay(_) => Ok(None),
         }
@@ -32,7 +32,7 @@ impl Run {
         requires inside { sphere < length self.now.setup.spheres }
         requires recorded { (asked : RecordSetup) × ((image_at self.now.setup sphere).role ≡ IsRecorded asked) }
         ensures { IfOk result (λ log. (es : List Event) (asked : RecordSetup) → IsOver es self.now
-            → (image_at self.now.setup sphere).role ≡ IsRecorded asked → log ≡ log_of_points self.now.setup es sphere asked.mode) }
+            → (image_at self.now.setup sphere).role ≡ IsRecorded asked → log ≡ log_of_points self.now.setup es sphere asked) }
     {
         self.sphere(sphere).log()
     }

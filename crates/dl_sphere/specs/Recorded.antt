@@ -19,7 +19,7 @@ pub record Recording : Type 0 where
 abbrev pub recorded_by : ModeName → recorder.Recording → Recording
 recorded_by mode r =
     record {
-      recorded = record { mode = mode; kept = r.kept; interrupts = r.interrupts; inputs = r.inputs; dmas = r.dmas };
+      recorded = record { version = r.version; mode = mode; kept = r.kept; interrupts = r.interrupts; inputs = r.inputs; dmas = r.dmas };
       room = r.room;
       interrupt_room = r.interrupt_room;
     }

@@ -1,5 +1,5 @@
 -- What a sphere keeps for its role, and how that stands to its threads and commits.
-use Rattle.std.specs.Prelude.{◌≡◌, ℕ, ◌≤◌, Bool, true, List, length, slice_index, Option}
+use Rattle.std.specs.Prelude.{◌≡◌, ℕ, ◌<◌, ◌≤◌, Bool, true, List, length, slice_index, Option}
 use Rattle.dl_entry.specs.declared.Commit.{Commit}
 use Rattle.dl_entry.specs.declared.Input.{Input}
 use Rattle.dl_entry.specs.Numbers.{most_threads}
@@ -11,6 +11,7 @@ use Rattle.dl_record.specs.Recording.{IsFresh}
 use Rattle.dl_record.specs.Recording as recorder
 use Rattle.spec_play.specs.Noted.{Recorded, as_log, interrupt_kept}
 use Rattle.spec_log.specs.Log.{IsLog}
+use Rattle.spec_log.specs.Versions.{new_threads}
 use Rattle.spec_isa.specs.declared.thread.Load.{Load}
 use Rattle.dl_replay.specs.Replaying.{Replaying as Replay, Agrees, commits_of, cursor_of}
 use Rattle.dl_sphere.specs.Recorded.{with_commit}
@@ -58,13 +59,13 @@ with_raised thread index value (Replaying r loads) = Replaying r loads
 -- a commit that a recording can note
 abbrev pub CanNote : Commit → (short : Bool) → Keeping → Type 0
 CanNote c short Plain = Unit {0}
-CanNote c short (Recording r) = recorder.CanCommit r.kept c short
+CanNote c short (Recording r) = recorder.CanCommit r.version r.kept c short
 CanNote c short (Replaying r loads) = Unit {0}
 
--- an interrupt of a moment that is new
+-- an interrupt of a thread of its log, at a moment that is new
 abbrev pub CanRaise : (thread index : ℕ) → Keeping → Type 0
 CanRaise thread index Plain = Unit {0}
-CanRaise thread index (Recording r) = IsFresh r.interrupts thread index
+CanRaise thread index (Recording r) = (thread < new_threads r.version) × IsFresh r.interrupts thread index
 CanRaise thread index (Replaying r loads) = Unit {0}
 
 -- ---- beside the sphere
@@ -73,11 +74,12 @@ CanRaise thread index (Replaying r loads) = Unit {0}
 pub record HasFew (p : protocol.Sphere) : Type 0 where
   pub few : (k : ℕ) → commits_in p.threads k ≤ position p.progress
 
--- a recorder has standard chunks of this size and each thread's own number of commits, and its log has what the sphere has
--- done and nothing of what comes next
+-- a recorder has standard chunks of this size and each thread's own number of commits, its log may have as many threads as
+-- the sphere has, and has what the sphere has done and nothing of what comes next
 pub record HasRecorded (standard : ℕ) (p : protocol.Sphere) (r : Recorded) : Type 0 where
   pub few : HasFew p
   pub s : r.kept.s ≡ standard
+  pub threads : length p.threads ≤ new_threads r.version
   pub all : length r.kept.done ≡ most_threads
   pub done : (k : ℕ) → slice_index r.kept.done k ≡ commits_in p.threads k
   pub stands : Stands p (as_log r)

@@ -8,5 +8,5 @@ use Rattle.dl_sphere.specs.Roles.{Keeping, Plain, Recording, Replaying}
 -- where thread 0 stands alone at an entry, and standard chunks have that size
 abbrev pub keeping_at : (entry s : ℕ) → RoleSetup → Keeping
 keeping_at entry s IsPlain = Plain
-keeping_at entry s (IsRecorded asked) = Recording (nothing_recorded asked.mode s)
+keeping_at entry s (IsRecorded asked) = Recording (nothing_recorded asked.version asked.mode s)
 keeping_at entry s (IsReplayed asked) = Replaying (replay_start asked.log entry) []

@@ -1,12 +1,13 @@
 //! What a sphere keeps for its role.
-ghost use Rattle.std.specs.Prelude.{◌≡◌, ◌<◌, None, false, IfOk, IfSome, IsOk, IsTrue, OnOk, OnErr, option_map};
+ghost use Rattle.std.specs.Prelude.{◌≡◌, ◌≤◌, None, false, IfOk, IfSome, IsOk, IsTrue, OnOk, OnErr, option_map};
 ghost use Rattle.dl_entry.specs.Numbers.{most_threads};
 ghost use Rattle.spec_log.specs.Log.{IsInput, AreFewBytes};
-ghost use Rattle.dl_sphere.specs.Roles.{keeping_of, with_noted, with_raised, CanNote, CanRaise, has_room};
+ghost use Rattle.spec_protocol.specs.machine.Spheres.{most_in};
+ghost use Rattle.dl_sphere.specs.Roles.{keeping_of, role_in, with_noted, with_raised, CanNote, CanRaise, has_room};
 
 use crate::player::Player;
 use crate::recording::Recording;
-use dl_entry::{Commit, Input, OutOfMemory};
+use dl_entry::{Commit, Input, OutOfMemory, PLAIN_THREADS};
 use dl_thread::Load;
 
 #[derive(Drop)]
@@ -48,14 +49,25 @@ pub(crate) fn note_interrupt(
     index: u32,
     value: u32,
 ) -> Result<(), OutOfMemory>
-    requires thread { thread < most_threads }
-    requires fresh { CanRaise thread index (keeping_of part.old) }
+    requires { CanRaise thread index (keeping_of part.old) }
     ensures noted { OnOk result (keeping_of part.new ≡ with_raised thread index value (keeping_of part.old)) }
     ensures same { OnErr result (keeping_of part.new ≡ keeping_of part.old) }
 {
     match part {
         Part::Plain | Part::Replayed(_) => Ok(()),
         Part::Recorded(recording) => recording.interrupt(thread, index, value),
+    }
+}
+
+// How many threads the sphere may have.
+pub(crate) fn threads_allowed(part: &Part) -> u8
+    ensures value { result ≡ most_in (role_in part.now) }
+    ensures few { result ≤ most_threads }
+{
+    match part {
+        Part::Plain => PLAIN_THREADS,
+        Part::Recorded(recording) => recording.threads(),
+        Part::Replayed(replay) => replay.player.threads(),
     }
 }
 

@@ -92,12 +92,28 @@ impl Player {
         in_mode!(&self.players, replayer => replayer.pieces())
     }
 
+    // How many threads the log may have.
+    pub(crate) fn threads(&self) -> u8
+        ensures value { result ≡ self.now.log.threads }
+        ensures few { result ≤ most_threads }
+    {
+        in_mode!(&self.players, replayer => replayer.threads())
+    }
+
+    // The standard size of the log's chunks.
+    pub(crate) fn standard(&self) -> u32
+        ensures { result ≡ self.now.log.s }
+    {
+        in_mode!(&self.players, replayer => replayer.standard())
+    }
+
     pub(crate) fn limit(&self, thread: u8, after: bool) -> u32
         ensures value { (s : ℕ) (loads : List Load) →
             result ≡ chunk_limit_in after (Replay (cursor_of self.now loads)) s thread (slice_index self.now.commits thread) }
         ensures of_thread { (s : ℕ) (loads : List Load) (threads : List Parts) (t : Parts) →
             length threads ≤ most_threads → self.now.commits ≡ commits_of threads → slice_get threads thread ≡ Some t →
             result ≡ chunk_limit after s (Replay (cursor_of self.now loads)) thread t }
+        ensures most { result ≤ self.now.log.s }
     {
         in_mode!(&self.players, replayer => replayer.limit(thread, after))
     }
@@ -117,6 +133,7 @@ impl Player {
         requires turn { self.old.now ≡ Turn thread }
         requires thread { thread < length threads.old }
         requires commits { self.old.commits ≡ commits_of threads.old }
+        ensures log { self.new.log ≡ self.old.log }
         ensures threads_left { (why : Why) → result ≡ Verdict.Diverged why → threads.new ≡ threads.old }
         ensures judged { (p : Progress) (before : List Parts) (r : Run) (request : Option Request) (served : Served) →
             Agrees self.old p → p.request ≡ request → HasRun before threads.old thread total r →
@@ -142,6 +159,7 @@ impl Player {
             let v = serial_verdict self.old.log p self.old.used thread threads.old t memory.now in
             IfOk result (λ r. record { verdict = verdict_left r; replay = self.new; threads = threads.new; request = request.new; served = served_left r }
             ≡ serial_judged self.old p thread threads.old request.old nothing_served v) }
+        ensures log { self.new.log ≡ self.old.log }
         ensures replay_still { OnErr result (self.new ≡ self.old) }
         ensures threads_still { OnErr result (threads.new ≡ threads.old) }
         ensures request_still { OnErr result (request.new ≡ request.old) }
@@ -163,6 +181,7 @@ impl Player {
             let v = dma_verdict self.old.log p self.old.used in
             IfOk result (λ r. record { verdict = verdict_stored r; replay = self.new; threads = threads.now; request = request.new; served = served_stored r }
             ≡ dma_judged self.old p threads.now request.old nothing_served v) }
+        ensures log { self.new.log ≡ self.old.log }
         ensures replay_still { OnErr result (self.new ≡ self.old) }
         ensures request_still { OnErr result (request.new ≡ request.old) }
     {

@@ -6,12 +6,13 @@ ghost use Rattle.spec_kernel.specs.Devices.{Devices};
 ghost use Rattle.spec_play.specs.Progress.{position};
 ghost use Rattle.spec_protocol.specs.machine.Commits.{MovedSphere, dma_moved};
 ghost use Rattle.spec_protocol.specs.machine.Placing.{replays};
-ghost use Rattle.spec_protocol.specs.promises.Sound.{IsSoundRequest};
+ghost use Rattle.spec_protocol.specs.promises.Sound.{IsChunkSize, IsSoundRequest};
 ghost use Rattle.spec_protocol.specs.machine.Spheres.{head_of, is_stopped, halves, is_in_pieces};
 ghost use Rattle.dl_fly.specs.Slots.{set_slot};
 ghost use Rattle.dl_replay.specs.Limits.{chunk_limit};
 ghost use Rattle.dl_sphere.specs.Moving.{SaysOutcome};
 ghost use Rattle.dl_sphere.specs.Reading.{end_in, pieces_in, log_in, SaysBytes};
+ghost use Rattle.dl_sphere.specs.Setups.{standard_in};
 
 use crate::moved::DmaSize;
 use crate::part::Part;
@@ -35,11 +36,22 @@ impl Sphere {
         ensures value { (t : Parts) → slice_get self.now.sphere.threads thread ≡ Some t →
             result ≡ chunk_limit after self.now.s self.now.sphere.role thread t }
         ensures least { 1 ≤ result }
-        ensures most { result ≤ 4096 }
+        ensures most { result ≤ standard_in self.now.s self.now.sphere.role }
     {
         match &self.part {
             Part::Plain | Part::Recorded(_) => self.s,
             Part::Replayed(replay) => replay.player.limit(thread, after),
+        }
+    }
+
+    /// The standard size of its chunks, which no chunk's limit passes: that of the plan, or of the log that is replayed.
+    pub fn standard(&self) -> u32
+        ensures value { result ≡ standard_in self.now.s self.now.sphere.role }
+        ensures size { IsChunkSize result }
+    {
+        match &self.part {
+            Part::Plain | Part::Recorded(_) => self.s,
+            Part::Replayed(replay) => replay.player.standard(),
         }
     }
 

@@ -1,8 +1,8 @@
 //! A recording in any of the three modes.
-ghost use Rattle.std.specs.Prelude.{◌≡◌, ◌<◌, [], IfOk, IfSome, IsOk, IsTrue, OnOk, OnErr, option_map};
+ghost use Rattle.std.specs.Prelude.{◌≡◌, ◌<◌, ◌≤◌, [], IfOk, IfSome, IsOk, IsTrue, OnOk, OnErr, option_map};
 ghost use Rattle.dl_entry.specs.Numbers.{most_threads};
 ghost use Rattle.spec_log.specs.Log.{IsInput, AreFewBytes};
-ghost use Rattle.spec_protocol.specs.promises.Sound.{IsChunkSize};
+ghost use Rattle.spec_log.specs.Versions.{IsVersion, IsStandard, new_threads};
 ghost use Rattle.dl_record.specs.Recording.{CanCommit, IsFresh};
 ghost use Rattle.spec_play.specs.Noted.{nothing_recorded, interrupt_kept, as_log};
 ghost use Rattle.dl_sphere.specs.Recorded.{with_commit};
@@ -47,15 +47,21 @@ impl Model for Recording {
 }
 
 impl Recording {
-    // Nothing is noted yet.
-    pub(crate) fn new(alloc: Global, mode: ModeName, s: u32) -> Result<Recording, OutOfMemory>
-        requires { IsChunkSize s }
-        ensures { IfOk result (λ r. r.recorded ≡ nothing_recorded mode s) }
+    // Nothing is noted yet, for a log of this version.
+    pub(crate) fn new(
+        alloc: Global,
+        version: u8,
+        mode: ModeName,
+        s: u32,
+    ) -> Result<Recording, OutOfMemory>
+        requires version { IsVersion version (new_threads version) }
+        requires s { IsStandard version s }
+        ensures { IfOk result (λ r. r.recorded ≡ nothing_recorded version mode s) }
     {
         let recorders = match mode {
-            ModeName::OrderSize => Recorders::OrderSize(Recorder::new(alloc, s)?),
-            ModeName::OrderOnly => Recorders::OrderOnly(Recorder::new(alloc, s)?),
-            ModeName::Picolog => Recorders::Picolog(Recorder::new(alloc, s)?),
+            ModeName::OrderSize => Recorders::OrderSize(Recorder::new(alloc, version, s)?),
+            ModeName::OrderOnly => Recorders::OrderOnly(Recorder::new(alloc, version, s)?),
+            ModeName::Picolog => Recorders::Picolog(Recorder::new(alloc, version, s)?),
         };
         Ok(Recording { recorders })
     }
@@ -68,6 +74,14 @@ impl Recording {
             Recorders::OrderOnly(_) => ModeName::OrderOnly,
             Recorders::Picolog(_) => ModeName::Picolog,
         }
+    }
+
+    // How many threads its log may have.
+    pub(crate) fn threads(&self) -> u8
+        ensures value { result ≡ new_threads self.now.recorded.version }
+        ensures few { result ≤ most_threads }
+    {
+        in_mode!(&self.recorders, recorder => recorder.threads())
     }
 
     // Makes room for one commit with its records, and one interrupt.
@@ -87,7 +101,7 @@ impl Recording {
         input: Option<&Input>,
         dma: Option<&[u8]>,
     ) -> Result<(), OutOfMemory>
-        requires commit { CanCommit self.old.recorded.kept commit.now short }
+        requires commit { CanCommit self.old.recorded.version self.old.recorded.kept commit.now short }
         requires input { IfSome input (λ i. IsInput i.now) }
         requires dma { IfSome dma (λ bytes. AreFewBytes bytes.now) }
         ensures ok { OnOk result (self.new.recorded
@@ -105,7 +119,7 @@ impl Recording {
         index: u32,
         value: u32,
     ) -> Result<(), OutOfMemory>
-        requires thread { thread < most_threads }
+        requires thread { thread < new_threads self.old.recorded.version }
         requires fresh { IsFresh self.old.recorded.interrupts thread index }
         ensures ok { OnOk result (self.new.recorded ≡ interrupt_kept thread index value self.old.recorded) }
         ensures err { OnErr result (self.new.recorded ≡ self.old.recorded) }

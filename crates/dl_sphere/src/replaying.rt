@@ -42,6 +42,7 @@ pub(crate) fn commit_part<G: Sig>(
         came m (replayed_at past.new replay.new) d
         ≡ chunk_moved thread (is_piece how) short chunk.now.chunk.done d (replayed_at past.old replay.old)) }
     ensures at { (s : ℕ) → IsSphereAt s past.old replay.old → IsSphereAt s past.new replay.new }
+    ensures log { replay.new.player.log ≡ replay.old.player.log }
     ensures still { OnErr result (replayed_at past.new replay.new ≡ replayed_at past.old replay.old) }
 {
     // the proof sees here that the thread is one of the sphere
@@ -77,6 +78,7 @@ fn commit_piece<G: Sig>(
     ensures moved { OnOk result ((d : Devices) → replayed_at past.new replay.new
         ≡ (piece_moved (cursor_in replay.old) thread chunk.now.chunk.done d (replayed_at past.old replay.old)).sphere) }
     ensures at { (s : ℕ) → IsSphereAt s past.old replay.old → IsSphereAt s past.new replay.new }
+    ensures log { replay.new.player.log ≡ replay.old.player.log }
     ensures still { OnErr result (replayed_at past.new replay.new ≡ replayed_at past.old replay.old) }
 {
     // the proof sees here that the thread is one of the sphere
@@ -105,6 +107,7 @@ fn end_chunk(
         IfOk result (λ why. judged_as why (position p.progress) r.words (replayed_at past.new replay.new) d
         ≡ by_verdict b thread (chunk_verdict b.log p.progress b.used thread r) d p) }
     ensures at { (s : ℕ) → IsSphereAt s past.old replay.old → IsSphereAt s past.new replay.new }
+    ensures log { replay.new.player.log ≡ replay.old.player.log }
     ensures still { OnErr result (replayed_at past.new replay.new ≡ replayed_at past.old replay.old) }
 {
     past.commits.reserve(1)?;
@@ -143,6 +146,7 @@ pub(crate) fn serve_step(
         slice_get past.old.state.threads thread ≡ Some t →
         came m (replayed_at past.new replay.new) d ≡ serial_moved thread moment t d (replayed_at past.old replay.old)) }
     ensures at { (s : ℕ) → IsSphereAt s past.old replay.old → IsSphereAt s past.new replay.new }
+    ensures log { replay.new.player.log ≡ replay.old.player.log }
     ensures still { OnErr result (replayed_at past.new replay.new ≡ replayed_at past.old replay.old) }
 {
     // the proof sees here that the thread is one of the sphere
@@ -178,6 +182,7 @@ pub(crate) fn serve_dma(replay: &mut Replay, past: &mut Past) -> Result<Moved, O
     ensures moved { IfOk result (λ m. (d : Devices) →
         Some (came m (replayed_at past.new replay.new) d) ≡ dma_moved d (replayed_at past.old replay.old)) }
     ensures at { (s : ℕ) → IsSphereAt s past.old replay.old → IsSphereAt s past.new replay.new }
+    ensures log { replay.new.player.log ≡ replay.old.player.log }
     ensures still { OnErr result (replayed_at past.new replay.new ≡ replayed_at past.old replay.old) }
 {
     let done = count(&past.commits);

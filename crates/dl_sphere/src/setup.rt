@@ -2,11 +2,11 @@
 use dl_elf::Image;
 use spec_log::{Log, ModeName};
 
-/// A sphere's role: plain, recorded in a mode, or replayed.
+/// A sphere's role: plain, recorded in a version of logs, 1 or 2, and a mode, or replayed.
 #[derive(Drop)]
 pub enum Role {
     Plain,
-    Record(ModeName),
+    Record { version: u8, mode: ModeName },
     Replay(Log),
 }
 

@@ -12,7 +12,7 @@ ghost use Rattle.spec_protocol.specs.machine.Placing.{replays};
 ghost use Rattle.spec_protocol.specs.machine.Spheres.{head_of, is_stopped, halves};
 ghost use Rattle.spec_protocol.specs.promises.Sound.{IsChunkSize, HaveByteInput, IsSoundRequest};
 ghost use Rattle.dl_sphere.specs.Moving.{came, CanCommit, IsTurnOf, IsTurnOfDma};
-ghost use Rattle.dl_sphere.specs.Setups.{setup_of};
+ghost use Rattle.dl_sphere.specs.Setups.{setup_of, standard_in};
 
 use crate::commits::{chunk_commit, is_short};
 use crate::moved::Moved;
@@ -64,6 +64,7 @@ impl Sphere {
             came m self.new.sphere d
             ≡ chunk_moved thread (is_piece how) (is_short self.old.s how chunk.now.chunk.limit) chunk.now.chunk.done d self.old.sphere) }
         ensures standard { self.new.s ≡ self.old.s }
+        ensures size { standard_in self.new.s self.new.sphere.role ≡ standard_in self.old.s self.old.sphere.role }
         ensures err { OnErr result (self.new ≡ self.old) }
     {
         if let Part::Replayed(replay) = &mut self.part {
@@ -95,6 +96,7 @@ impl Sphere {
         ensures ok { IfOk result (λ m. (t : Parts) → slice_get self.old.sphere.threads thread ≡ Some t →
             came m self.new.sphere devices.new ≡ serial_moved thread moment t devices.old self.old.sphere) }
         ensures standard { self.new.s ≡ self.old.s }
+        ensures size { standard_in self.new.s self.new.sphere.role ≡ standard_in self.old.s self.old.sphere.role }
         ensures err { OnErr result (self.new ≡ self.old) }
         ensures devices { OnErr result (devices.new ≡ devices.old) }
     {
@@ -128,6 +130,7 @@ impl Sphere {
         requires devices { HaveByteInput devices.old }
         ensures ok { IfOk result (λ m. dma_moved devices.old self.old.sphere ≡ Some (came m self.new.sphere devices.new)) }
         ensures standard { self.new.s ≡ self.old.s }
+        ensures size { standard_in self.new.s self.new.sphere.role ≡ standard_in self.old.s self.old.sphere.role }
         ensures err { OnErr result (self.new ≡ self.old) }
         ensures devices { OnErr result (devices.new ≡ devices.old) }
     {
@@ -153,6 +156,7 @@ impl Sphere {
         ensures ok { OnOk result ((t : Parts) → slice_get self.old.sphere.threads thread ≡ Some t →
             self.new.sphere ≡ raised thread value t self.old.sphere) }
         ensures standard { self.new.s ≡ self.old.s }
+        ensures size { standard_in self.new.s self.new.sphere.role ≡ standard_in self.old.s self.old.sphere.role }
         ensures err { OnErr result (self.new ≡ self.old) }
     {
         let found = thread_at(&self.past.state.threads, thread);

@@ -6,12 +6,13 @@ ghost use Rattle.spec_log.specs.Log.{IsInput};
 ghost use Rattle.spec_play.specs.Effects.{serial_commit};
 ghost use Rattle.spec_protocol.specs.promises.Sound.{HaveByteInput};
 ghost use Rattle.dl_kernel.specs.Calls.{spawned_list};
-ghost use Rattle.dl_sphere.specs.Roles.{keeping_of, with_noted, CanNote};
+ghost use Rattle.spec_protocol.specs.machine.Spheres.{most_in};
+ghost use Rattle.dl_sphere.specs.Roles.{keeping_of, role_in, with_noted, CanNote};
 ghost use Rattle.dl_sphere.specs.Stepping.{taken_by, served_by, commit_by};
 
-use crate::part::{Part, note_reserved, reserve};
+use crate::part::{Part, note_reserved, reserve, threads_allowed};
 use dl_dev::Devices;
-use dl_entry::{Commit, Input, MOST_THREADS, OutOfMemory, Request};
+use dl_entry::{Commit, Input, OutOfMemory, Request};
 use dl_kernel::{Step, StepResult, outside_record, outside_take, serial_commit, serve};
 use dl_thread::Thread;
 use dl_wbuf::Buffer;
@@ -28,7 +29,8 @@ pub(crate) struct Left {
     pub(crate) words: Buffer,
 }
 
-// Does the step, and notes its commit if the sphere is recorded; or nothing of all that.
+// Does the step, and notes its commit if the sphere is recorded; or nothing of all that. Spawn is refused at as many threads
+// as the sphere may have.
 #[tactic(auto, using(crate::proofs::Live::Devices::record_taken, crate::proofs::Live::Devices::devices_taken, crate::proofs::Live::Devices::input_taken))]
 pub(crate) fn live_step(
     alloc: Global,
@@ -37,25 +39,26 @@ pub(crate) fn live_step(
     devices: &mut Devices,
     moment: u32,
 ) -> Result<Left, OutOfMemory>
-    requires note { CanNote (commit_by step.now devices.old moment) false (keeping_of part.old) }
+    requires note { CanNote (commit_by part.old step.now devices.old moment) false (keeping_of part.old) }
     requires devices { HaveByteInput devices.old }
-    ensures thread { IfOk result (λ l. l.thread ≡ (served_by step.now devices.old moment).thread) }
-    ensures spawned { IfOk result (λ l. spawned_list l.spawned ≡ (served_by step.now devices.old moment).spawned) }
-    ensures room { IfOk result (λ l. OnSome l.spawned (length step.now.threads.now < most_threads)) }
-    ensures request { IfOk result (λ l. l.request ≡ (served_by step.now devices.old moment).request) }
-    ensures words { IfOk result (λ l. l.words.words ≡ (served_by step.now devices.old moment).words) }
-    ensures commit { IfOk result (λ l. l.commit ≡ commit_by step.now devices.old moment) }
+    ensures thread { IfOk result (λ l. l.thread ≡ (served_by part.old step.now devices.old moment).thread) }
+    ensures spawned { IfOk result (λ l. spawned_list l.spawned ≡ (served_by part.old step.now devices.old moment).spawned) }
+    ensures room { IfOk result (λ l. OnSome l.spawned (length step.now.threads.now < most_in (role_in part.old))) }
+    ensures places { IfOk result (λ l. OnSome l.spawned (length step.now.threads.now < most_threads)) }
+    ensures request { IfOk result (λ l. l.request ≡ (served_by part.old step.now devices.old moment).request) }
+    ensures words { IfOk result (λ l. l.words.words ≡ (served_by part.old step.now devices.old moment).words) }
+    ensures commit { IfOk result (λ l. l.commit ≡ commit_by part.old step.now devices.old moment) }
     ensures noted { OnOk result (keeping_of part.new
-        ≡ with_noted (commit_by step.now devices.old moment) false (taken_by step.now devices.old moment).input None (keeping_of part.old)) }
+        ≡ with_noted (commit_by part.old step.now devices.old moment) false (taken_by step.now devices.old moment).input None (keeping_of part.old)) }
     ensures devices { let s = step.now in
-        OnOk result (devices.new ≡ console_written s.thread s.memory.now (served_by s devices.old moment).outputs (taken_by s devices.old moment).devices) }
+        OnOk result (devices.new ≡ console_written s.thread s.memory.now (served_by part.old s devices.old moment).outputs (taken_by s devices.old moment).devices) }
     ensures part_still { OnErr result (keeping_of part.new ≡ keeping_of part.old) }
     ensures devices_still { OnErr result (devices.new ≡ devices.old) }
 {
     // a memory has bytes
     let _ = step.memory.size();
     let input = outside_record(alloc, &step.thread, step.memory, devices, moment)?;
-    let served = serve(alloc, step, input.as_ref(), MOST_THREADS)?;
+    let served = serve(alloc, step, input.as_ref(), threads_allowed(part))?;
     let StepResult {
         thread,
         spawned,

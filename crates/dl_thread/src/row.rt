@@ -7,7 +7,7 @@ use crate::state::Thread;
 use std::marker::Model;
 
 /// How many threads a row has places for.
-pub const PLACES: usize = 15;
+pub const PLACES: usize = 63;
 
 /// The threads of a sphere, at least 1 and at most as many as a row has places for, seen as the list of their parts.
 #[derive(Debug, Drop)]

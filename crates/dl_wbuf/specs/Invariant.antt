@@ -4,12 +4,12 @@ use Rattle.std.specs.List.{position}
 use Rattle.spec_isa.specs.Words.{Stored, Apart}
 use Rattle.dl_wbuf.specs.Tables.{Slots, place}
 
--- each word is there once, and there are no more than the capacity, which is from 1 to 4,096; and room is made for that many
+-- each word is there once, and there are no more than the capacity, which is from 1 to 65,536; and room is made for that many
 pub record IsBuffer (capacity room : ℕ) (words : List Stored) : Type 0 where
   pub apart : Apart words
   pub within : length words ≤ capacity
   pub least : 1 ≤ capacity
-  pub most : capacity ≤ 4096
+  pub most : capacity ≤ 65536
   pub made : capacity ≤ room
 
 -- which of the words left came at this place, if `drained` have been taken out: none, if it is one of these

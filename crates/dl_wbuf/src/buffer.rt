@@ -43,10 +43,10 @@ impl Model for Buffer {
 }
 
 impl Buffer {
-    /// An empty buffer with room for `c` words, from 1 to 4,096.
+    /// An empty buffer with room for `c` words, from 1 to 65,536.
     pub fn new(alloc: Global, c: u32) -> Result<Buffer, AllocError>
         requires least { 1 ≤ c }
-        requires most { c ≤ 4096 }
+        requires most { c ≤ 65536 }
         ensures { IfOk result (λ buffer. buffer ≡ record { capacity = c; words = [] }) }
     {
         Ok(Buffer {
@@ -57,11 +57,11 @@ impl Buffer {
         })
     }
 
-    /// How many words there is room for, from 1 to 4,096.
+    /// How many words there is room for, from 1 to 65,536.
     pub fn capacity(&self) -> u32
         ensures value { result ≡ self.now.capacity }
         ensures least { 1 ≤ result }
-        ensures most { result ≤ 4096 }
+        ensures most { result ≤ 65536 }
     {
         self.capacity
     }
@@ -70,7 +70,7 @@ impl Buffer {
     pub fn len(&self) -> u32
         ensures value { result ≡ length self.now.words }
         ensures within { length self.now.words ≤ self.now.capacity }
-        ensures most { self.now.capacity ≤ 4096 }
+        ensures most { self.now.capacity ≤ 65536 }
         ensures apart { Apart self.now.words }
     {
         self.words.len() as u32
@@ -192,7 +192,7 @@ fn left(place: Option<u32>, drained: u32) -> Option<usize>
 fn fill(table: &mut Table, words: &VecDeque<Stored>)
     requires apart { Apart words.now.items }
     requires room { length words.now.items ≤ table.old.room }
-    requires most { length words.now.items ≤ 4096 }
+    requires most { length words.now.items ≤ 65536 }
     ensures places { (a : ℕ) → place table.new a ≡ position (λ s. s.number == a) words.now.items }
     ensures taken { length table.new.taken ≤ length words.now.items }
     ensures room { table.new.room ≡ table.old.room }

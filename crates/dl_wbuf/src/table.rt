@@ -26,10 +26,10 @@ impl Model for Table {
 }
 
 impl Table {
-    // An empty table with room for `room` numbers, from 1 to 8,192. It has a power of two of slots, at least twice as many.
+    // An empty table with room for `room` numbers, from 1 to 131,072. It has a power of two of slots, at least twice as many.
     pub(crate) fn new(alloc: Global, room: u32) -> Result<Table, AllocError>
         requires least { 1 ≤ room }
-        requires most { room ≤ 8192 }
+        requires most { room ≤ 131072 }
         ensures places { IfOk result (λ t. (number : ℕ) → place t number ≡ None) }
         ensures taken { IfOk result (λ t. length t.taken ≡ 0) }
         ensures room { IfOk result (λ t. t.room ≡ room) }

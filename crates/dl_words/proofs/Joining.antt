@@ -19,3 +19,8 @@ still false more none = none
 pub none_found : (kind : ErrorKind) (kinds : Kinds) (found : Option (Text × List Row)) → IsAmong kind kinds → matched kinds found ≡ None
 none_found kind [] found among = absurd among
 none_found kind (k ∷ ks) found among = refl
+
+-- where there is no fault, what is found is taken
+pub all_found : (kinds : Kinds) (found : Option (Text × List Row)) → kinds ≡ [] → found ≡ matched kinds found
+all_found [] found none = refl
+all_found (k ∷ ks) found none = cc

@@ -1,4 +1,4 @@
--- The command line as `clap` is told it: a program of six subcommands with their operands, each of which has to be there. It
+-- The command line as `clap` is told it: a program of ten subcommands with their operands, each of which has to be there. It
 -- has no options, and neither help nor a version.
 use Rattle.std.specs.Prelude.{true, List, [], ◌∷◌, codes, map}
 use Rattle.std.specs.Borrow.{Bor}
@@ -23,6 +23,17 @@ inspect_app = subcommand (codes "inspect") (codes "LOG" ∷ [])
 abbrev pub walk_app : App
 walk_app = subcommand (codes "walk") (codes "IMAGE" ∷ codes "MEMORY" ∷ codes "LOG" ∷ [])
 
+abbrev pub watch_app : App
+watch_app = subcommand (codes "watch") (codes "IMAGE" ∷ codes "MEMORY" ∷ codes "LOG" ∷ codes "ADDR" ∷ [])
+
+abbrev pub who_app : App
+who_app =
+    subcommand (codes "who") (codes "IMAGE" ∷ codes "MEMORY" ∷ codes "LOG" ∷ codes "ADDR" ∷ codes "I" ∷ [])
+
+abbrev pub when_app : App
+when_app =
+    subcommand (codes "when") (codes "IMAGE" ∷ codes "MEMORY" ∷ codes "LOG" ∷ codes "ADDR" ∷ codes "VALUE" ∷ [])
+
 abbrev pub make_app : App
 make_app = subcommand (codes "make") (codes "NUMBER" ∷ codes "NAME" ∷ [])
 
@@ -31,6 +42,9 @@ drill_app = subcommand (codes "drill") (codes "NUMBER" ∷ [])
 
 abbrev pub asm_app : App
 asm_app = subcommand (codes "asm") (codes "SOURCE" ∷ codes "NAME" ∷ [])
+
+abbrev pub migrate_app : App
+migrate_app = subcommand (codes "migrate") (codes "LOG" ∷ codes "NAME" ∷ [])
 
 -- words are those after the program's name, and one of them names a subcommand
 abbrev pub bare : App → App
@@ -51,7 +65,17 @@ with_subcommands app (sub ∷ subs) = with_subcommands (with_subcommand app sub.
 abbrev pub command_line : App
 command_line =
     with_subcommands (bare (new_app (codes "delorean")))
-    (run_app ∷ inspect_app ∷ walk_app ∷ make_app ∷ drill_app ∷ asm_app ∷ [])
+    (run_app
+    ∷ inspect_app
+    ∷ walk_app
+    ∷ watch_app
+    ∷ who_app
+    ∷ when_app
+    ∷ make_app
+    ∷ drill_app
+    ∷ asm_app
+    ∷ migrate_app
+    ∷ [])
 
 -- ---- subcommands of the code
 

@@ -4,10 +4,12 @@ use Rattle.std.specs.Option.{option_and_then, option_map}
 use Rattle.std.specs.Str.{bytes_eq}
 use Rattle.clap.specs.Words.{Kinds, Row, Text, fault_of, first_of, subcommand_of}
 use Rattle.dl_words.specs.Apps.{command_line}
-use Rattle.dl_words.specs.Numbers.{number_of, memory_of}
+use Rattle.dl_words.specs.Numbers.{number_of, memory_of, address_of, place_of}
 use Rattle.dl_words.specs.declared.command.Command.{Command}
 use Rattle.dl_words.specs.declared.command.Command.TheVariants as command
 use Rattle.dl_words.specs.declared.pair.Pair.{Pair}
+use Rattle.dl_words.specs.declared.query.Query.{Query as QueryWords}
+use Rattle.dl_words.specs.declared.query.Question.{Question}
 
 -- the names of an image and of a log of it, and the bytes of the memory that the log is played in
 pub record PairValues : Type 0 where
@@ -15,13 +17,21 @@ pub record PairValues : Type 0 where
   pub memory : ℕ
   pub log : Text
 
+-- a question about the word at an address in that memory
+pub record QueryValues : Type 0 where
+  pub pair : PairValues
+  pub address : ℕ
+  pub question : Question
+
 pub data CommandValues : Type 0 where
   Run : (plan : Text) → CommandValues
   Inspect : (log : Text) → CommandValues
   Walk : (pair : PairValues) → CommandValues
+  Query : (query : QueryValues) → CommandValues
   Make : (number : ℕ) → (name : Text) → CommandValues
   Drill : (number : ℕ) → CommandValues
   Asm : (source : Text) → (name : Text) → CommandValues
+  Migrate : (log : Text) → (name : Text) → CommandValues
 
 -- ---- each subcommand, from what was found for its operands
 
@@ -32,6 +42,12 @@ pair_of rows =
     (option_and_then memory_of (first_of (codes "MEMORY") rows)))
     (first_of (codes "IMAGE") rows)
 
+abbrev pub query_of : Question → List Row → Option QueryValues
+query_of question rows =
+    option_and_then (λ pair. option_map (λ address. record { pair = pair; address = address; question = question })
+    (option_and_then (address_of pair.memory) (first_of (codes "ADDR") rows)))
+    (pair_of rows)
+
 abbrev pub run_of : List Row → Option CommandValues
 run_of rows = option_map Run (first_of (codes "PLAN") rows)
 
@@ -40,6 +56,19 @@ inspect_of rows = option_map Inspect (first_of (codes "LOG") rows)
 
 abbrev pub walk_of : List Row → Option CommandValues
 walk_of rows = option_map Walk (pair_of rows)
+
+abbrev pub watch_of : List Row → Option CommandValues
+watch_of rows = option_map Query (query_of Question.Watch rows)
+
+abbrev pub who_of : List Row → Option CommandValues
+who_of rows =
+    option_and_then (λ before. option_map Query (query_of (Question.Who before) rows))
+    (option_and_then place_of (first_of (codes "I") rows))
+
+abbrev pub when_of : List Row → Option CommandValues
+when_of rows =
+    option_and_then (λ value. option_map Query (query_of (Question.When value) rows))
+    (option_and_then number_of (first_of (codes "VALUE") rows))
 
 abbrev pub make_of : List Row → Option CommandValues
 make_of rows =
@@ -54,14 +83,23 @@ asm_of rows =
     option_and_then (λ source. option_map (λ name. Asm source name) (first_of (codes "NAME") rows))
     (first_of (codes "SOURCE") rows)
 
+abbrev pub migrate_of : List Row → Option CommandValues
+migrate_of rows =
+    option_and_then (λ log. option_map (λ name. Migrate log name) (first_of (codes "NAME") rows))
+    (first_of (codes "LOG") rows)
+
 abbrev pub named : (subcommand : Text) → List Row → Option CommandValues
 named name rows =
     if bytes_eq name (codes "run") then run_of rows
     else if bytes_eq name (codes "inspect") then inspect_of rows
     else if bytes_eq name (codes "walk") then walk_of rows
+    else if bytes_eq name (codes "watch") then watch_of rows
+    else if bytes_eq name (codes "who") then who_of rows
+    else if bytes_eq name (codes "when") then when_of rows
     else if bytes_eq name (codes "make") then make_of rows
     else if bytes_eq name (codes "drill") then drill_of rows
     else if bytes_eq name (codes "asm") then asm_of rows
+    else if bytes_eq name (codes "migrate") then migrate_of rows
     else None
 
 -- ---- the words
@@ -82,10 +120,15 @@ command_of words = option_and_then (λ found. named found.0 found.1) (found_in w
 abbrev pub pair_view : Pair → PairValues
 pair_view p = record { image = p.image.now; memory = p.memory; log = p.log.now }
 
+abbrev pub query_view : QueryWords → QueryValues
+query_view q = record { pair = pair_view q.pair; address = q.address; question = q.question }
+
 abbrev pub command_view : Command → CommandValues
 command_view (command.Run plan) = Run plan.now
 command_view (command.Inspect log) = Inspect log.now
 command_view (command.Walk pair) = Walk (pair_view pair)
+command_view (command.Query query) = Query (query_view query)
 command_view (command.Make number name) = Make number name.now
 command_view (command.Drill number) = Drill number
 command_view (command.Asm source name) = Asm source.now name.now
+command_view (command.Migrate log name) = Migrate log.now name.now

@@ -25,3 +25,15 @@ size_of size = if is_size size then Some size else None
 -- the size of a memory that a word writes
 abbrev pub memory_of : List ℕ → Option ℕ
 memory_of word = option_and_then size_of (number_of word)
+
+-- the address of a word of a memory of that size
+abbrev pub is_address : (memory address : ℕ) → Bool
+is_address memory address = nat_lt address memory && nat_eq (address % 4) 0
+
+abbrev pub address_of : (memory : ℕ) → List ℕ → Option ℕ
+address_of memory word =
+    option_and_then (λ address. if is_address memory address then Some address else None) (number_of word)
+
+-- a place among the commits of a log, which has at most 2^24 of them
+abbrev pub place_of : List ℕ → Option ℕ
+place_of word = option_and_then (λ place. if nat_le place 16777216 then Some place else None) (number_of word)

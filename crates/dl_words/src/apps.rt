@@ -8,13 +8,17 @@ use clap::{Arg, Command};
 use std::alloc::{AllocError, Global};
 
 /// The subcommands, each with the names of its operands, in their order.
-const SUBCOMMANDS: [(&str, &[&str]); 6] = [
+const SUBCOMMANDS: [(&str, &[&str]); 10] = [
     ("run", &["PLAN"]),
     ("inspect", &["LOG"]),
     ("walk", &["IMAGE", "MEMORY", "LOG"]),
+    ("watch", &["IMAGE", "MEMORY", "LOG", "ADDR"]),
+    ("who", &["IMAGE", "MEMORY", "LOG", "ADDR", "I"]),
+    ("when", &["IMAGE", "MEMORY", "LOG", "ADDR", "VALUE"]),
     ("make", &["NUMBER", "NAME"]),
     ("drill", &["NUMBER"]),
     ("asm", &["SOURCE", "NAME"]),
+    ("migrate", &["LOG", "NAME"]),
 ];
 
 /// The program with its subcommands.

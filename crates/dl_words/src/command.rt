@@ -1,5 +1,6 @@
 //! Commands, with their operands.
 use crate::pair::Pair;
+use crate::query::Query;
 
 /// What the words ask for.
 #[derive(Clone, Copy, PartialEq, Eq)]
@@ -10,10 +11,14 @@ pub enum Command<'a> {
     Inspect { log: &'a str },
     /// `walk IMAGE MEMORY LOG`
     Walk(Pair<'a>),
+    /// `watch IMAGE MEMORY LOG ADDR`, and `who` and `when` with a word more
+    Query(Query<'a>),
     /// `make NUMBER NAME`
     Make { number: u32, name: &'a str },
     /// `drill NUMBER`
     Drill { number: u32 },
     /// `asm SOURCE NAME`
     Asm { source: &'a str, name: &'a str },
+    /// `migrate LOG NAME`
+    Migrate { log: &'a str, name: &'a str },
 }

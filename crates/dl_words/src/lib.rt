@@ -6,9 +6,11 @@ pub mod command;
 mod matching;
 mod number;
 mod pair;
+mod query;
 mod reading;
 
 pub use command::Command;
 pub use dl_entry::OutOfMemory;
 pub use pair::Pair;
+pub use query::{Query, Question};
 pub use reading::read_words;

@@ -2,7 +2,7 @@
 ghost use Rattle.std.specs.Prelude.{◌≡◌, IfSome, true};
 ghost use Rattle.std.specs.Char.{is_ascii_digit};
 ghost use Rattle.std.specs.List.{list_all};
-ghost use Rattle.dl_words.specs.Numbers.{number_of, memory_of, is_plain, is_size};
+ghost use Rattle.dl_words.specs.Numbers.{number_of, memory_of, address_of, place_of, is_plain, is_size};
 
 /// The number that a word writes, where it is at most 2^32 - 1.
 pub fn read_number(word: &str) -> Option<u32>
@@ -24,6 +24,28 @@ pub fn read_memory(word: &str) -> Option<u32>
         return None;
     }
     Some(size)
+}
+
+/// The address of a word of a memory of that size: a multiple of 4 below it.
+pub fn read_address(memory: u32, word: &str) -> Option<u32>
+    ensures { result ≡ address_of memory word.now }
+{
+    let address = read_number(word)?;
+    if address >= memory || address % 4 != 0 {
+        return None;
+    }
+    Some(address)
+}
+
+/// A place among the commits of a log: at most 2^24.
+pub fn read_place(word: &str) -> Option<u32>
+    ensures { result ≡ place_of word.now }
+{
+    let place = read_number(word)?;
+    if place > 16_777_216 {
+        return None;
+    }
+    Some(place)
 }
 
 fn is_plain(word: &[u8]) -> bool

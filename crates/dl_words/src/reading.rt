@@ -3,13 +3,14 @@ ghost use Rattle.std.specs.Prelude.{◌≡◌, IfOk};
 ghost use Rattle.std.specs.Option.{option_and_then, option_map};
 ghost use Rattle.clap.specs.Walk.{texts};
 ghost use Rattle.clap.specs.Words.{found_of, rows_of, subcommand_rows_of};
-ghost use Rattle.dl_words.specs.Commands.{command_of, command_view, pair_view, named as named_by, pair_of, run_of, inspect_of, walk_of, make_of};
-ghost use Rattle.dl_words.specs.Commands.{drill_of, asm_of};
+ghost use Rattle.dl_words.specs.Commands.{command_of, command_view, pair_view, named as named_by, pair_of, query_of, query_view, run_of, inspect_of, walk_of, make_of};
+ghost use Rattle.dl_words.specs.Commands.{asm_of, drill_of, migrate_of, watch_of, when_of, who_of};
 
 use crate::command::Command;
 use crate::matching::{find_matches, operand};
-use crate::number::{read_memory, read_number};
+use crate::number::{read_address, read_memory, read_number, read_place};
 use crate::pair::Pair;
+use crate::query::{Query, Question};
 use clap::ArgMatches;
 use dl_entry::OutOfMemory;
 use std::alloc::Global;
@@ -43,9 +44,13 @@ fn named<'a>(name: &str, operands: &ArgMatches<'a>) -> Option<Command<'a>>
         "run" => run(operands),
         "inspect" => inspect(operands),
         "walk" => walk(operands),
+        "watch" => watch(operands),
+        "who" => who(operands),
+        "when" => when(operands),
         "make" => make(operands),
         "drill" => drill(operands),
         "asm" => asm(operands),
+        "migrate" => migrate(operands),
         _ => None,
     }
 }
@@ -71,6 +76,29 @@ fn walk<'a>(operands: &ArgMatches<'a>) -> Option<Command<'a>>
     Some(Command::Walk(pair))
 }
 
+fn watch<'a>(operands: &ArgMatches<'a>) -> Option<Command<'a>>
+    ensures { option_map command_view result ≡ watch_of (rows_of (found_of operands.now)) }
+{
+    let query = query(operands, Question::Watch)?;
+    Some(Command::Query(query))
+}
+
+fn who<'a>(operands: &ArgMatches<'a>) -> Option<Command<'a>>
+    ensures { option_map command_view result ≡ who_of (rows_of (found_of operands.now)) }
+{
+    let before = read_place(operand(operands, "I")?)?;
+    let query = query(operands, Question::Who { before })?;
+    Some(Command::Query(query))
+}
+
+fn when<'a>(operands: &ArgMatches<'a>) -> Option<Command<'a>>
+    ensures { option_map command_view result ≡ when_of (rows_of (found_of operands.now)) }
+{
+    let value = read_number(operand(operands, "VALUE")?)?;
+    let query = query(operands, Question::When { value })?;
+    Some(Command::Query(query))
+}
+
 fn make<'a>(operands: &ArgMatches<'a>) -> Option<Command<'a>>
     ensures { option_map command_view result ≡ make_of (rows_of (found_of operands.now)) }
 {
@@ -92,6 +120,26 @@ fn asm<'a>(operands: &ArgMatches<'a>) -> Option<Command<'a>>
     let source = operand(operands, "SOURCE")?;
     let name = operand(operands, "NAME")?;
     Some(Command::Asm { source, name })
+}
+
+fn migrate<'a>(operands: &ArgMatches<'a>) -> Option<Command<'a>>
+    ensures { option_map command_view result ≡ migrate_of (rows_of (found_of operands.now)) }
+{
+    let log = operand(operands, "LOG")?;
+    let name = operand(operands, "NAME")?;
+    Some(Command::Migrate { log, name })
+}
+
+fn query<'a>(operands: &ArgMatches<'a>, question: Question) -> Option<Query<'a>>
+    ensures { option_map query_view result ≡ query_of question (rows_of (found_of operands.now)) }
+{
+    let pair = pair(operands)?;
+    let address = read_address(pair.memory, operand(operands, "ADDR")?)?;
+    Some(Query {
+        pair,
+        address,
+        question,
+    })
 }
 
 fn pair<'a>(operands: &ArgMatches<'a>) -> Option<Pair<'a>>

@@ -1,7 +1,6 @@
 -- What is promised of replays once finishing has ended.
 use Rattle.std.specs.Prelude.{◌≡◌, ℕ, List, ◌++◌, slice_get, Some}
 use Rattle.spec_log.specs.declared.LogParts.{LogParts}
-use Rattle.spec_play.specs.Plays.{play}
 use Rattle.spec_protocol.specs.declared.event.Event.{Event}
 use Rattle.spec_protocol.specs.machine.Spheres.{Cursor, Replay, Sphere}
 use Rattle.spec_protocol.specs.machine.Machine.{last_played, ReplaySetup, IsReplayed, SphereSetup, Setup}

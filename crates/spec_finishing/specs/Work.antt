@@ -9,7 +9,7 @@ use Rattle.spec_kernel.specs.Needs.{next_kind}
 use Rattle.spec_play.specs.Turns.{TurnOrEnd, Turn, TurnOfDma, Ended}
 use Rattle.spec_play.specs.Verdicts.{LogVerdict, Goes, Fails, serial_verdict}
 use Rattle.spec_play.specs.Transfers.{DmaVerdict, DmaGoes, DmaFails, dma_verdict}
-use Rattle.spec_play.specs.Plays.{Played, opened, size_or_standard, plays}
+use Rattle.spec_play.specs.Plays.{Played, size_or_standard, plays}
 use Rattle.spec_protocol.specs.machine.Spheres.{Role, Plain, Record, Replay, Sphere}
 use Rattle.spec_protocol.specs.machine.Commits.{MovedSphere, serial_moved, dma_moved}
 use Rattle.spec_protocol.specs.machine.World.{Numbers, MoveKind, OfChunk, OfSerial, OfDma, OfRaise, Move}

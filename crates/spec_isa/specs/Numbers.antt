@@ -67,4 +67,4 @@ console_address = 0xF0000008
 
 -- how many threads a sphere has room for
 abbrev pub row_places : ℕ
-row_places = 15
+row_places = 63

@@ -3,3 +3,4 @@ mod NotingExamples
 mod ReadingExamples
 pub mod Sections
 pub mod Sized
+pub mod Threads

@@ -76,13 +76,13 @@ pub read_of-other_magic : read_of
     ≡ fault 2 0
 read_of-other_magic = refl
 
--- another version
-pub read_of-version_2 : read_of
-    (0x44 ∷ 0x4C ∷ 0x52 ∷ 0x4E ∷ 2 ∷ 0 ∷ 0 ∷ 0 ∷ 0x64 ∷ 0 ∷ 0 ∷ 0 ∷ 2 ∷ 0 ∷ 0 ∷ 0
+-- a version that there isn't
+pub read_of-version_3 : read_of
+    (0x44 ∷ 0x4C ∷ 0x52 ∷ 0x4E ∷ 3 ∷ 0 ∷ 0 ∷ 0 ∷ 0x64 ∷ 0 ∷ 0 ∷ 0 ∷ 2 ∷ 0 ∷ 0 ∷ 0
     ∷ 2 ∷ 0 ∷ 0 ∷ 0 ∷ 0 ∷ 2 ∷ 0 ∷ 0 ∷ 0 ∷ 2 ∷ 0 ∷ 0 ∷ 0 ∷ 0 ∷ 0 ∷ 0
     ∷ 0 ∷ 0 ∷ 0 ∷ 0 ∷ 0 ∷ 0 ∷ 0 ∷ 0 ∷ 0 ∷ [])
     ≡ fault 3 4
-read_of-version_2 = refl
+read_of-version_3 = refl
 
 -- no mode
 pub read_of-mode_3 : read_of
@@ -158,3 +158,38 @@ pub read_of-unsorted_interrupts : read_of
     ∷ 0 ∷ 0 ∷ 0 ∷ 0 ∷ 0 ∷ 0 ∷ 0 ∷ 0 ∷ 0 ∷ 0 ∷ 0 ∷ [])
     ≡ fault 6 42
 read_of-unsorted_interrupts = refl
+
+-- the same log in version 2, and one with threads past 15
+abbrev full_in_2 : LogParts
+full_in_2 = record full { version = 2 }
+
+pub read_of-full_in_2 : read_of (log_bytes full_in_2) ≡ Ok full_in_2
+read_of-full_in_2 = refl
+
+abbrev many : LogParts
+many =
+    record {
+      version = 2;
+      threads = 63;
+      mode = OrderSize;
+      s = 65536;
+      count = 3;
+      order = Thread 62 ∷ Dma ∷ Thread 15 ∷ [];
+      sizes = Each (65536 ∷ 0 ∷ 7 ∷ []);
+      interrupts = record { thread = 62; index = 0; value = 5 } ∷ [];
+      inputs = [];
+      dmas = record { position = 1; bytes = [] } ∷ [];
+    }
+
+pub read_of-many : read_of (log_bytes many) ≡ Ok many
+read_of-many = refl
+
+-- a log of version 2 may have 15 or 63 threads
+pub read_of-threads_16 : read_of
+    (0x44 ∷ 0x4C ∷ 0x52 ∷ 0x4E ∷ 2 ∷ 0 ∷ 16 ∷ 0 ∷ 0x64 ∷ 0 ∷ 0 ∷ 0 ∷ 0 ∷ 0 ∷ 0 ∷ 0 ∷ []) ≡ fault 5 6
+read_of-threads_16 = refl
+
+-- where it may have 15, a byte of 15 is no actor
+pub read_of-actor_15 : read_of
+    (0x44 ∷ 0x4C ∷ 0x52 ∷ 0x4E ∷ 2 ∷ 0 ∷ 15 ∷ 0 ∷ 0x64 ∷ 0 ∷ 0 ∷ 0 ∷ 1 ∷ 0 ∷ 0 ∷ 0 ∷ 1 ∷ 0 ∷ 0 ∷ 0 ∷ 15 ∷ []) ≡ fault 5 20
+read_of-actor_15 = refl

@@ -6,6 +6,7 @@ use Rattle.spec_log.specs.declared.draft.Draft.{Draft}
 use Rattle.spec_log.specs.declared.log.LogParts.{LogParts}
 use Rattle.spec_log.specs.declared.fault.Fault.{Fault}
 use Rattle.spec_log.specs.Fields.{Read, Reader, Stage, all_of, continues, fails, field, from_to, gives, number_of, passes, raw, repeated, staged}
+use Rattle.spec_log.specs.Versions.{most_standard}
 use Rattle.spec_log.specs.Reading.{blank, magic, version, mode, threads, chunk_size, log_of, one_size, order, sizes, interrupts, inputs, dmas, commits, read_of, stages}
 
 -- where something is read behind something, both were read
@@ -71,24 +72,25 @@ and_first : (a b : Bool) → (a && b) ≡ true → a ≡ true
 and_first true b e = refl
 and_first false b e = e
 
-field_low : (bytes : List ℕ) (at : ℕ) (x : Read ℕ) → field 4 (from_to 16 4096) bytes at ≡ Ok x → 16 ≤ x.value
-field_low bytes at x e =
-    let four = then_read (raw 4 bytes at) (λ four after. passes (from_to 16 4096 (number_of four)) 5 at (number_of four) bytes after) x e in
+field_low : (most : ℕ) (bytes : List ℕ) (at : ℕ) (x : Read ℕ) → field 4 (from_to 16 most) bytes at ≡ Ok x → 16 ≤ x.value
+field_low most bytes at x e =
+    let four = then_read (raw 4 bytes at) (λ four after. passes (from_to 16 most (number_of four)) 5 at (number_of four) bytes after) x e in
     let n : ℕ = number_of four.0.value in
-    let p = passed (from_to 16 4096 n) 5 at n bytes four.0.after x four.2 in
-    subst (λ (k : ℕ). 16 ≤ k) p.1 (leb-true 16 n (and_first (nat_le 16 n) (nat_le n 4096) p.0))
+    let p = passed (from_to 16 most n) 5 at n bytes four.0.after x four.2 in
+    subst (λ (k : ℕ). 16 ≤ k) p.1 (leb-true 16 n (and_first (nat_le 16 n) (nat_le n most) p.0))
 
 -- whatever the draft was, its size is read, and then the rest
 sized : (d : Draft) (bytes : List ℕ) (at : ℕ) (x : Read Draft) → all_of (drop 4 stages) d bytes at ≡ Ok x → IsSized x.value
 sized d bytes at x e =
     let stage = then_read (staged chunk_size d bytes at) (λ y after. all_of (drop 5 stages) y bytes after) x e in
     let once = then_read (chunk_size.one d bytes at) (λ y after. gives y bytes after) stage.0 stage.1 in
-    let put = then_read (field 4 (from_to 16 4096) bytes at) (λ s after. gives (record d { shape = record d.shape { s = s } }) bytes after) once.0 once.1 in
+    let most : ℕ = most_standard d.shape.version in
+    let put = then_read (field 4 (from_to 16 most) bytes at) (λ s after. gives (record d { shape = record d.shape { s = s } }) bytes after) once.0 once.1 in
     let made : Read Draft = record { value = record d { shape = record d.shape { s = put.0.value } }; after = put.0.after } in
     let same : made ≡ once.0 = same_read made once.0 put.2 in
     let again : once.0 ≡ stage.0 = same_read once.0 stage.0 once.2 in
     rest_sized stage.0.value bytes stage.0.after x
-    (subst (λ (z : Read Draft). IsSized z.value) (same ∙ again) (field_low bytes at put.0 put.1)) stage.2
+    (subst (λ (z : Read Draft). IsSized z.value) (same ∙ again) (field_low most bytes at put.0 put.1)) stage.2
 
 -- the stages before it
 behind_it : (stage : Stage Draft) (behind : List (Stage Draft)) → ((d : Draft) (bytes : List ℕ) (at : ℕ) (x : Read Draft) → all_of behind d bytes at ≡ Ok x → IsSized x.value)

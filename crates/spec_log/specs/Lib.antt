@@ -2,7 +2,9 @@ pub mod Bytes
 pub mod Fields
 pub mod Head
 pub mod Log
+pub mod Migration
 pub mod Mode
 pub mod Noting
 pub mod Reading
 pub mod Size
+pub mod Versions

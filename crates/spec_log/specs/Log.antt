@@ -4,7 +4,7 @@ use Rattle.std.specs.List.{AllAdjacentBelow}
 use Rattle.dl_entry.specs.declared.actor.Actor.{Actor}
 use Rattle.dl_entry.specs.declared.actor.Actor.TheVariants.{Thread, Dma}
 use Rattle.dl_entry.specs.declared.input.Input.{Input}
-use Rattle.dl_entry.specs.Numbers.{kind_write, kind_read, kind_random, kind_clock, kind_moment, kind_input, most_bytes, least_chunk, most_chunk, most_threads}
+use Rattle.dl_entry.specs.Numbers.{kind_write, kind_read, kind_random, kind_clock, kind_moment, kind_input, most_bytes}
 use Rattle.spec_log.specs.declared.mode_name.ModeName.{ModeName}
 use Rattle.spec_log.specs.declared.mode_name.ModeName.TheVariants.{OrderSize, OrderOnly, Picolog}
 use Rattle.spec_log.specs.declared.records.Interrupt.{Interrupt}
@@ -13,18 +13,7 @@ use Rattle.spec_log.specs.declared.sizes.ShortSize.{ShortSize}
 use Rattle.spec_log.specs.declared.sizes.Sizes.{Sizes}
 use Rattle.spec_log.specs.declared.sizes.Sizes.TheVariants.{Each, Short}
 use Rattle.spec_log.specs.declared.log.LogParts.{LogParts}
-
--- a log is of version 1, which has 15 threads
-abbrev pub IsVersion : (version threads : ℕ) → Type 0
-IsVersion version threads = (version ≡ 1) × (threads ≡ most_threads)
-
--- the most instructions of a standard chunk, by the version
-abbrev pub most_standard : (version : ℕ) → ℕ
-most_standard version = most_chunk
-
--- a standard chunk of a log has at least 16 instructions
-abbrev pub IsStandard : (version s : ℕ) → Type 0
-IsStandard version s = (least_chunk ≤ s) × (s ≤ most_standard version)
+use Rattle.spec_log.specs.Versions.{IsVersion, IsStandard}
 
 -- an actor of a log is one of the threads that it may have, or a DMA
 abbrev pub IsActor : (threads : ℕ) → Actor → Type 0

@@ -38,7 +38,7 @@ no_sizes OrderSize = Each []
 no_sizes OrderOnly = Short []
 no_sizes Picolog = Short []
 
--- nothing is noted yet, of any of the threads that a sphere may have
+-- nothing is noted yet, of any of the threads that a sphere can have
 abbrev pub nothing_kept : ModeName → ℕ → Kept
 nothing_kept mode s = record { s = s; count = 0; order = []; sizes = no_sizes mode; done = replicate most_threads 0 }
 
@@ -126,12 +126,12 @@ kept_head OrderSize order position dma last live = slice_get order position
 kept_head OrderOnly order position dma last live = slice_get order position
 kept_head Picolog order position dma last live = head_by_turn dma last live
 
--- the log of what is kept, with its records: of version 1
-abbrev pub log_of : ModeName → Kept → List Interrupt → List Input → List DmaRecord → LogParts
-log_of mode kept interrupts inputs dmas =
+-- the log of what is kept, with its records, in a version and of so many threads
+abbrev pub log_of : (version threads : ℕ) → ModeName → Kept → List Interrupt → List Input → List DmaRecord → LogParts
+log_of version threads mode kept interrupts inputs dmas =
     record {
-      version = 1;
-      threads = most_threads;
+      version = version;
+      threads = threads;
       mode = mode;
       s = kept.s;
       count = kept.count;

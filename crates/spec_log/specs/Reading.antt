@@ -4,7 +4,7 @@ use Rattle.std.specs.List.{list_any}
 use Rattle.dl_entry.specs.declared.actor.Actor.{Actor}
 use Rattle.dl_entry.specs.declared.actor.Actor.TheVariants.{Thread, Dma}
 use Rattle.dl_entry.specs.declared.input.Input.{Input}
-use Rattle.dl_entry.specs.Numbers.{most_bytes, least_chunk, most_threads, dma_code}
+use Rattle.dl_entry.specs.Numbers.{most_bytes, least_chunk, most_threads, plain_threads, dma_code, dma_half}
 use Rattle.spec_log.specs.declared.mode_name.ModeName.{ModeName}
 use Rattle.spec_log.specs.declared.mode_name.ModeName.TheVariants.{OrderSize, OrderOnly, Picolog}
 use Rattle.spec_log.specs.declared.records.Interrupt.{Interrupt}
@@ -18,7 +18,8 @@ use Rattle.spec_log.specs.declared.fault.Fault.{Fault}
 use Rattle.spec_log.specs.declared.log.LogParts.{LogParts}
 use Rattle.spec_log.specs.Fields.{Read, Reader, Stage, fails, continues, gives, read, number}
 use Rattle.spec_log.specs.Fields.{field, any, at_most, from_to, counted_in, one_more, once, listed, all_of}
-use Rattle.spec_log.specs.Log.{input_kinds, most_standard}
+use Rattle.spec_log.specs.Log.{input_kinds}
+use Rattle.spec_log.specs.Versions.{by_version, most_standard, size_width}
 
 -- Faults of a log: 1 the bytes end inside a field, 2 the magic word, 3 the version, 4 the mode, 5 another value out of its
 -- range, 6 an entry that doesn't come after the one before it, 7 bytes behind the last section.
@@ -27,10 +28,9 @@ use Rattle.spec_log.specs.Log.{input_kinds, most_standard}
 abbrev pub magic : Stage Draft
 magic = once (λ d. read (number 4 2 (λ x. x == 0x4E524C44)) (λ x. gives d))
 
--- the version is 1
 abbrev pub version : Stage Draft
 version =
-    once (λ d. read (number 1 3 (λ x. x == 1)) (λ version.
+    once (λ d. read (number 1 3 (λ x. (x == 1) || (x == 2))) (λ version.
     gives (record d { shape = record d.shape { version = version } })))
 
 abbrev pub mode_of : ℕ → ModeName
@@ -39,9 +39,12 @@ mode_of code = if code == 0 then OrderSize else if code == 1 then OrderOnly else
 abbrev pub mode : Stage Draft
 mode = once (λ d. read (number 1 4 (at_most 2)) (λ code. gives (record d { mode = mode_of code })))
 
--- how many threads a log may have isn't in version 1: it is 15, and two bytes are 0
+-- how many threads the log may have: in version 1 they are 15, and two bytes are 0; version 2 says it
 abbrev pub thread_count : (version : ℕ) → Reader ℕ
-thread_count _ = read (field 2 (λ x. x == 0)) (λ spare. gives most_threads)
+thread_count version =
+    by_version version
+    (read (field 2 (λ x. x == 0)) (λ spare. gives plain_threads))
+    (field 2 (λ x. (x == plain_threads) || (x == most_threads)))
 
 abbrev pub threads : Stage Draft
 threads =
@@ -56,19 +59,34 @@ chunk_size =
 abbrev pub commits : Stage Draft
 commits = once (λ d. read (field 4 (at_most (2 ^ 24))) (λ count. gives (record d { count = count })))
 
--- a half byte is a DMA's code, or the number of a thread
-abbrev pub actor_of : ℕ → Actor
-actor_of half = if half == dma_code then Dma else Thread half
+-- a number is a DMA's code, or that of a thread
+abbrev pub actor_of : (dma : ℕ) → ℕ → Actor
+actor_of dma number = if number == dma then Dma else Thread number
 
--- a byte has two actors, the first in its low half; a last byte of one actor has no high half
+-- in version 1 a byte has two actors, the first in its low half; a last byte of one actor has no high half
 abbrev pub two_actors : List Actor → Reader (List Actor)
-two_actors order = read (any 1) (λ byte. gives ((order ++ actor_of (byte % 16) ∷ []) ++ actor_of (byte / 16) ∷ []))
+two_actors order =
+    read (any 1) (λ byte. gives ((order ++ actor_of dma_half (byte % 16) ∷ []) ++ actor_of dma_half (byte / 16) ∷ []))
 
 abbrev pub last_actor : List Actor → Reader (List Actor)
-last_actor order = read (field 1 (at_most dma_code)) (λ byte. gives (order ++ actor_of byte ∷ []))
+last_actor order = read (field 1 (at_most dma_half)) (λ byte. gives (order ++ actor_of dma_half byte ∷ []))
 
-abbrev pub more_actors : ℕ → List Actor → Reader (List Actor)
-more_actors count order = if length order + 1 == count then last_actor order else two_actors order
+abbrev pub actors_by_halves : ℕ → List Actor → Reader (List Actor)
+actors_by_halves count order = if length order + 1 == count then last_actor order else two_actors order
+
+-- in version 2 a byte has one: one of the threads that the log may have, or a DMA
+abbrev pub is_actor : (threads : ℕ) → ℕ → Bool
+is_actor threads byte = nat_lt byte threads || (byte == dma_code)
+
+abbrev pub one_actor : (threads : ℕ) → List Actor → Reader (List Actor)
+one_actor threads order = read (field 1 (is_actor threads)) (λ byte. gives (order ++ actor_of dma_code byte ∷ []))
+
+-- the next byte of an order, and how many bytes there are
+abbrev pub more_actors : Shape → (count : ℕ) → List Actor → Reader (List Actor)
+more_actors shape count order = by_version shape.version (actors_by_halves count order) (one_actor shape.threads order)
+
+abbrev pub order_len : (version count : ℕ) → ℕ
+order_len version count = by_version version (count / 2 + count % 2) count
 
 -- the number of actors is that of the commits, but in picolog 0
 abbrev pub ordered : ModeName → ℕ → ℕ
@@ -79,8 +97,8 @@ ordered Picolog count = 0
 abbrev pub order : Stage Draft
 order =
     record {
-      times = λ d. read (field 4 (λ n. n == ordered d.mode d.count)) (λ n. gives (n / 2 + n % 2));
-      one = λ d. read (more_actors d.count d.order) (λ order. gives (record d { order = order }));
+      times = λ d. read (field 4 (λ n. n == ordered d.mode d.count)) (λ n. gives (order_len d.shape.version n));
+      one = λ d. read (more_actors d.shape d.count d.order) (λ order. gives (record d { order = order }));
     }
 
 -- a thread is one of those that a log of the shape may have
@@ -93,11 +111,11 @@ is_earlier t i u j = nat_lt t u || ((t == u) && nat_lt i j)
 
 -- the size of a commit, where each commit has one
 abbrev pub size : Shape → Reader ℕ
-size shape = field 2 (at_most shape.s)
+size shape = field (size_width shape.version) (at_most shape.s)
 
 abbrev pub short_size : Shape → Reader ShortSize
 short_size shape =
-    read (thread shape) (λ t. read (any 4) (λ i. read (field 2 (from_to 1 shape.s)) (λ size.
+    read (thread shape) (λ t. read (any 4) (λ i. read (field (size_width shape.version) (from_to 1 shape.s)) (λ size.
     gives (record { thread = t; index = i; size = size }))))
 
 -- the number of sizes is that of the commits where each commit has one

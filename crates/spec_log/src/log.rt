@@ -8,8 +8,8 @@ use crate::sizes::Sizes;
 use dl_entry::{Input, Sequence};
 use std::marker::Model;
 
-/// The parts of a log: its version, how many threads it may have, the standard chunk size `s`, the number of commits, and
-/// the five sections.
+/// The parts of a log: its version, 1 or 2; how many threads it may have, 15, or in version 2 also 63; the standard chunk
+/// size `s`, in instructions; the number of commits; and the five sections.
 #[derive(Debug, Drop)]
 pub struct LogParts {
     pub version: u8,

@@ -1,7 +1,7 @@
 -- What a recorder keeps, as a log: by the definitions alone.
 use Rattle.std.proofs.Common.{◌≡◌, ℕ, ◌+◌, false, refl, ap}
-use Rattle.dl_entry.specs.Numbers.{most_threads}
 use Rattle.spec_log.specs.declared.Sizes.{Sizes}
+use Rattle.spec_log.specs.Versions.{new_threads}
 use Rattle.spec_log.specs.Noting.{order_with, sizes_at}
 use Rattle.spec_play.specs.Effects.{dma_commit}
 use Rattle.spec_play.specs.Recording.{note_of}
@@ -18,8 +18,8 @@ grows-alike r =
     record {
       commit = λ c short. refl;
       dma_commit = λ i. ap (λ (z : Sizes). record {
-        version = 1;
-        threads = most_threads;
+        version = r.version;
+        threads = new_threads r.version;
         mode = r.mode;
         s = r.kept.s;
         count = r.kept.count + 1;
@@ -36,4 +36,4 @@ grows-alike r =
 
 -- read as a log, what a recorder keeps begins as a new log and grows as the log does
 pub recorders_keep_logs : RecordersKeepLogs
-recorders_keep_logs = record { first = λ mode s. refl; grows = grows-alike }
+recorders_keep_logs = record { first = λ version mode s. refl; grows = grows-alike }

@@ -2,7 +2,6 @@
 use Rattle.std.proofs.Common.{◌≡◌, ℕ, zero, suc, Bool, true, false, cond, List, [], ◌∷◌, ◌++◌, Option, Some, None, refl, sym, ap, ◌∙◌}
 use Rattle.std.specs.Prelude.{slice_get}
 use Rattle.std.specs.Option.{option_or}
-use Rattle.dl_entry.specs.Numbers.{most_threads}
 use Rattle.dl_entry.specs.declared.Actor.{Actor}
 use Rattle.dl_entry.specs.declared.Commit.{Commit}
 use Rattle.dl_entry.specs.declared.Why.{Why}
@@ -69,7 +68,7 @@ chunk-of log p u k r =
 served_of : (log : LogParts) (p : Progress) (k : ℕ) (ts : List Parts) (t : Parts) (m : List ℕ) (o : Option TakenRecord) → IsOf k (served_verdict log p k ts t m o)
 served_of log p k ts t m None = tt
 served_of log p k ts t m (Some g) =
-    let e = serial_effect k (serve most_threads k ts p.request t m g.input) in
+    let e = serial_effect k (serve log.threads k ts p.request t m g.input) in
     interrupted_of k (interrupt_at log.interrupts k e.thread.commits) e g.used refl
 
 -- the commit of a serial step's verdict is of the thread that did it

@@ -1,5 +1,6 @@
 pub mod Programs
 pub mod Keeping
+pub mod Migrating
 pub mod Positions
 pub mod Going
 pub mod Walking

@@ -8,3 +8,4 @@ pub mod Recording
 pub mod Noted
 pub mod Walks
 pub mod Lasts
+pub mod Migration

@@ -6,12 +6,14 @@ use Rattle.spec_log.specs.declared.ModeName.{ModeName}
 use Rattle.spec_log.specs.declared.Interrupt.{Interrupt}
 use Rattle.spec_log.specs.declared.DmaRecord.{DmaRecord}
 use Rattle.spec_log.specs.declared.LogParts.{LogParts}
+use Rattle.spec_log.specs.Versions.{new_threads}
 use Rattle.spec_log.specs.Noting.{Kept, nothing_kept, noted as kept_with, index_of, insert_interrupt, log_of}
 use Rattle.spec_play.specs.Effects.{dma_commit}
 use Rattle.spec_play.specs.Recording.{new_log, note_of, noted, input_noted, dma_noted, interrupt_noted}
 
--- what a recorder keeps in a mode: what it needs of the commits, and the records
+-- what a recorder keeps in a version and a mode: what it needs of the commits, and the records
 pub record Recorded : Type 0 where
+  pub version : ℕ
   pub mode : ModeName
   pub kept : Kept
   pub interrupts : List Interrupt
@@ -20,12 +22,12 @@ pub record Recorded : Type 0 where
 
 -- as a log
 abbrev pub as_log : Recorded → LogParts
-as_log r = log_of r.mode r.kept r.interrupts r.inputs r.dmas
+as_log r = log_of r.version (new_threads r.version) r.mode r.kept r.interrupts r.inputs r.dmas
 
 -- nothing yet
-abbrev pub nothing_recorded : ModeName → (s : ℕ) → Recorded
-nothing_recorded mode s =
-    record { mode = mode; kept = nothing_kept mode s; interrupts = []; inputs = []; dmas = [] }
+abbrev pub nothing_recorded : (version : ℕ) → ModeName → (s : ℕ) → Recorded
+nothing_recorded version mode s =
+    record { version = version; mode = mode; kept = nothing_kept mode s; interrupts = []; inputs = []; dmas = [] }
 
 -- with one more of each
 abbrev pub commit_kept : Commit → (short : Bool) → Recorded → Recorded
@@ -56,5 +58,5 @@ pub record GrowsAlike (r : Recorded) : Type 0 where
       → as_log (data_kept position bytes r) ≡ dma_noted position bytes (as_log r)
 
 pub record RecordersKeepLogs : Type 0 where
-  pub first : (mode : ModeName) (s : ℕ) → as_log (nothing_recorded mode s) ≡ new_log mode s
+  pub first : (version : ℕ) (mode : ModeName) (s : ℕ) → as_log (nothing_recorded version mode s) ≡ new_log version mode s
   pub grows : (r : Recorded) → GrowsAlike r

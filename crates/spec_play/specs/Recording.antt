@@ -2,17 +2,17 @@
 use Rattle.std.specs.Prelude.{ℕ, ◌+◌, Bool, List, [], ◌∷◌, ◌++◌, Option, Some, None}
 use Rattle.dl_entry.specs.declared.Commit.{Commit}
 use Rattle.dl_entry.specs.declared.Input.{Input}
-use Rattle.dl_entry.specs.Numbers.{most_threads}
 use Rattle.spec_log.specs.declared.ModeName.{ModeName}
 use Rattle.spec_log.specs.declared.LogParts.{LogParts}
+use Rattle.spec_log.specs.Versions.{new_threads}
 use Rattle.spec_log.specs.Noting.{Note, no_sizes, order_with, sizes_at, insert_interrupt}
 
--- before the first commit, of version 1
-abbrev pub new_log : ModeName → (s : ℕ) → LogParts
-new_log mode s =
+-- before the first commit
+abbrev pub new_log : (version : ℕ) → ModeName → (s : ℕ) → LogParts
+new_log version mode s =
     record {
-      version = 1;
-      threads = most_threads;
+      version = version;
+      threads = new_threads version;
       mode = mode;
       s = s;
       count = 0;
@@ -39,9 +39,13 @@ noted c i short log =
 
 -- ---- what came from outside
 
+-- the records with one more, if there is one
+abbrev pub inputs_with : List Input → Option Input → List Input
+inputs_with inputs None = inputs
+inputs_with inputs (Some r) = inputs ++ r ∷ []
+
 abbrev pub input_noted : Option Input → LogParts → LogParts
-input_noted None log = log
-input_noted (Some r) log = record log { inputs = log.inputs ++ r ∷ [] }
+input_noted o log = record log { inputs = inputs_with log.inputs o }
 
 -- the position is the index of the DMA's commit
 abbrev pub dma_noted : (position : ℕ) → (bytes : List ℕ) → LogParts → LogParts

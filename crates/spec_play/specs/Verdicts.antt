@@ -1,6 +1,5 @@
 -- What a log says of the next commit of a thread: that it goes as logged, or why it doesn't.
 use Rattle.std.specs.Prelude.{ℕ, ◌&&◌, nat_eq, nat_lt, List, option_map, find, slice_get, Option, Some, None, if◌then◌else◌}
-use Rattle.dl_entry.specs.Numbers.{most_threads}
 use Rattle.dl_entry.specs.declared.Actor.{Actor}
 use Rattle.dl_entry.specs.declared.Input.{Input}
 use Rattle.dl_entry.specs.declared.Why.{Why}
@@ -77,7 +76,7 @@ given (Some need) (Some r) u = if fits need r then Some (record { input = Some r
 abbrev pub served_verdict : LogParts → Progress → (thread : ℕ) → List Parts → Parts → List ℕ → Option TakenRecord → LogVerdict
 served_verdict log p k threads t m None = Fails Why.Input
 served_verdict log p k threads t m (Some g) =
-    ended log k (serial_effect k (serve most_threads k threads p.request t m g.input)) g.used
+    ended log k (serial_effect k (serve log.threads k threads p.request t m g.input)) g.used
 
 -- the next step of thread k, which is t among these threads, is serial
 unfoldable pub serial_verdict : LogParts → Progress → Used → (thread : ℕ) → List Parts → Parts → List ℕ → LogVerdict

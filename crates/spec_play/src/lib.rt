@@ -5,5 +5,5 @@
 mod promise;
 mod walk_end;
 
-pub use promise::{plays_keep_lasts, recorders_keep_logs, walks_are_plays};
+pub use promise::{migration_keeps_plays, plays_keep_lasts, recorders_keep_logs, walks_are_plays};
 pub use walk_end::WalkEnd;

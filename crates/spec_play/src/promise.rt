@@ -1,5 +1,6 @@
 //! What is promised of plays and logs. Each promise is a clause of a function that does nothing.
 ghost use Rattle.spec_play.specs.Lasts.{PlaysKeepLasts};
+ghost use Rattle.spec_play.specs.Migration.{MigrationKeepsPlays};
 ghost use Rattle.spec_play.specs.Noted.{RecordersKeepLogs};
 ghost use Rattle.spec_play.specs.Walks.{WalksArePlays};
 
@@ -19,4 +20,10 @@ pub fn walks_are_plays()
 /// passed over.
 pub fn plays_keep_lasts()
     ensures { PlaysKeepLasts }
+{}
+
+/// In version 2, with as many threads as before, a log plays on every image as it did: after any number of commits, and to
+/// its end. So it fits an image that it fitted before.
+pub fn migration_keeps_plays()
+    ensures { MigrationKeepsPlays }
 {}

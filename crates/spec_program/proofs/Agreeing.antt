@@ -10,7 +10,7 @@ use Rattle.spec_run.specs.Runs.{executed}
 use Rattle.spec_run.specs.Texts.{account_as, account_text, log_of_points}
 use Rattle.spec_run.proofs.Described.{recordings_reproduced}
 use Rattle.spec_program.specs.Agreement.{AccountsAgree, RecordingsAreReplayed}
-use Rattle.spec_program.specs.Built.{bad_log, mode_named, role_of}
+use Rattle.spec_program.specs.Built.{bad_log, record_setup, role_of}
 use Rattle.spec_program.specs.Files.{ReplayInputs, ReplayRead, SphereRead}
 use Rattle.spec_program.specs.Stages.{refusing, ◌>>◌}
 use Rattle.spec_program.specs.Tasks.{setup_in}
@@ -62,8 +62,8 @@ accounts_agree plan other m n t u i j s inputs is is_too role at there =
 pub recordings_replayed : RecordingsAreReplayed
 unfolding account_text
 recordings_replayed plan other m n t u i j s inputs is is_too role at there =
-    let asked : RecordSetup = record { mode = mode_named inputs.mode } in
-    let noted_log = log_of_points (setup_in t) t.events i asked.mode in
+    let asked : RecordSetup = record_setup inputs in
+    let noted_log = log_of_points (setup_in t) t.events i asked in
     let replay : ReplayInputs = record { log = Ok noted_log } in
     let r : SphereRead = record s { role = ReplayRead replay } in
     let a = sphere_of_task plan m t i s is at in

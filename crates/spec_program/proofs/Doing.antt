@@ -5,7 +5,7 @@ use Rattle.dl_asm.specs.File.{file_of}
 use Rattle.dl_asm.specs.Sources.{lines_of, words_in}
 use Rattle.dl_elf.specs.Loading.{image_of}
 use Rattle.dl_files.specs.Contents.{Contents}
-use Rattle.dl_words.specs.Commands.{CommandValues, PairValues, Run, Inspect, Walk, Make, Drill, Asm}
+use Rattle.dl_words.specs.Commands.{CommandValues, PairValues, QueryValues, Run, Inspect, Walk, Query, Make, Drill, Asm, Migrate}
 use Rattle.spec_log.specs.declared.LogParts.{LogParts}
 use Rattle.spec_log.specs.declared.fault.Fault.{Fault}
 use Rattle.spec_log.specs.Reading.{read_of}
@@ -18,6 +18,8 @@ use Rattle.spec_program.specs.commands.Asm as asm
 use Rattle.spec_program.specs.commands.Drill as drill
 use Rattle.spec_program.specs.commands.Inspect as inspect
 use Rattle.spec_program.specs.commands.Make as make
+use Rattle.spec_program.specs.commands.Migrate as migrate
+use Rattle.spec_program.specs.commands.Query as query
 use Rattle.spec_program.specs.commands.Run as run
 use Rattle.spec_program.specs.commands.Walk as walk
 use Rattle.spec_program.specs.Ends.{IsFinished, Stands, is_done}
@@ -129,6 +131,12 @@ module _ (m : Contents) (before after : Outside) (s : Status) where
       let g = reached (walk.finish read.0) finish read.2 f in
       record { read = read.0; pair_read = pair_is m pair read.0 read.1; output = g.output; files = g.files; status = g.status }
 
+  query_done : (asked : QueryValues) (finish : Finish) → query.outcome m asked ≡ Ok finish → IsReached finish → query.IsAnswered asked m after.known before.taken after.taken s
+  query_done asked finish e f =
+      let pair = then_ok (pair_at m asked.pair) _ finish e in
+      let g = reached (query.finish asked pair.0) finish pair.2 f in
+      record { pair = pair.0; pair_read = pair_is m asked.pair pair.0 pair.1; output = g.output; files = g.files; status = g.status }
+
   asm_done : (source name : List ℕ) (finish : Finish) → asm.outcome m source name ≡ Ok finish → IsReached finish → asm.IsAssembled source name m after.known before.taken after.taken s
   asm_done source name finish e f =
       let file = then_ok (file_at m source) _ finish e in
@@ -138,12 +146,19 @@ module _ (m : Contents) (before after : Outside) (s : Status) where
       let g = reached (asm.finish name words) finish (ap (λ (b : List ℕ). Ok (asm.finish name b)) (sym is) ∙ made.2) f in
       record { bytes = file.0; there = there m source file.0 file.1; kept = made.1 ∙ ap Ok is; files = g.files; output = g.output; status = g.status }
 
+  migrate_done : (log name : List ℕ) (finish : Finish) → migrate.outcome m log name ≡ Ok finish → IsReached finish → migrate.IsMigrated log name m after.known before.taken after.taken s
+  migrate_done log name finish e f =
+      let parts = then_ok (good_log_at m log) _ finish e in
+      let g = reached (migrate.finish name parts.0) finish parts.2 f in
+      record { parts = parts.0; read = log_read m log parts.0 parts.1; files = g.files; output = g.output; status = g.status }
+
   -- the outcome of a command is reached; a run's machine is within its limits
   pub done_at : (command : CommandValues) (finish : Finish) → outcome_for m command ≡ Ok finish → ((plan : List ℕ) → command ≡ Run plan → run.HasLimits plan m) → IsFinished (Ok finish) m before after s
       → IsDone command m after.known before.taken after.taken s
   done_at (Run plan) finish e limits f = run_done plan finish e (limits plan refl) f
   done_at (Inspect log) finish e limits f = inspect_done log finish e f
   done_at (Walk pair) finish e limits f = walk_done pair finish e f
+  done_at (Query asked) finish e limits f = query_done asked finish e f
   done_at (Make number name) finish e limits f =
       let g = reached (make.finish number name) finish e f in
       record { files = g.files; output = g.output; status = g.status }
@@ -151,3 +166,4 @@ module _ (m : Contents) (before after : Outside) (s : Status) where
       let g = reached (drill.finish number) finish e f in
       record { equal = (drill_reproduced number).account; output = g.output; files = g.files; status = g.status }
   done_at (Asm source name) finish e limits f = asm_done source name finish e f
+  done_at (Migrate log name) finish e limits f = migrate_done log name finish e f

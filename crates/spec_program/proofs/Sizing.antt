@@ -1,11 +1,11 @@
 -- The numbers of a plan are over 0.
-use Rattle.std.proofs.Common.{◌≡◌, ℕ, ◌<◌, ◌≤◌, ◌&&◌, pos, negsuc, ℤ, Bool, true, false, nat_le, List, Option, Some, None, if◌then◌else◌, Result, Ok, Err, ok_or, refl, subst, leb-true, arith, unwrap_or}
+use Rattle.std.proofs.Common.{◌≡◌, ℕ, ◌<◌, ◌≤◌, ◌&&◌, pos, negsuc, ℤ, Bool, true, false, nat_le, List, Option, Some, None, if◌then◌else◌, Result, Ok, Err, ok_or, refl, ◌∙◌, subst, leb-true, arith, unwrap_or}
 use Rattle.std.proofs.lemmas.Option.{none-some, same_Some}
 use Rattle.dl_plan.specs.Entries.{Entries}
 use Rattle.dl_plan.specs.Limits.{limited, signature_of}
 use Rattle.dl_plan.specs.Optional.{◌>>=◌, ◌>>◌, each_of}
 use Rattle.dl_plan.specs.declared.Sizes.{Sizes}
-use Rattle.dl_plan.specs.Plans.{plan_of, plan_in, document, entries_in, values_in, values_of, named_well, has_good_names, schedule_of, sphere_asked}
+use Rattle.dl_plan.specs.Plans.{plan_of, plan_in, document, entries_in, values_in, values_of, named_well, cut_well, has_good_names, has_good_chunk, schedule_of, sphere_asked}
 use Rattle.dl_plan.specs.Sizes.{sizes_in, sizes_of, events_in, has_good_spheres}
 use Rattle.dl_plan.specs.Values.{PlanValues}
 
@@ -57,7 +57,7 @@ record AreLeast (s : Sizes) : Type 0 where
 sizes_least : (en : Entries) (s : Sizes) → sizes_in en ≡ Some s → AreLeast s
 sizes_least en s e =
     let cores = then_some (limited 1 8 en.top.cores) _ s (if_some (has_good_spheres en.spheres) (sizes_of en.top) s e) in
-    let chunk = then_some (limited 16 4096 en.top.chunk) _ s cores.2 in
+    let chunk = then_some (limited 16 65536 en.top.chunk) _ s cores.2 in
     let buffer = then_some (limited 1 4096 en.top.buffer) _ s chunk.2 in
     let window = then_some (limited 1 8 en.top.window) _ s buffer.2 in
     let depth = then_some (limited 1 2 (unwrap_or en.top.depth (pos 1))) _ s window.2 in
@@ -65,7 +65,7 @@ sizes_least en s e =
     let seed = then_some (limited 0 9223372036854775807 (unwrap_or en.top.seed (pos 0))) _ s signature.2 in
     subst AreLeast (same_Some _ s seed.2) (record {
       cores = limited_low 1 8 en.top.cores cores.0 cores.1;
-      chunk = limited_low 16 4096 en.top.chunk chunk.0 chunk.1;
+      chunk = limited_low 16 65536 en.top.chunk chunk.0 chunk.1;
       buffer = limited_low 1 4096 en.top.buffer buffer.0 buffer.1;
       window = limited_low 1 8 en.top.window window.0 window.1;
     })
@@ -73,9 +73,9 @@ sizes_least en s e =
 same_ok : {A : Type 0} (a b : A) → ◌≡◌ {A = Result A ℕ} (Ok a) (Ok b) → a ≡ b
 same_ok a b e = cc
 
-named_same : (b : Bool) (q p : PlanValues) → ◌≡◌ {A = Result PlanValues ℕ} (if b then Ok q else Err 7) (Ok p) → q ≡ p
-named_same true q p e = cc
-named_same false q p e = absurd cc
+passed : (b : Bool) (rule : ℕ) (q p : PlanValues) → ◌≡◌ {A = Result PlanValues ℕ} (if b then Ok q else Err rule) (Ok p) → q ≡ p
+passed true rule q p e = cc
+passed false rule q p e = absurd cc
 
 values_sized : (en : Entries) (p : PlanValues) → values_in en ≡ Ok p → IsSized p
 values_sized en p e =
@@ -96,5 +96,7 @@ pub plan_sized : (name bytes : List ℕ) (p : PlanValues) → plan_of name bytes
 unfolding plan_of
 plan_sized name bytes p e =
     let entries = then_ok (ok_or (document bytes) 1 >> entries_in) (plan_in name) p e in
-    let values = then_ok (values_in entries.0) (named_well name) p entries.2 in
-    subst IsSized (named_same (has_good_names name values.0) values.0 p values.2) (values_sized entries.0 values.0 values.1)
+    let named = then_ok (values_in entries.0 >> named_well name) cut_well p entries.2 in
+    let values = then_ok (values_in entries.0) (named_well name) named.0 named.1 in
+    let same = passed (has_good_names name values.0) 7 values.0 named.0 values.2 ∙ passed (has_good_chunk named.0) 8 named.0 p named.2 in
+    subst IsSized same (values_sized entries.0 values.0 values.1)

@@ -3,7 +3,7 @@ use Rattle.std.specs.Prelude.{◌≡◌, ℕ, List, slice_get, Some, Ok}
 use Rattle.dl_files.specs.Contents.{Contents}
 use Rattle.dl_plan.specs.declared.Product.{Product}
 use Rattle.spec_run.specs.Texts.{log_of_points}
-use Rattle.spec_program.specs.Built.{mode_named}
+use Rattle.spec_program.specs.Built.{record_setup}
 use Rattle.spec_program.specs.Files.{RecordInputs, ReplayInputs, RecordRead, ReplayRead, SphereRead}
 use Rattle.spec_program.specs.Runs.{product_for}
 use Rattle.spec_program.specs.Tasks.{Task, IsTask, setup_in}
@@ -34,5 +34,5 @@ RecordingsAreReplayed =
     → s.role ≡ RecordRead inputs
     → slice_get t.read.spheres i ≡ Some s
     → slice_get u.read.spheres j
-    ≡ Some (record s { role = ReplayRead (record { log = Ok (log_of_points (setup_in t) t.events i (mode_named inputs.mode)) }) })
+    ≡ Some (record s { role = ReplayRead (record { log = Ok (log_of_points (setup_in t) t.events i (record_setup inputs)) }) })
     → account_in t i ≡ account_in u j

@@ -10,10 +10,10 @@ use Rattle.dl_plan.specs.Values.{PlanValues}
 use Rattle.spec_log.specs.declared.ModeName.{ModeName}
 use Rattle.spec_log.specs.declared.fault.Fault.{Fault}
 use Rattle.spec_protocol.specs.declared.event.Event.{Event}
-use Rattle.spec_protocol.specs.machine.Machine.{RoleSetup, IsPlain, IsRecorded, IsReplayed, SphereSetup, Setup}
+use Rattle.spec_protocol.specs.machine.Machine.{RecordSetup, RoleSetup, IsPlain, IsRecorded, IsReplayed, SphereSetup, Setup}
 use Rattle.spec_protocol.specs.machine.World.{Numbers}
 use Rattle.spec_program.specs.declared.status.Refusal.{Refusal}
-use Rattle.spec_program.specs.Files.{ScheduleRead, ScriptRead, EventsDrawn, RoleRead, PlainRead, RecordRead, ReplayRead, SphereRead}
+use Rattle.spec_program.specs.Files.{ScheduleRead, ScriptRead, EventsDrawn, RecordInputs, RoleRead, PlainRead, RecordRead, ReplayRead, SphereRead}
 use Rattle.spec_program.specs.Lines.{image_line, log_line, script_line}
 use Rattle.spec_program.specs.Stages.{Refused, refusing, ◌>>◌}
 
@@ -42,9 +42,13 @@ mode_named Mode.OrderSize = ModeName.OrderSize
 mode_named Mode.OrderOnly = ModeName.OrderOnly
 mode_named Mode.Picolog = ModeName.Picolog
 
+-- in what version and mode a sphere is recorded
+abbrev pub record_setup : RecordInputs → RecordSetup
+record_setup inputs = record { version = inputs.version; mode = mode_named inputs.mode }
+
 abbrev pub role_of : (i : ℕ) → RoleRead → Result RoleSetup Refused
 role_of i PlainRead = Ok IsPlain
-role_of i (RecordRead inputs) = Ok (IsRecorded (record { mode = mode_named inputs.mode }))
+role_of i (RecordRead inputs) = Ok (IsRecorded (record_setup inputs))
 role_of i (ReplayRead inputs) = refusing (bad_log i) inputs.log >> λ log. Ok (IsReplayed (record { log = log }))
 
 abbrev pub sphere_of : (i : ℕ) → SphereRead → Image → Result SphereSetup Refused

@@ -28,14 +28,14 @@ recording v =
       numbers = record { s = 64; capacity = 8; bits = 128; depth = 1 };
       seed = v;
       input = [];
-      spheres = drill_sphere v (IsRecorded (record { mode = ModeName.OrderOnly })) ∷ [];
+      spheres = drill_sphere v (IsRecorded (record { version = 1; mode = ModeName.OrderOnly })) ∷ [];
     }
 
 abbrev pub recording_events : (number : ℕ) → List Event
 recording_events v = schedule 20000 (seeded v)
 
 abbrev pub recorded_log : (number : ℕ) → LogParts
-recorded_log v = log_of_points (recording v) (recording_events v) 0 ModeName.OrderOnly
+recorded_log v = log_of_points (recording v) (recording_events v) 0 (record { version = 1; mode = ModeName.OrderOnly })
 
 -- ---- the replay of its log, without a schedule
 

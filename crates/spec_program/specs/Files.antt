@@ -16,8 +16,9 @@ pub data ScheduleRead : Type 0 where
   ScriptRead : (script : Result (List Event) ℕ) → ScheduleRead
   EventsDrawn : (events : ℕ) → ScheduleRead
 
--- of what is recorded, the mode
+-- of what is recorded, the version of the log, and the mode
 pub record RecordInputs : Type 0 where
+  pub version : ℕ
   pub mode : Mode
 
 -- of what is replayed, the log, or the first of its fields that isn't good
@@ -64,7 +65,7 @@ input_read m (Some name) = read_at m name
 
 abbrev pub role_read : Contents → RoleValues → Result RoleRead (List ℕ)
 role_read m Plain = Ok PlainRead
-role_read m (Record values) = Ok (RecordRead (record { mode = values.mode }))
+role_read m (Record values) = Ok (RecordRead (record { version = values.version; mode = values.mode }))
 role_read m (Replay values) = log_at m values.log >> λ read. Ok (ReplayRead (record { log = read }))
 
 abbrev pub sphere_read : Contents → SphereValues → Result SphereRead (List ℕ)

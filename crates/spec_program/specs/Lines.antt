@@ -38,3 +38,6 @@ made_line bytes = line (codes "made " ++ decimal bytes)
 
 abbrev pub assembled_line : (bytes : ℕ) → List ℕ
 assembled_line bytes = line (codes "assembled " ++ decimal bytes)
+
+abbrev pub migrated_line : (bytes : ℕ) → List ℕ
+migrated_line bytes = line (codes "migrated " ++ decimal bytes)

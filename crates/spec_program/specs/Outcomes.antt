@@ -3,7 +3,7 @@ use Rattle.std.specs.Prelude.{ℕ, Bool, false, List, [], ◌∷◌, Result, Ok,
 use Rattle.spec_program.specs.declared.status.Status.{Status}
 use Rattle.spec_program.specs.Stages.{Refused}
 use Rattle.spec_program.specs.Statuses.{status_of}
-use Rattle.spec_program.specs.Writes.{Write, at_once}
+use Rattle.spec_program.specs.Writes.{Write, at_once, piece_by_piece}
 
 -- whether a replayed log diverged, the files that are written, in their order, and the text for the sink
 pub record Finish : Type 0 where
@@ -18,6 +18,10 @@ said text diverged = record { diverged = diverged; writes = []; text = text }
 -- one file is written, and then a text is said
 abbrev pub filed : (name bytes text : List ℕ) → Finish
 filed name bytes text = record { diverged = false; writes = at_once name bytes ∷ []; text = text }
+
+-- one log is written, and then a text is said
+abbrev pub logged : (name bytes text : List ℕ) → Finish
+logged name bytes text = record { diverged = false; writes = piece_by_piece name bytes ∷ []; text = text }
 
 abbrev pub Outcome : Type 0
 Outcome = Result Finish Refused

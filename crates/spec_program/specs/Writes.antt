@@ -15,6 +15,9 @@ pub record Write : Type 0 where
 abbrev pub at_once : (name bytes : List ℕ) → Write
 at_once name bytes = record { name = name; bytes = bytes; in_pieces = false }
 
+abbrev pub piece_by_piece : (name bytes : List ℕ) → Write
+piece_by_piece name bytes = record { name = name; bytes = bytes; in_pieces = true }
+
 -- logs are written in pieces
 abbrev pub is_log : Product → Bool
 is_log (Product.Log sphere) = true

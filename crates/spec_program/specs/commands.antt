@@ -2,6 +2,8 @@
 pub mod Run
 pub mod Inspect
 pub mod Walk
+pub mod Query
 pub mod Make
 pub mod Drill
 pub mod Asm
+pub mod Migrate

@@ -4,4 +4,5 @@ pub mod Recordings
 pub mod TwoThreads
 pub mod TwoChunks
 pub mod Abandoned
+pub mod Spawning
 pub mod Limits

@@ -54,15 +54,16 @@ pub fn events_keep_sound()
 {}
 
 /// For every setup within its limits and every list of events: flying and held words lie inside the memory of their sphere
-/// and store bytes; a memory keeps its length and holds bytes, and an outstanding request lies inside it; a sphere has 1 to 15
-/// threads, and no more commits than there were events; and a replay uses no more of its log than there is.
+/// and store bytes; a memory keeps its length and holds bytes, and an outstanding request lies inside it; a sphere has a
+/// thread and no more threads than it may, and no more commits than there were events; and a replay uses no more of its log
+/// than there is.
 pub fn worlds_are_sound()
     ensures { WorldsAreSound }
 {}
 
 /// Where a world is sound and the invariant holds: what is noted of the next commit of a plain or recorded sphere fits a log.
-/// Its thread is one of 15, its chunk no larger than a standard one and over 0 where it is short; what the devices answer to
-/// its step is an input of a log, and what they give a DMA are at most 4,096 bytes.
+/// Its thread is one of those that the log may have, its chunk no larger than a standard one and over 0 where it is short;
+/// what the devices answer to its step is an input of a log, and what they give a DMA are at most 4,096 bytes.
 pub fn notes_fit_logs()
     ensures { NotesFitLogs }
 {}
@@ -131,8 +132,9 @@ pub fn pieces_count_nothing()
     ensures { PiecesCountNothing }
 {}
 
-/// Whatever its threads, memory and log: a chunk, a serial step, a DMA or an interrupt leaves in a plain sphere what it
-/// leaves in a recorded one, but for the log, and stores the same words and leaves the same devices.
+/// Whatever its threads, memory and log: a chunk, a DMA or an interrupt leaves in a plain sphere what it leaves in a recorded
+/// one, but for the log, and stores the same words and leaves the same devices. So does a serial step, if both may have as
+/// many threads.
 pub fn plain_moves_as_recorded()
     ensures { PlainMovesAsRecorded }
 {}

@@ -4,7 +4,7 @@ use Rattle.dl_entry.specs.declared.End.{End}
 use Rattle.dl_entry.specs.declared.Why.{Why}
 use Rattle.spec_play.specs.Progress.{position}
 use Rattle.spec_play.specs.Turns.{Ended}
-use Rattle.spec_play.specs.Plays.{Played, opened, plays, play}
+use Rattle.spec_play.specs.Plays.{Played, plays}
 use Rattle.spec_protocol.specs.declared.event.Event.{Event}
 use Rattle.spec_protocol.specs.machine.Spheres.{Cursor, Replay, Sphere, is_over}
 use Rattle.spec_protocol.specs.machine.Machine.{last_played, first_played, ReplaySetup, IsReplayed, SphereSetup, Setup}

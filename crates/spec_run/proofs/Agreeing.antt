@@ -1,9 +1,8 @@
 -- Runs that agree where it matters have the same texts.
 use Rattle.std.proofs.Common.{◌≡◌, ℕ, List, refl, ap, ◌∙◌, sym, get_or}
-use Rattle.spec_log.specs.declared.ModeName.{ModeName}
 use Rattle.spec_kernel.specs.Devices.{devices_of}
 use Rattle.spec_protocol.specs.declared.event.Event.{Event}
-use Rattle.spec_protocol.specs.machine.Machine.{RoleSetup, IsPlain, IsRecorded, IsReplayed, SphereSetup, Setup, sphere_of}
+use Rattle.spec_protocol.specs.machine.Machine.{RecordSetup, RoleSetup, IsPlain, IsRecorded, IsReplayed, SphereSetup, Setup, sphere_of}
 use Rattle.spec_protocol.specs.machine.Serial.{SerialState, serial_start, do_points}
 use Rattle.spec_protocol.specs.machine.Logged.{sphere_in, supplied, logged}
 use Rattle.spec_protocol.specs.promises.Sound.{image_at, no_image}
@@ -36,15 +35,15 @@ executed_same s z es fs a points =
     let start = same_start s z a in
     (λ k. do_points (start k) (points k))
 
-log_of_points-same : (s z : Setup) (es fs : List Event) (i : ℕ) (mode : ModeName) → AreAlike s z → points_of s es ≡ points_of z fs → log_of_points s es i mode ≡ log_of_points z fs i mode
-log_of_points-same s z es fs i mode a points =
+log_of_points-same : (s z : Setup) (es fs : List Event) (i : ℕ) (asked : RecordSetup) → AreAlike s z → points_of s es ≡ points_of z fs → log_of_points s es i asked ≡ log_of_points z fs i asked
+log_of_points-same s z es fs i asked a points =
     let start = same_start s z a in
     let chunk = a.chunk in
-    (λ k. logged mode (chunk k) (supplied i (start k) (points k)))
+    (λ k. logged asked.version asked.mode (chunk k) (supplied i (start k) (points k)))
 
 log_same : (s z : Setup) (es fs : List Event) (i : ℕ) (role : RoleSetup) → AreAlike s z → points_of s es ≡ points_of z fs → log_as s es i role ≡ log_as z fs i role
 log_same s z es fs i IsPlain a points = refl
-log_same s z es fs i (IsRecorded asked) a points = ap log_bytes (log_of_points-same s z es fs i asked.mode a points)
+log_same s z es fs i (IsRecorded asked) a points = ap log_bytes (log_of_points-same s z es fs i asked a points)
 log_same s z es fs i (IsReplayed asked) a points = refl
 
 image_same : (s z : Setup) (i : ℕ) → AreAlike s z → image_at s i ≡ image_at z i

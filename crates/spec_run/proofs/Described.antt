@@ -5,11 +5,10 @@ use Rattle.std.proofs.lemmas.Bool.{true≢false}
 use Rattle.std.proofs.lemmas.Option.{none-some}
 use Rattle.dl_account.specs.Account.{account_of}
 use Rattle.dl_entry.specs.declared.End.{End}
-use Rattle.spec_log.specs.declared.ModeName.{ModeName}
 use Rattle.spec_log.specs.declared.LogParts.{LogParts}
 use Rattle.spec_play.specs.Progress.{position}
 use Rattle.spec_play.specs.Turns.{TurnOrEnd, Turn, TurnOfDma, Ended}
-use Rattle.spec_play.specs.Plays.{Played, play}
+use Rattle.spec_play.specs.Plays.{Played}
 use Rattle.spec_protocol.specs.declared.event.Event.{Event}
 use Rattle.spec_protocol.specs.machine.Spheres.{Recording, Role, Plain, Record, Replay, Cursor, Sphere, no_sphere, is_over}
 use Rattle.spec_protocol.specs.machine.Placing.{replays}
@@ -69,7 +68,7 @@ record IsKnown (s : Setup) (w : World) : Type 0 where
   sizes : length w.spheres ≡ length s.spheres
   logs : (i : ℕ) (image : SphereSetup) (asked : RecordSetup)
       → WillRecord s i image asked
-      → (sphere_at w i).role ≡ Record (record { log = logged asked.mode s.numbers.s (supplied i (serial_start s) w.points) })
+      → (sphere_at w i).role ≡ Record (record { log = logged asked.version asked.mode s.numbers.s (supplied i (serial_start s) w.points) })
   fresh : (i : ℕ) (image : SphereSetup) (asked : RecordSetup)
       → WillRecord s i image asked
       → (recording : Recording)
@@ -278,7 +277,7 @@ pub recordings_reproduced : RecordingsAreReproduced
 recordings_reproduced s es i image asked can is role =
     let t = sphere-there s es i image can is in
     let p : Sphere = t.0 in
-    let log : LogParts = log_of_points s es i asked.mode in
+    let log : LogParts = log_of_points s es i asked in
     let k = known s es can.setup in
     let will = will_record s i image asked can is role in
     let recorded : p.role ≡ Record (record { log = log }) = ap (λ (q : Sphere). q.role) (sym t.1.at) ∙ k.logs i image asked will in

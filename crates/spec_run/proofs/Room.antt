@@ -4,7 +4,7 @@ use Rattle.std.proofs.Common.{◌≡◌, ℕ, zero, suc, ◌+◌, ◌<◌, Bool,
 use Rattle.std.specs.Prelude.{slice_get}
 use Rattle.std.proofs.lemmas.Bool.{true≢false}
 use Rattle.std.proofs.lemmas.Option.{none-some}
-use Rattle.dl_entry.specs.Numbers.{most_threads}
+use Rattle.dl_entry.specs.Numbers.{plain_threads}
 use Rattle.dl_entry.specs.declared.Counts.{Counts}
 use Rattle.dl_entry.specs.declared.Request.{Request}
 use Rattle.spec_isa.specs.declared.thread.Parts.{Parts}
@@ -34,7 +34,6 @@ use Rattle.spec_protocol.specs.promises.Sound.{IsWithinLimits}
 use Rattle.spec_protocol.proofs.Moves.AnyEvent.{branch, any-event}
 use Rattle.spec_protocol.proofs.Points.Counts.{act-untold}
 use Rattle.spec_protocol.proofs.Invariants.Schedules.{happens-preserved, first_held, start-good}
-use Rattle.spec_protocol.proofs.Logs.Growing.{pushed_length}
 use Rattle.spec_protocol.proofs.Sound.Commits.{next-position}
 use Rattle.spec_protocol.proofs.Sound.Schedules.{setup-within}
 use Rattle.spec_protocol.proofs.Sound.Changes.{Properties, Holds, Lands, Keeps, act-holds}
@@ -69,10 +68,10 @@ chunk-few now k (Replay b) piece short r devices p few live = replayed-few (suc 
 serial-few : (now k m : ℕ) (role : Role) (t : Parts) (devices : Devices) (p : Sphere) → (replays role ≡ false → position p.progress < now) → Few (suc now) (serial_in role k m t devices p).sphere
 serial-few now k m Plain t devices p few live =
     let g = taken (need t p.memory) devices m in
-    granted-few now k Plain (serial_effect k (serve most_threads k p.threads p.progress.request t p.memory g.input)) devices p (few refl) refl
+    granted-few now k Plain (serial_effect k (serve plain_threads k p.threads p.progress.request t p.memory g.input)) devices p (few refl) refl
 serial-few now k m (Record recording) t devices p few live =
     let g = taken (need t p.memory) devices m in
-    granted-few now k (Record recording) (serial_effect k (serve most_threads k p.threads p.progress.request t p.memory g.input)) devices p (few refl) refl
+    granted-few now k (Record recording) (serial_effect k (serve recording.log.threads k p.threads p.progress.request t p.memory g.input)) devices p (few refl) refl
 serial-few now k m (Replay b) t devices p few live =
     verdict-few (suc now) k b (serial_verdict b.log p.progress b.used k p.threads t p.memory) devices p live
 

@@ -2,7 +2,6 @@
 use Rattle.std.specs.Prelude.{◌≡◌, ℕ, ◌<◌, ◌≤◌, ◌^◌, false, List, length, Some, slice_get}
 use Rattle.dl_account.specs.Account.{account_of}
 use Rattle.dl_entry.specs.declared.End.{End}
-use Rattle.spec_log.specs.declared.ModeName.{ModeName}
 use Rattle.spec_log.specs.declared.LogParts.{LogParts}
 use Rattle.spec_play.specs.Progress.{position}
 use Rattle.spec_play.specs.Plays.{FitsImage}
@@ -36,7 +35,7 @@ account_held p =
 -- a sphere is replayed if it was set up so, and a recording has this log
 abbrev pub HasRole : Setup → (schedule : List Event) → (i : ℕ) → RoleSetup → Role → Type 0
 HasRole s es i IsPlain role = replays role ≡ false
-HasRole s es i (IsRecorded asked) role = role ≡ Record (record { log = log_of_points s es i asked.mode })
+HasRole s es i (IsRecorded asked) role = role ≡ Record (record { log = log_of_points s es i asked })
 HasRole s es i (IsReplayed asked) role = (b : Cursor) × (role ≡ Replay b)
 
 -- sphere i of the finished machine, which was set up from the image
@@ -86,7 +85,7 @@ RecordingsAreReproduced =
     → CanFinish s
     → slice_get s.spheres i ≡ Some image
     → image.role ≡ IsRecorded asked
-    → IsReproduced image (log_of_points s es i asked.mode) (sphere_in (executed s es) i)
+    → IsReproduced image (log_of_points s es i asked) (sphere_in (executed s es) i)
 
 -- two runs that agree on a sphere's image, memory size and log write the same account of it, whatever else differs: cores,
 -- buffers, windows, signatures, schedules, devices and the other spheres

@@ -6,14 +6,13 @@ use Rattle.dl_account.specs.Report.{report_of}
 use Rattle.dl_account.specs.Summary.{summary_of}
 use Rattle.dl_entry.specs.declared.End.{End}
 use Rattle.dl_entry.specs.declared.SphereLine.{SphereLine}
-use Rattle.spec_log.specs.declared.ModeName.{ModeName}
 use Rattle.spec_log.specs.declared.LogParts.{LogParts}
 use Rattle.spec_log.specs.Bytes.{log_bytes}
 use Rattle.spec_play.specs.Progress.{position}
 use Rattle.spec_play.specs.Plays.{Played}
 use Rattle.spec_protocol.specs.declared.event.Event.{Event}
 use Rattle.spec_protocol.specs.machine.Spheres.{Sphere}
-use Rattle.spec_protocol.specs.machine.Machine.{RoleSetup, IsPlain, IsRecorded, IsReplayed, SphereSetup, Setup}
+use Rattle.spec_protocol.specs.machine.Machine.{RecordSetup, RoleSetup, IsPlain, IsRecorded, IsReplayed, SphereSetup, Setup}
 use Rattle.spec_protocol.specs.machine.Serial.{SerialState, serial_start}
 use Rattle.spec_protocol.specs.machine.Logged.{sphere_in, supplied, logged}
 use Rattle.spec_protocol.specs.promises.Sound.{image_at}
@@ -22,13 +21,13 @@ use Rattle.spec_run.specs.Runs.{points_of, counts_of, executed, played, end_of}
 -- ---- logs
 
 -- the log that the points of sphere i tell, in this mode
-abbrev pub log_of_points : Setup → (schedule : List Event) → (i : ℕ) → ModeName → LogParts
-log_of_points s es i mode = logged mode s.numbers.s (supplied i (serial_start s) (points_of s es))
+abbrev pub log_of_points : Setup → (schedule : List Event) → (i : ℕ) → RecordSetup → LogParts
+log_of_points s es i asked = logged asked.version asked.mode s.numbers.s (supplied i (serial_start s) (points_of s es))
 
 -- a recorded sphere's log as bytes; no other sphere has one
 abbrev pub log_as : Setup → (schedule : List Event) → (i : ℕ) → RoleSetup → List ℕ
 log_as s es i IsPlain = []
-log_as s es i (IsRecorded asked) = log_bytes (log_of_points s es i asked.mode)
+log_as s es i (IsRecorded asked) = log_bytes (log_of_points s es i asked)
 log_as s es i (IsReplayed asked) = []
 
 unfoldable pub log_text : Setup → (schedule : List Event) → (i : ℕ) → List ℕ

@@ -1,6 +1,7 @@
 //! Machines that were worked out event by event.
-ghost use Rattle.std.specs.Prelude.{◌≡◌, true, IfOk};
+ghost use Rattle.std.specs.Prelude.{◌≡◌, true, All, IfOk, map};
 ghost use Rattle.spec_protocol.specs.promises.Sound.{AreFew};
+ghost use Rattle.dl_sphere.specs.Setups.{IsRecordableIf, role_setup, setup_of as as_defined};
 ghost use Rattle.dl_machine.specs.Setups.{IsWithin};
 
 use dl_elf::load;
@@ -199,6 +200,28 @@ fn is_within(setup: &Setup) -> bool
         && (1..=4096).contains(&setup.capacity)
         && setup.bits == 64
         && (1..=2).contains(&setup.depth)
+        && are_recordable(setup.s, setup.spheres.as_slice())
+}
+
+// Whether standard chunks of so many instructions fit the log of each sphere that is recorded.
+fn are_recordable(s: u32, spheres: &[SphereSetup]) -> bool
+    ensures { result ≡ true → All (λ image. IsRecordableIf s image.role) (map as_defined spheres.now) }
+{
+    for sphere in spheres {
+        if !is_recordable(s, &sphere.role) {
+            return false;
+        }
+    }
+    true
+}
+
+fn is_recordable(s: u32, role: &Role) -> bool
+    ensures { result ≡ true → IsRecordableIf s (role_setup role.now) }
+{
+    match role {
+        Role::Plain | Role::Replay(_) => true,
+        Role::Record { version, .. } => *version == 1 && (16..=4096).contains(&s),
+    }
 }
 
 fn are_few(count: usize) -> bool
@@ -231,7 +254,7 @@ fn setup_of(alloc: Global, row: &Row) -> Result<Setup, Fail> {
 fn role_of(alloc: Global, lived: Lived) -> Result<Role, Fail> {
     match lived {
         Lived::Plain => Ok(Role::Plain),
-        Lived::Recorded { mode, .. } => Ok(Role::Record(mode)),
+        Lived::Recorded { mode, .. } => Ok(Role::Record { version: 1, mode }),
         Lived::Replayed { log, .. } => Ok(Role::Replay(read_log(alloc, log)?)),
     }
 }

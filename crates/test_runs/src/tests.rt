@@ -12,8 +12,10 @@ mod depths;
 mod instructions;
 mod narrow;
 mod pieces;
+mod queries;
 mod rows;
 mod tools;
+mod versions;
 
 use narrow::Narrow;
 

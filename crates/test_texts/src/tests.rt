@@ -5,6 +5,7 @@ mod assembling;
 mod log_bytes;
 mod log_lines;
 mod log_reading;
+mod log_versions;
 mod log_writing;
 mod making;
 mod plans;

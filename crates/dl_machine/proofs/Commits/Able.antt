@@ -11,7 +11,7 @@ use Rattle.spec_play.specs.Turns.{TurnOrEnd, Turn, TurnOfDma, Ended}
 use Rattle.spec_engine.specs.declared.answers.How.{How}
 use Rattle.spec_engine.specs.Chunks.{Chunk, is_serial}
 use Rattle.spec_engine.specs.Flights.{at}
-use Rattle.spec_protocol.specs.machine.Spheres.{other_than, turn_in, turn_against, Cursor, Role, Plain, Record, Replay, Sphere, actor_of, head_in, head_of, is_over, is_stopped, limit_in, limit_of, whole_limit}
+use Rattle.spec_protocol.specs.machine.Spheres.{other_than, turn_in, turn_against, Cursor, Role, Plain, Record, Replay, Sphere, actor_of, is_over, is_stopped, limit_in, limit_of, whole_limit}
 use Rattle.spec_protocol.specs.machine.Placing.{replays}
 use Rattle.spec_protocol.specs.machine.Asking.{asks_serial, is_short}
 use Rattle.spec_protocol.specs.machine.Commits.{is_piece}

@@ -7,22 +7,19 @@ use Rattle.spec_protocol.specs.machine.Machine as protocol
 use Rattle.spec_protocol.specs.machine.Machine.{world_of}
 use Rattle.spec_protocol.specs.promises.Promises.{IsSetup}
 use Rattle.spec_protocol.specs.promises.Sound.{IsImage, IsWithinLimits}
-use Rattle.spec_protocol.proofs.Invariants.Schedules.{start-good}
-use Rattle.spec_protocol.proofs.Sound.Schedules.{worlds_sound}
 use Rattle.dl_sphere.specs.declared.setup.SphereSetup.{SphereSetup}
 use Rattle.dl_sphere.specs.Setups.{setup_of}
 use Rattle.dl_machine.specs.declared.setup.Setup.{Setup}
-use Rattle.dl_machine.specs.Ready.{IsReady}
 use Rattle.dl_machine.specs.Setups.{IsWithin, setup_in}
 
-image_at : (xs : List SphereSetup) → All (λ x. IsImage (setup_of x)) xs → (i : ℕ) (image : protocol.SphereSetup) → slice_get (map setup_of xs) i ≡ Some image → IsImage image
-image_at [] all zero image e = cc
-image_at [] all (suc i) image e = cc
-image_at (x ∷ xs) all zero image e = subst IsImage (same_Some _ _ e) (all 0 x (omega arith))
-image_at (x ∷ xs) all (suc i) image e = image_at xs (λ k d l. all (suc k) d (omega arith)) i image e
+image_at : (s : ℕ) (xs : List SphereSetup) → All (λ x. IsImage s (setup_of x)) xs → (i : ℕ) (image : protocol.SphereSetup) → slice_get (map setup_of xs) i ≡ Some image → IsImage s image
+image_at s [] all zero image e = cc
+image_at s [] all (suc i) image e = cc
+image_at s (x ∷ xs) all zero image e = subst (IsImage s) (same_Some _ _ e) (all 0 x (omega arith))
+image_at s (x ∷ xs) all (suc i) image e = image_at s xs (λ k d l. all (suc k) d (omega arith)) i image e
 
 -- a machine's setup is within the protocol's limits
-pub limits_within : (s : Setup) → IsWithin s → All (λ x. IsImage (setup_of x)) s.spheres → All (λ byte. byte < 2 ^ 8) s.input → IsWithinLimits (setup_in s)
+pub limits_within : (s : Setup) → IsWithin s → All (λ x. IsImage s.s (setup_of x)) s.spheres → All (λ byte. byte < 2 ^ 8) s.input → IsWithinLimits (setup_in s)
 limits_within s within images input =
     record {
       cores = within.cores;
@@ -35,7 +32,7 @@ limits_within s within images input =
       most_buffer = within.most;
       signature = within.signature;
       input = input;
-      images = image_at s.spheres images;
+      images = image_at s.s s.spheres images;
     }
 
 -- a setup within the limits is a setup

@@ -1,7 +1,6 @@
 -- What the protocol promises holds of every world that a setup has come to.
 use Rattle.std.proofs.Common.{◌≡◌, ℕ, ◌<◌, ◌^◌, [], ◌∷◌, ◌++◌, List, Some, refl, sym, ap, ◌∙◌, subst, arith}
 use Rattle.std.specs.Prelude.{slice_get}
-use Rattle.spec_log.specs.declared.LogParts.{LogParts}
 use Rattle.spec_log.specs.Log.{IsLog}
 use Rattle.spec_protocol.specs.declared.event.Event.{Event}
 use Rattle.spec_protocol.specs.machine.World.{World}
@@ -64,14 +63,14 @@ serial_after s es limits =
 pub serial_run : (s : Setup) (es : List Event) (w : World) → IsRun s es w → IsSerial s w w.points
 serial_run s es w run = subst (λ (u : World). IsSerial s u u.points) (sym run.here) (serial_after s es run.limits)
 
-role_log : (role : RoleSetup) (asked : ReplaySetup) → role ≡ IsReplayed asked → IsRole role → IsLog asked.log
-role_log role asked is of_role = subst IsRole is of_role
+role_log : (s : ℕ) (role : RoleSetup) (asked : ReplaySetup) → role ≡ IsReplayed asked → IsRole s role → IsLog asked.log
+role_log s role asked is of_role = subst (IsRole s) is of_role
 
 promised_after : (s : Setup) (i : ℕ) (es : List Event) → IsWithinLimits s → IsPromised s i (after s es)
 promised_after s i es limits =
     let within = setup_within s limits in
     let standard : (image : SphereSetup) (asked : ReplaySetup) → slice_get s.spheres i ≡ Some image → image.role ≡ IsReplayed asked → 0 < asked.log.s =
-    λ image asked there role. (let l = (role_log image.role asked role (limits.images i image there).role).s in omega arith)
+    λ image asked there role. (let l = (role_log s.numbers.s image.role asked role (limits.images i image there).role).s.0 in omega arith)
     in
     record {
       recorded = λ image asked p recording now was is. logs_play_back s es i image asked (record { setup = within; there = now.there; role = was }) p recording now.shown is;

@@ -1,7 +1,6 @@
 -- What the code makes of a chunk, and of a serial step and a DMA that real devices answer, is what the definitions make of it.
 use Rattle.std.proofs.Common.{◌≡◌, ℕ, Bool, false, List, [], ◌∷◌, ◌++◌, Option, Some, None, refl, sym, ap, ◌∙◌, set, append-nil}
 use Rattle.std.specs.Prelude.{slice_get}
-use Rattle.dl_entry.specs.Numbers.{most_threads}
 use Rattle.dl_entry.specs.declared.Commit.{Commit}
 use Rattle.dl_entry.specs.declared.Request.{Request}
 use Rattle.spec_isa.specs.declared.thread.Parts.{Parts}
@@ -65,14 +64,14 @@ module _ (m : List ℕ) (ts : List Parts) (cs : List Commit) (last : Option ℕ)
   pub step_is_moved : (s : ℕ) (x : Keeping) (q : Option Request) (k moment : ℕ) (t : Parts)
       → IsLive x → slice_get ts k ≡ Some t → IsKeepingOf s (sphere_with m ts cs last q (role_of x)) x →
       let g = taken (need t m) d moment in
-      let v = serve most_threads k ts q t m g.input in
+      let v = serve (protocol.most_in (role_of x)) k ts q t m g.input in
       moved_by m ts cs k t g v (role_of (with_noted (serial_commit k v.loads v.outputs) false g.input None x)) ≡ serial_moved k moment t d (sphere_with m ts cs last q (role_of x))
   unfolding serial_moved
   step_is_moved s Plain q k moment t live start h = refl
   step_is_moved s (Replaying r loads) q k moment t live start h = absurd live
   step_is_moved s (Recording r) q k moment t live start h =
       let g = taken (need t m) d moment in
-      let v = serve most_threads k ts q t m g.input in
+      let v = serve (protocol.most_in (role_of (Recording r))) k ts q t m g.input in
       let c : Commit = serial_commit k v.loads v.outputs in
       ap (λ l. moved_by m ts cs k t g v (protocol.Record (record { log = l }))) (log_with r c false g.input ∙ ap (λ i. input_noted g.input (noted c i false (as_log r))) (h.done k ∙ ap commits_if start))
 

@@ -1,7 +1,6 @@
 -- What a verdict by which a commit goes on says of the commit and of its words.
 use Rattle.std.proofs.Common.{◌≡◌, ℕ, Bool, true, false, List, Option, Some, None, sym, ap, ◌∙◌, cond}
 use Rattle.std.proofs.lemmas.Bool.{true≢false}
-use Rattle.dl_entry.specs.Numbers.{most_threads}
 use Rattle.dl_entry.specs.declared.Commit.{Commit}
 use Rattle.dl_entry.specs.declared.Why.{Why}
 use Rattle.spec_isa.specs.declared.thread.Parts.{Parts}
@@ -67,7 +66,7 @@ served-commits : (log : LogParts) (p : Progress) (k : ℕ) (ts : List Parts) (t 
 unfolding goes
 served-commits log p k ts t m None f w is = absurd (true≢false (sym (ap goes is)))
 served-commits log p k ts t m (Some g) f w is =
-    let e : Effect = serial_effect k (serve most_threads k ts p.request t m g.input) in
+    let e : Effect = serial_effect k (serve log.threads k ts p.request t m g.input) in
     let same : f.commit ≡ e.commit = interrupted-keeps (interrupt_at log.interrupts k e.thread.commits) e g.used f w is in
     same ∙ ap (λ (c : Commit). serial_commit k c.loads c.outputs) (sym same)
 

@@ -5,6 +5,7 @@ use Rattle.std.proofs.lemmas.Bool.{true≢false}
 use Rattle.dl_entry.specs.declared.Request.{Request}
 use Rattle.spec_isa.specs.declared.thread.Parts.{Parts}
 use Rattle.spec_log.specs.Log.{IsLog}
+use Rattle.spec_log.proofs.Threads.{log-among}
 use Rattle.spec_protocol.specs.promises.Sound.{IsSoundRequest}
 use Rattle.spec_protocol.specs.machine.Placing.{replays}
 use Rattle.spec_protocol.specs.machine.Spheres.{Cursor, Role, Plain as Live, Record, Replay as IsReplay, Sphere, limit_in, limit_of, limit_after, whole_limit}
@@ -44,7 +45,9 @@ few_live s p (Replays r loads) live h = absurd live
 
 -- a part and those before it are few enough to be counted
 pub part-fits : (b : Cursor) (k n : ℕ) (t : Parts) → IsLog b.log → b.total < whole_limit b.log k t.commits → n ≤ limit_in (IsReplay b) 0 k t.commits → b.total + n < 2 ^ 32
-part-fits b k n t is room within = let a = whole-most b.log k t.commits is in let c = is.s.1 in omega (arith, a, c, room, within)
+part-fits b k n t is room within =
+    let a = whole-most b.log k t.commits is in
+    omega (arith, a, (log-among b.log is).most, room, within)
 
 -- a chunk of a thread that isn't replayed may run a standard chunk's instructions
 pub live-limit : (after : Bool) (s : ℕ) (role : Role) (k : ℕ) (t : Parts) → replays role ≡ false → chunk_limit after s role k t ≡ s
@@ -60,11 +63,6 @@ live-limit true s (IsReplay b) k t live = absurd (true≢false live)
 pub replay-least : (after : Bool) (s : ℕ) (b : Cursor) (k n : ℕ) → 1 ≤ chunk_limit_in after (IsReplay b) s k n
 replay-least false s b k n = omega arith
 replay-least true s b k n = omega arith
-
--- the limit of a replay's chunk is at most 4,096
-pub replay-most : (after : Bool) (s : ℕ) (b : Cursor) (k n : ℕ) → IsLog b.log → chunk_limit_in after (IsReplay b) s k n ≤ 4096
-replay-most false s b k n is = let a = whole-most b.log k n is in let c = is.s.1 in omega (arith, a, c)
-replay-most true s b k n is = let a = whole-most b.log k (n + 1) is in let c = is.s.1 in omega (arith, a, c)
 
 -- a request inside a memory is inside the largest
 pub sound-within : (size most : ℕ) (o : Option Request) → size ≤ most → IfSome o (IsSoundRequest size) → IfSome o (IsSoundRequest most)

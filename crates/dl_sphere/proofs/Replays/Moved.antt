@@ -78,7 +78,7 @@ module _ (x : Sphere) (r : Replaying) (loads : List Load) where
   -- ---- what stands
 
   -- after one commit more the sphere stands
-  pub stands_more : (new : Replaying) (us : List Parts) (last : Option ℕ) (q : Option Request) (c : Commit) (s : ℕ) → length us ≤ 15
+  pub stands_more : (new : Replaying) (us : List Parts) (last : Option ℕ) (q : Option Request) (c : Commit) (s : ℕ) → length us ≤ 63
       → new.log ≡ r.log → new.done ≡ r.done + 1 → new.last ≡ last → new.commits ≡ commits_of us
       → IsSphere s x (roles.Replaying r loads) → IsSphere s (moved_to us (x.progress.commits ++ c ∷ []) last q new []) (roles.Replaying new [])
   stands_more new us last q c s few log done is commits h =
@@ -96,7 +96,7 @@ module _ (x : Sphere) (r : Replaying) (loads : List Load) where
       }
 
   -- after a commit of thread k that goes on it stands
-  pub stands_granted : (new : Replaying) (us : List Parts) (q : Option Request) (k : ℕ) (v : LogVerdict) (c : Commit) (s : ℕ) → length us ≤ 15 → HasGone r x.progress k x.threads v new us q
+  pub stands_granted : (new : Replaying) (us : List Parts) (q : Option Request) (k : ℕ) (v : LogVerdict) (c : Commit) (s : ℕ) → length us ≤ 63 → HasGone r x.progress k x.threads v new us q
       → IsSphere s x (roles.Replaying r loads) → IsSphere s (moved_to us (x.progress.commits ++ c ∷ []) (Some k) q new []) (roles.Replaying new [])
   stands_granted new us q k v c s few w h =
       let is = w.replay in
@@ -109,7 +109,7 @@ module _ (x : Sphere) (r : Replaying) (loads : List Load) where
   stands_left new us q why s is threads h =
       record {
         size = h.size;
-        threads = subst (λ xs. length xs ≤ 15) (sym threads) h.threads;
+        threads = subst (λ xs. length xs ≤ 63) (sym threads) h.threads;
         kept = record {
           is_log = subst IsLog (sym (ap (λ (n : Replaying). n.log) is)) h.kept.is_log;
           agrees = record {

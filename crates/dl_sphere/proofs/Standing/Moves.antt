@@ -1,20 +1,23 @@
 -- What is true of every sphere stays true as it commits, transfers and takes interrupts.
-use Rattle.std.proofs.Common.{◌≡◌, ℕ, suc, ◌+◌, ◌<◌, ◌≤◌, Bool, true, false, ◌&&◌, not, List, [], ◌∷◌, ◌++◌, length, Option, Some, None, slice_index, refl, sym, ap, ◌∙◌, subst, arith, inl, inr, set, get_or-set_same, get_or-set_other, length-set, length-append, append-nil}
+use Rattle.std.proofs.Common.{◌≡◌, ℕ, suc, ◌+◌, ◌<◌, ◌≤◌, ◌^◌, Bool, true, false, ◌&&◌, not, List, [], ◌∷◌, ◌++◌, length, Option, Some, None, slice_index, refl, sym, ap, ◌∙◌, subst, arith, inl, inr, set, get_or-set_same, get_or-set_other, length-set, length-append, append-nil}
 use Rattle.std.specs.Prelude.{slice_get, OnSome}
 use Rattle.dl_kernel.specs.Calls.{spawned_list}
 use Rattle.std.proofs.lemmas.Bool.{cases_eq, and_parts, true≢false}
+use Rattle.std.proofs.lemmas.Option.{slice_get_within}
 use Rattle.dl_entry.specs.declared.Actor.{Actor}
 use Rattle.dl_entry.specs.declared.Commit.{Commit}
 use Rattle.dl_entry.specs.declared.Input.{Input}
 use Rattle.spec_isa.specs.declared.thread.Parts.{Parts}
+use Rattle.spec_log.specs.Log.{IsActor}
 use Rattle.spec_log.specs.Noting.{index_of, done_with}
+use Rattle.spec_log.specs.Versions.{new_threads}
 use Rattle.spec_kernel.specs.Interrupts.{is_live, has_handler, takes_interrupt, interrupted}
 use Rattle.spec_play.specs.Effects.{dma_commit}
 use Rattle.spec_play.specs.Progress.{position}
 use Rattle.spec_play.specs.Recording.{noted, input_noted, dma_noted}
 use Rattle.spec_play.proofs.Keeping.{grows-alike}
 use Rattle.spec_log.specs.declared.LogParts.{LogParts}
-use Rattle.spec_protocol.specs.machine.Spheres.{Sphere, Record}
+use Rattle.spec_protocol.specs.machine.Spheres.{Sphere, Record, most_in}
 use Rattle.spec_protocol.specs.machine.Commits.{role_raised}
 use Rattle.spec_protocol.proofs.Moves.Threads.{AreNew}
 use Rattle.spec_protocol.proofs.Logs.Growing.{commits_in, commits_if, commits-other, commits-same, ThreadCommit, HasCommitted, has_committed-stands}
@@ -22,16 +25,16 @@ use Rattle.spec_protocol.proofs.Logs.Lookups.{none-there}
 use Rattle.spec_protocol.proofs.Logs.Coming.{Transferred, transferred-stands, WasRaised, raised-stands}
 use Rattle.spec_play.specs.Noted.{Recorded, as_log, interrupt_kept}
 use Rattle.dl_sphere.specs.Recorded.{with_commit}
-use Rattle.dl_sphere.specs.Roles.{Keeping, Plain, Recording, Replaying, role_of, HasFew, IsLive, with_noted, with_raised, CanRaise, HasRecorded, IsKeepingOf, IsSphere}
+use Rattle.dl_sphere.specs.Roles.{Keeping, Plain, Recording, Replaying, role_of, HasFew, IsLive, with_noted, with_raised, CanNote, CanRaise, HasRecorded, IsKeepingOf, IsSphere}
 
 -- ---- the commit of a thread
 
 -- thread k, which was t and is u, has committed c, with a record or without, and has spawned these threads
 pub record Commits (p q : Sphere) (k : ℕ) (t u : Parts) (spawned : List Parts) (c : Commit) : Type 0 where
   pub start : slice_get p.threads k ≡ Some t
-  pub within : k ≤ 14
+  pub within : k ≤ 62
   pub threads : q.threads ≡ set p.threads k u ++ spawned
-  pub few : length q.threads ≤ 15
+  pub few : length q.threads ≤ 63
   pub commits : u.commits ≡ t.commits + 1
   pub new : AreNew spawned
   pub position_ : position q.progress ≡ suc (position p.progress)
@@ -83,10 +86,14 @@ module _ (p q : Sphere) (k : ℕ) (t u : Parts) (spawned : List Parts) (c : Comm
   few-after : HasFew p → HasFew q
   few-after h = record { few = few-at h.few }
 
-  keeping-after : (s : ℕ) (early : Bool) (o : Option Input) (x : Keeping) → IsLive x → IsKeepingOf s p x → IsKeepingOf s q (with_noted c early o None x)
-  keeping-after s early o Plain live h = few-after h
-  keeping-after s early o (Replaying r loads) live h = absurd live
-  keeping-after s early o (Recording r) live h =
+  -- it has no more threads than its part allows, if it had no more before
+  abbrev pub Allows : Keeping → Type 0
+  Allows x = length p.threads ≤ most_in (role_of x) → length q.threads ≤ most_in (role_of x)
+
+  keeping-after : (s : ℕ) (early : Bool) (o : Option Input) (x : Keeping) → IsLive x → Allows x → IsKeepingOf s p x → IsKeepingOf s q (with_noted c early o None x)
+  keeping-after s early o Plain live allows h = few-after h
+  keeping-after s early o (Replaying r loads) live allows h = absurd live
+  keeping-after s early o (Recording r) live allows h =
       let commit : ThreadCommit = record { thread = k; before = t; after = u; spawned = spawned; commit = c; short = early; input = o } in
       let has : HasCommitted commit p q (as_log r) (as_log (with_commit c early o None r)) =
       record {
@@ -102,18 +109,19 @@ module _ (p q : Sphere) (k : ℕ) (t u : Parts) (spawned : List Parts) (c : Comm
       record {
         few = few-after h.few;
         s = h.s;
+        threads = allows h.threads;
         all = ap length (ap (done_with r.kept.done) d.actor) ∙ length-set r.kept.done k (slice_index r.kept.done k + 1) ∙ h.all;
         done = done-after s r h;
         stands = has_committed-stands commit p q (as_log r) (as_log (with_commit c early o None r)) has h.stands;
       }
 
   -- what a sphere keeps stands by it after a commit of a thread
-  pub commits_stand : (s : ℕ) (early : Bool) (o : Option Input) (x : Keeping) → IsLive x → IsSphere s p x → IsSphere s q (with_noted c early o None x)
-  commits_stand s early o x live h =
+  pub commits_stand : (s : ℕ) (early : Bool) (o : Option Input) (x : Keeping) → IsLive x → Allows x → IsSphere s p x → IsSphere s q (with_noted c early o None x)
+  commits_stand s early o x live allows h =
       record {
         size = h.size;
         threads = d.few;
-        kept = keeping-after s early o x live h.kept;
+        kept = keeping-after s early o x live allows h.kept;
       }
 
 -- ---- an interrupt
@@ -133,6 +141,7 @@ kept-raised p q k value t s (Recording r) start takes threads progress same live
     record {
       few = few-same p q progress same h.few;
       s = h.s;
+      threads = let n : length q.threads ≡ length p.threads = ap length threads ∙ length-set p.threads k (interrupted value t) in let m = h.threads in omega arith;
       all = h.all;
       done = λ j. h.done j ∙ sym (same j);
       stands = raised-stands k value p q (as_log r) (as_log (interrupt_kept k t.commits value r)) t was h.stands;
@@ -171,7 +180,9 @@ pub can_raise : (p : Sphere) (k : ℕ) (t : Parts) (s : ℕ) (x : Keeping) → s
 can_raise p k t s Plain start takes h = tt
 can_raise p k t s (Replaying r loads) start takes h = tt
 can_raise p k t s (Recording r) start takes h =
-    none-there r.interrupts k t.commits (h.kept.stands.unmasked k t start (unmasked t takes))
+    let inside = slice_get_within p.threads k t start in
+    let few = h.kept.threads in
+    (omega arith, none-there r.interrupts k t.commits (h.kept.stands.unmasked k t start (unmasked t takes)))
 
 -- an interrupt leaves the role that the definitions give the sphere
 pub raised_role : (k i value : ℕ) (x : Keeping) → role_of (with_raised k i value x) ≡ role_raised k i value (role_of x)
@@ -180,12 +191,12 @@ raised_role k i value (Recording r) = refl
 raised_role k i value (Replaying r loads) = refl
 
 -- a thread is spawned only where there is a place for it
-pub threads_few : (ts : List Parts) (k : ℕ) (u : Parts) (spawned : Option Parts) (after : List Parts) → after ≡ set ts k u ++ spawned_list spawned → OnSome spawned (length ts < 15) → length ts ≤ 15 → length after ≤ 15
-threads_few ts k u None after is room few =
+pub threads_few : (most : ℕ) (ts : List Parts) (k : ℕ) (u : Parts) (spawned : Option Parts) (after : List Parts) → after ≡ set ts k u ++ spawned_list spawned → OnSome spawned (length ts < most) → length ts ≤ most → length after ≤ most
+threads_few most ts k u None after is room few =
     let n : length after ≡ length ts = ap length is ∙ ap length (append-nil (set ts k u)) ∙ length-set ts k u in omega arith
-threads_few ts k u (Some spawned) after is room few =
+threads_few most ts k u (Some spawned) after is room few =
     let n : length after ≡ length ts + 1 = ap length is ∙ length-append (set ts k u) (spawned ∷ []) ∙ ap (λ n. n + 1) (length-set ts k u) in
-    let l : length ts < 15 = room in
+    let l : length ts < most = room in
     omega arith
 
 -- ---- a DMA
@@ -210,6 +221,7 @@ kept-transferred p q s bytes (Recording r) live threads more h =
     record {
       few = few-more p q threads more h.few;
       s = h.s;
+      threads = let n : length q.threads ≡ length p.threads = ap length threads in let m = h.threads in omega arith;
       all = h.all;
       done = λ j. h.done j ∙ sym (ap (λ ts. commits_in ts j) threads);
       stands = transferred-stands p q (as_log r) (as_log (with_commit dma_commit false None (Some bytes) r)) bytes was h.stands;
@@ -227,3 +239,17 @@ transferred_stand p q s bytes x live threads more h =
 -- a DMA of a recorded sphere leaves its log with the commit and the bytes noted
 pub transferred_role : (p : Sphere) (s : ℕ) (bytes : List ℕ) (r : Recorded) → HasRecorded s p r → role_of (with_noted dma_commit false None (Some bytes) (Recording r)) ≡ Record (record { log = dma_noted (position p.progress) bytes (noted dma_commit (position p.progress) false (as_log r)) })
 transferred_role p s bytes r h = ap (λ l. Record (record { log = l })) (dma_log_at r bytes (position p.progress) h.stands.count)
+
+-- ---- what can be noted
+
+-- a commit of one of the threads, no larger than a standard chunk, and over 0 if it is short
+pub can_note : (s : ℕ) (p : Sphere) (x : Keeping) (k : ℕ) (c : Commit) (short : Bool) → IsSphere s p x → k < length p.threads → c.actor ≡ Actor.Thread k → c.size ≤ s → (short ≡ true → 1 ≤ c.size) → position p.progress < 2 ^ 24 → CanNote c short x
+can_note s p Plain k c short h inside actor size over few = tt
+can_note s p (Replaying r loads) k c short h inside actor size over few = tt
+can_note s p (Recording r) k c short h inside actor size over few =
+    record {
+      actor = subst (IsActor (new_threads r.version)) (sym actor) (omega (arith, inside, h.kept.threads));
+      size = omega (arith, size, h.kept.s);
+      over = over;
+      few = omega (arith, few, h.kept.stands.count);
+    }

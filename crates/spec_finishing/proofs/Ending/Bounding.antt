@@ -1,12 +1,10 @@
 -- The work of a run bounds what is left after its schedule.
-use Rattle.std.proofs.Common.{◌≡◌, ℕ, zero, suc, ◌+◌, ◌-◌, ◌*◌, ◌≤◌, List, [], ◌∷◌, ◌++◌, map, replicate, Option, Some, None, refl, sym, ap, ◌∙◌, subst, arith}
+use Rattle.std.proofs.Common.{◌≡◌, ℕ, zero, suc, ◌+◌, ◌*◌, ◌≤◌, List, [], ◌∷◌, ◌++◌, map, replicate, Option, Some, None, refl, sym, ap, ◌∙◌, subst, arith}
 use Rattle.spec_play.specs.Progress.{no_progress, nothing_used}
-use Rattle.spec_play.specs.Plays.{opened}
 use Rattle.spec_protocol.specs.declared.event.Event.{Event}
 use Rattle.spec_protocol.specs.machine.World.{Numbers, World, Move}
 use Rattle.spec_protocol.specs.machine.Commits.{turned}
 use Rattle.spec_protocol.specs.machine.Machine.{first_threads, first_played, RoleSetup, IsPlain, IsRecorded, IsReplayed, SphereSetup, Setup, role_of, sphere_of, world_of, happens, world_after, with_move, moves}
-use Rattle.spec_isa.specs.Threads.{started}
 use Rattle.spec_protocol.specs.machine.Serial.{SerialState, serial_start}
 use Rattle.spec_protocol.specs.machine.Shown.{shown_of}
 use Rattle.spec_protocol.specs.machine.Moves.{do_if}

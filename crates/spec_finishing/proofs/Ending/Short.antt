@@ -2,7 +2,6 @@
 use Rattle.std.proofs.Common.{◌≡◌, ℕ, zero, suc, ◌+◌, ◌*◌, ◌≤◌, List, [], ◌∷◌, ◌++◌, length, Option, Some, None, refl, arith}
 use Rattle.std.specs.Prelude.{slice_get}
 use Rattle.std.specs.Int.{bytes_low_first}
-use Rattle.dl_entry.specs.Numbers.{most_threads}
 use Rattle.dl_entry.specs.declared.Actor.{Actor}
 use Rattle.dl_entry.specs.declared.Input.{Input}
 use Rattle.dl_entry.specs.declared.Request.{Request}
@@ -16,6 +15,7 @@ use Rattle.spec_log.specs.declared.DmaRecord.{DmaRecord}
 use Rattle.spec_log.specs.declared.LogParts.{LogParts}
 use Rattle.spec_log.specs.Log.{IsInput, IsDmaRecord, IsLog}
 use Rattle.spec_log.specs.Size.{size_in}
+use Rattle.spec_log.proofs.Threads.{standard-few}
 use Rattle.spec_kernel.specs.Copies.{bytes_put, copied, dma_words}
 use Rattle.spec_kernel.specs.Needs.{Need, Write, Read, Random, Clock, MomentWord, InputWord, need, next_kind, next_operation}
 use Rattle.spec_kernel.specs.Calls.{called}
@@ -89,19 +89,19 @@ stored-most request t (Operation.Amo op rd a v) = omega arith
 abbrev FewWords : StepResult → Type 0
 FewWords v = length v.words ≤ 4096
 
-kind-most : (o : Option Kind) (k : ℕ) (ts : List Parts) (request : Option Request) (t : Parts) (m : List ℕ) (input : Option Input) → FewIf (need t m) input → FewWords (serve_kind most_threads o k ts request t m input)
-kind-most None k ts request t m input few = omega arith
-kind-most (Some Kind.Call) k ts request t m input few =
-    either_serve FewWords (is_outside t) (outside_called (need t m) request t input) (inside_called (called most_threads (length m) k ts request t)) (outside-most (need t m) request t input few) (omega arith)
-kind-most (Some Kind.Break) k ts request t m input few = omega arith
-kind-most (Some Kind.DeviceLoad) k ts request t m input few = loaded-most request t (next_operation t m) input
-kind-most (Some Kind.DeviceStore) k ts request t m input few = stored-most request t (next_operation t m)
-kind-most (Some (Kind.Fault cause)) k ts request t m input few = omega arith
+kind-most : (o : Option Kind) (most k : ℕ) (ts : List Parts) (request : Option Request) (t : Parts) (m : List ℕ) (input : Option Input) → FewIf (need t m) input → FewWords (serve_kind most o k ts request t m input)
+kind-most None most k ts request t m input few = omega arith
+kind-most (Some Kind.Call) most k ts request t m input few =
+    either_serve FewWords (is_outside t) (outside_called (need t m) request t input) (inside_called (called most (length m) k ts request t)) (outside-most (need t m) request t input few) (omega arith)
+kind-most (Some Kind.Break) most k ts request t m input few = omega arith
+kind-most (Some Kind.DeviceLoad) most k ts request t m input few = loaded-most request t (next_operation t m) input
+kind-most (Some Kind.DeviceStore) most k ts request t m input few = stored-most request t (next_operation t m)
+kind-most (Some (Kind.Fault cause)) most k ts request t m input few = omega arith
 
 -- a serial step stores at most 4,096 words
-pub serve-most : (k : ℕ) (ts : List Parts) (request : Option Request) (t : Parts) (m : List ℕ) (input : Option Input) → FewIf (need t m) input → length (serve most_threads k ts request t m input).words ≤ 4096
+pub serve-most : (most k : ℕ) (ts : List Parts) (request : Option Request) (t : Parts) (m : List ℕ) (input : Option Input) → FewIf (need t m) input → length (serve most k ts request t m input).words ≤ 4096
 unfolding serve
-serve-most k ts request t m input few = kind-most (next_kind t m) k ts request t m input few
+serve-most most k ts request t m input few = kind-most (next_kind t m) most k ts request t m input few
 
 -- a record of few bytes makes few words
 pub record-few : (o : Option Need) (r : Input) → length r.bytes ≤ 4096 → length (copy_of o r) ≤ 4096
@@ -135,8 +135,8 @@ given-few log (Some n) (Some r) u few = branch (GivenFew (Some n)) (fits n r) (S
 served-words : (log : LogParts) (p : Progress) (k : ℕ) (ts : List Parts) (t : Parts) (m : List ℕ) (o : Option TakenRecord) → GivenFew (need t m) o → words_stored (served_verdict log p k ts t m o) ≤ 4096
 served-words log p k ts t m None few = omega arith
 served-words log p k ts t m (Some g) few =
-    let e = serial_effect k (serve most_threads k ts p.request t m g.input) in
-    interrupted-words (interrupt_at log.interrupts k e.thread.commits) e g.used (serve-most k ts p.request t m g.input few)
+    let e = serial_effect k (serve log.threads k ts p.request t m g.input) in
+    interrupted-words (interrupt_at log.interrupts k e.thread.commits) e g.used (serve-most log.threads k ts p.request t m g.input few)
 
 serial-words : (log : LogParts) (p : Progress) (u : Used) (k : ℕ) (ts : List Parts) (t : Parts) (m : List ℕ) → IsLog log → words_stored (serial_verdict log p u k ts t m) ≤ 4096
 unfolding serial_verdict
@@ -170,33 +170,33 @@ size-with-most : (s : ℕ) (o : Option ℕ) → ((z : ℕ) → o ≡ Some z → 
 size-with-most s None each = omega arith
 size-with-most s (Some z) each = each z refl
 
-standard-most : (log : LogParts) (k n : ℕ) → IsLog log → size_or_standard log k n ≤ log.s
-standard-most log k n is =
+run-size_most : (log : LogParts) (k n : ℕ) → IsLog log → size_or_standard log k n ≤ log.s
+run-size_most log k n is =
     size-with-most log.s (size_in log (Actor.Thread k) n) (λ z e. size-most log.mode log.threads log.s log.count k n z log.order log.sizes is.sizes e)
 
-thread-few : (log : LogParts) (y : Played) (k : ℕ) (t : Parts) (o : Option Kind) → IsLog log → thread_work log y k t o ≤ 4096
-thread-few log y k t (Some kind) is = serial-words log y.progress y.used k y.threads t y.memory is
+thread-few : (log : LogParts) (y : Played) (k : ℕ) (t : Parts) (o : Option Kind) → IsLog log → thread_work log y k t o ≤ 65536
+thread-few log y k t (Some kind) is = let l = serial-words log y.progress y.used k y.threads t y.memory is in omega (arith, l)
 thread-few log y k t None is =
     let l = run-most y.memory t (size_or_standard log k t.commits) in
-    let m = standard-most log k t.commits is in
-    let n = is.s.1 in
+    let m = run-size_most log k t.commits is in
+    let n = standard-few log.version log.threads log.s is.version is.s in
     omega (arith, l, m, n)
 
-turn-few : (log : LogParts) (y : Played) (k : ℕ) (o : Option Parts) → IsLog log → turn_work log y k o ≤ 4101
+turn-few : (log : LogParts) (y : Played) (k : ℕ) (o : Option Parts) → IsLog log → turn_work log y k o ≤ 65541
 turn-few log y k None is = omega arith
 turn-few log y k (Some t) is = let l = thread-few log y k t (next_kind t y.memory) is in omega (arith, l)
 
-now-few : (log : LogParts) (y : Played) (now : TurnOrEnd) → IsLog log → now_work log y now ≤ 4101
+now-few : (log : LogParts) (y : Played) (now : TurnOrEnd) → IsLog log → now_work log y now ≤ 65541
 now-few log y (Ended how) is = omega arith
 now-few log y TurnOfDma is = let l = dma-verdict-words log y.progress y.used is in omega (arith, l)
 now-few log y (Turn k) is = turn-few log y k (slice_get y.threads k) is
 
-commit-few : (log : LogParts) (y : Played) → IsLog log → commit_work log y ≤ 4101
+commit-few : (log : LogParts) (y : Played) → IsLog log → commit_work log y ≤ 65541
 unfolding commit_work
 commit-few log y is = now-few log y y.now is
 
--- n commits of a play have at most 4,101 * n to do
-pub commits-few : (log : LogParts) (y : Played) (i n : ℕ) → IsLog log → commits_work log y i n ≤ 4101 * n
+-- n commits of a play have at most 65,541 * n to do
+pub commits-few : (log : LogParts) (y : Played) (i n : ℕ) → IsLog log → commits_work log y i n ≤ 65541 * n
 commits-few log y i zero is = omega arith
 commits-few log y i (suc n) is =
     let a = commit-few log (plays log y i) is in let b = commits-few log y (suc i) n is in omega (arith, a, b)

@@ -2,6 +2,7 @@
 use Rattle.std.proofs.Common.{◌≡◌, ℕ, suc, ◌+◌, ◌*◌, ◌^◌, ◌<◌, ◌≤◌, false, eqb, List, [], ◌∷◌, ◌++◌, length, Option, Some, None, refl, sym, ap, ◌∙◌, subst, arith}
 use Rattle.std.specs.Prelude.{slice_get}
 use Rattle.std.proofs.lemmas.Bool.{true≢false}
+use Rattle.dl_entry.specs.Numbers.{most_chunk, plain_threads}
 use Rattle.dl_entry.specs.declared.Input.{Input}
 use Rattle.dl_entry.specs.declared.Request.{Request}
 use Rattle.spec_isa.specs.declared.thread.Parts.{Parts}
@@ -10,7 +11,6 @@ use Rattle.spec_kernel.specs.Devices.{Devices}
 use Rattle.spec_kernel.specs.Needs.{Need, need}
 use Rattle.spec_kernel.specs.Answers.{Taken, taken, dma_bytes}
 use Rattle.spec_play.specs.Progress.{position}
-use Rattle.spec_play.specs.Plays.{opened}
 use Rattle.spec_engine.specs.declared.answers.How.{How}
 use Rattle.spec_engine.specs.Flights.{Flight, at}
 use Rattle.spec_protocol.specs.declared.event.Event.{Event}
@@ -48,17 +48,17 @@ use Rattle.spec_finishing.proofs.Ending.Short.{FewIf, record-few, serve-most, dm
 
 -- ---- plays
 
-setup-few : (image : SphereSetup) (r : RoleSetup) → IsRole r → setup_work image r ≤ 4101 * 2 ^ 24
-setup-few image IsPlain is = omega arith
-setup-few image (IsRecorded asked) is = omega arith
-setup-few image (IsReplayed asked) is =
+setup-few : (s : ℕ) (image : SphereSetup) (r : RoleSetup) → IsRole s r → setup_work image r ≤ 65541 * 2 ^ 24
+setup-few s image IsPlain is = omega arith
+setup-few s image (IsRecorded asked) is = omega arith
+setup-few s image (IsReplayed asked) is =
     let l = commits-few asked.log (first_played image asked.log) 0 asked.log.count is in let c = is.count in omega (arith, l, c)
 
-plays-few : (ds : List SphereSetup) → ((i : ℕ) (d : SphereSetup) → slice_get ds i ≡ Some d → IsImage d) → plays_work ds ≤ (4101 * 2 ^ 24) * length ds
-plays-few [] each = omega arith
-plays-few (d ∷ ds) each =
-    let a = setup-few d d.role (each 0 d refl).role in
-    let b = plays-few ds (λ i x e. each (suc i) x e) in
+plays-few : (s : ℕ) (ds : List SphereSetup) → ((i : ℕ) (d : SphereSetup) → slice_get ds i ≡ Some d → IsImage s d) → plays_work ds ≤ (65541 * 2 ^ 24) * length ds
+plays-few s [] each = omega arith
+plays-few s (d ∷ ds) each =
+    let a = setup-few s d d.role (each 0 d refl).role in
+    let b = plays-few s ds (λ i x e. each (suc i) x e) in
     omega (arith, a, b)
 
 -- ---- the current memory holds bytes
@@ -87,7 +87,7 @@ current-bytes s w i sound l =
 
 -- what a shown sphere has of a sound one
 record IsFew (z : Numbers) (devices : Devices) (p : Sphere) : Type 0 where
-  limits : (k : ℕ) (t : Parts) → limit_of z.s p.role k t ≤ 4096
+  limits : (k : ℕ) (t : Parts) → limit_of z.s p.role k t ≤ most_chunk
   bytes : IsBytes p.memory
   input : HaveByteInput devices
   request : (q : Request) → p.progress.request ≡ Some q → q.len ≤ 4096
@@ -98,7 +98,7 @@ fits-limit z p k t How.Serial n limit f = let l = f.early (λ h. cc) in omega (a
 fits-limit z p k t How.Overflow n limit f = let l = f.early (λ h. cc) in omega (arith, l)
 fits-limit z p k t How.Cut n limit f = let l = f.early (λ h. cc) in omega (arith, l)
 
-chunk-few : (z : Numbers) (devices : Devices) (p : Sphere) (k : ℕ) (how : How) (n limit : ℕ) (o : Option Parts) → IsFew z devices p → FitsChunk z p k how n limit o → suc n ≤ 4101
+chunk-few : (z : Numbers) (devices : Devices) (p : Sphere) (k : ℕ) (how : How) (n limit : ℕ) (o : Option Parts) → IsFew z devices p → FitsChunk z p k how n limit o → suc n ≤ 65541
 chunk-few z devices p k how n limit None few fits = absurd fits
 chunk-few z devices p k how n limit (Some t) few fits =
     let a = fits-limit z p k t how n limit fits in let b = fits.limited in let c = few.limits k t in omega (arith, a, b, c)
@@ -112,45 +112,45 @@ taken-few o g sound = input-few o g.input sound.input
 
 serial-in-few : (z : Numbers) (role : Role) (k moment : ℕ) (t : Parts) (devices : Devices) (p : Sphere) → replays role ≡ false → IsFew z devices p → length (serial_in role k moment t devices p).words ≤ 4096
 serial-in-few z Plain k moment t devices p live few =
-    serve-most k p.threads p.progress.request t p.memory (taken (need t p.memory) devices moment).input (taken-few (need t p.memory) (taken (need t p.memory) devices moment) (taken-sound t p.memory devices moment few.bytes few.input))
+    serve-most plain_threads k p.threads p.progress.request t p.memory (taken (need t p.memory) devices moment).input (taken-few (need t p.memory) (taken (need t p.memory) devices moment) (taken-sound t p.memory devices moment few.bytes few.input))
 serial-in-few z (Record recording) k moment t devices p live few =
-    serve-most k p.threads p.progress.request t p.memory (taken (need t p.memory) devices moment).input (taken-few (need t p.memory) (taken (need t p.memory) devices moment) (taken-sound t p.memory devices moment few.bytes few.input))
+    serve-most recording.log.threads k p.threads p.progress.request t p.memory (taken (need t p.memory) devices moment).input (taken-few (need t p.memory) (taken (need t p.memory) devices moment) (taken-sound t p.memory devices moment few.bytes few.input))
 serial-in-few z (Replay b) k moment t devices p live few = absurd (true≢false live)
 
 serial-moved-few : (z : Numbers) (k moment : ℕ) (t : Parts) (devices : Devices) (p : Sphere) → replays p.role ≡ false → IsFew z devices p → length (serial_moved k moment t devices p).words ≤ 4096
 unfolding serial_moved
 serial-moved-few z k moment t devices p live few = serial-in-few z p.role k moment t devices p live few
 
-serial-few : (z : Numbers) (devices : Devices) (p : Sphere) (moment k : ℕ) (o : Option Parts) → replays p.role ≡ false → IsFew z devices p → serial_work p devices moment k o ≤ 4101
+serial-few : (z : Numbers) (devices : Devices) (p : Sphere) (moment k : ℕ) (o : Option Parts) → replays p.role ≡ false → IsFew z devices p → serial_work p devices moment k o ≤ 65541
 serial-few z devices p moment k None live few = omega arith
 serial-few z devices p moment k (Some t) live few = let l = serial-moved-few z k moment t devices p live few in omega (arith, l)
 
-live-dma-few : (role : Role) (devices : Devices) (p : Sphere) (o : Option Request) → ((q : Request) → o ≡ Some q → q.len ≤ 4096) → dma_work (live_dma role devices p o) ≤ 4101
+live-dma-few : (role : Role) (devices : Devices) (p : Sphere) (o : Option Request) → ((q : Request) → o ≡ Some q → q.len ≤ 4096) → dma_work (live_dma role devices p o) ≤ 65541
 live-dma-few role devices p None few = omega arith
 live-dma-few role devices p (Some q) few =
     let a = dma-few devices q in let b = few q refl in let l = dma-most q (dma_bytes devices q) (omega (arith, a, b)) in omega (arith, l)
 
-dma-in-few : (z : Numbers) (role : Role) (devices : Devices) (p : Sphere) → replays role ≡ false → IsFew z devices p → dma_work (dma_in role devices p) ≤ 4101
+dma-in-few : (z : Numbers) (role : Role) (devices : Devices) (p : Sphere) → replays role ≡ false → IsFew z devices p → dma_work (dma_in role devices p) ≤ 65541
 dma-in-few z Plain devices p live few = live-dma-few Plain devices p p.progress.request few.request
 dma-in-few z (Record recording) devices p live few = live-dma-few (Record (record recording { log = dma_log recording.log devices p p.progress.request })) devices p p.progress.request few.request
 dma-in-few z (Replay b) devices p live few = absurd (true≢false live)
 
-dma-moved-few : (z : Numbers) (devices : Devices) (p : Sphere) → replays p.role ≡ false → IsFew z devices p → dma_work (dma_moved devices p) ≤ 4101
+dma-moved-few : (z : Numbers) (devices : Devices) (p : Sphere) → replays p.role ≡ false → IsFew z devices p → dma_work (dma_moved devices p) ≤ 65541
 unfolding dma_moved
 dma-moved-few z devices p live few = dma-in-few z p.role devices p live few
 
-what-few : (z : Numbers) (devices : Devices) (p : Sphere) (moment : ℕ) (a : MoveKind) → replays p.role ≡ false → IsFew z devices p → FitsWhat z devices p a → what_work p devices moment a ≤ 4101
+what-few : (z : Numbers) (devices : Devices) (p : Sphere) (moment : ℕ) (a : MoveKind) → replays p.role ≡ false → IsFew z devices p → FitsWhat z devices p a → what_work p devices moment a ≤ 65541
 what-few z devices p moment (OfChunk k how n limit) live few fits = chunk-few z devices p k how n limit (slice_get p.threads k) few fits
 what-few z devices p moment (OfSerial k) live few fits = serial-few z devices p moment k (slice_get p.threads k) live few
 what-few z devices p moment OfDma live few fits = dma-moved-few z devices p live few
 what-few z devices p moment (OfRaise k value) live few fits = omega arith
 
-role-few : (p : Sphere) (devices : Devices) (m : Move) (role : Role) → (replays role ≡ false → what_work p devices m.moment m.what ≤ 4101) → role_work p devices m role ≤ 4101
+role-few : (p : Sphere) (devices : Devices) (m : Move) (role : Role) → (replays role ≡ false → what_work p devices m.moment m.what ≤ 65541) → role_work p devices m role ≤ 65541
 role-few p devices m Plain few = few refl
 role-few p devices m (Record recording) few = few refl
 role-few p devices m (Replay b) few = omega arith
 
-at-few : (z : Numbers) (devices : Devices) (m : Move) (o : Option Sphere) → ((p : Sphere) → o ≡ Some p → IsFew z devices p) → FitsAt z devices m o → sphere_work devices m o ≤ 4101
+at-few : (z : Numbers) (devices : Devices) (m : Move) (o : Option Sphere) → ((p : Sphere) → o ≡ Some p → IsFew z devices p) → FitsAt z devices m o → sphere_work devices m o ≤ 65541
 at-few z devices m None few fits = absurd fits
 at-few z devices m (Some p) few fits = role-few p devices m p.role (λ live. what-few z devices p m.moment m.what live (few p refl) fits)
 
@@ -166,14 +166,14 @@ shown-few s w i p limits sound e =
     let k = sound.spheres i l in
     let same : over (current w i) q ≡ p = (let o : Some (over (current w i) q) ≡ Some p = sym (shown_at w i l ∙ ap Some (shown_over w i)) ∙ e in cc) in
     subst (IsFew w.numbers w.devices) same (record {
-      limits = λ j t. limit-most w.numbers.s (position q.progress) q.threads q.role j t (subst (λ (z : Numbers). z.s ≤ 4096) (sym sound.sizes.numbers) limits.chunk.1)
+      limits = λ j t. limit-most w.numbers.s (position q.progress) q.threads q.role j t (subst (λ (z : Numbers). z.s ≤ most_chunk) (sym sound.sizes.numbers) limits.chunk.1)
           (subst (λ (z : Numbers). IsSoundRole z.s (position q.progress) q.threads q.role) (sym sound.sizes.numbers) k.role);
       bytes = current-bytes s w i sound l;
       input = sound.devices;
       request = λ r h. (let c : IsSoundRequest (length (image_at s i).memory) r = subst (IsSoundIf (length (image_at s i).memory)) h k.request in c.few);
     })
 
-if-few : (s : Setup) (w : World) (o : Option Move) → IsWithinLimits s → IsSound s w → FitsIf w.numbers (shown_of w) o → if_work (shown_of w) o ≤ 4101
+if-few : (s : Setup) (w : World) (o : Option Move) → IsWithinLimits s → IsSound s w → FitsIf w.numbers (shown_of w) o → if_work (shown_of w) o ≤ 65541
 if-few s w None limits sound fits = omega arith
 if-few s w (Some m) limits sound fits =
     at-few w.numbers w.devices m (slice_get (shown_of w).spheres m.sphere) (λ p e. shown-few s w m.sphere p limits sound e) fits
@@ -188,34 +188,34 @@ setups_finish s limits =
       cores = (let l = limits.cores.0 in omega (arith, l));
       window = (let l = limits.window.0 in omega (arith, l));
       standard = λ i image asked there replays_.
-          let is = subst IsRole replays_ (limits.images i image there).role in
+          let is = subst (IsRole s.numbers.s) replays_ (limits.images i image there).role in
           let l = is.s.0 in
           omega (arith, l);
     }
 
-schedule-few : (s : Setup) → IsWithinLimits s → (before es : List Event) → moves_work s.numbers (shown_of (after s before)) (moves (after s before) es) ≤ 4101 * length es
+schedule-few : (s : Setup) → IsWithinLimits s → (before es : List Event) → moves_work s.numbers (shown_of (after s before)) (moves (after s before) es) ≤ 65541 * length es
 schedule-few s limits before [] = omega arith
 schedule-few s limits before (e ∷ es) =
     let w = after s before in
     let a = happens w e in
     let known = known-after replays_follow s before (setups_finish s limits) in
-    let r = subst (λ (v : World). moves_work s.numbers (shown_of v) (moves v es) ≤ 4101 * length es) (after-event (world_of s) before e) (schedule-few s limits (before ++ e ∷ []) es) in
+    let r = subst (λ (v : World). moves_work s.numbers (shown_of v) (moves v es) ≤ 65541 * length es) (after-event (world_of s) before e) (schedule-few s limits (before ++ e ∷ []) es) in
     let one_ = if-few s w a.move limits (worlds_sound s before limits) (happens-preserved w e known.good).fits in
     let split = event_work s w e es known in
     omega (arith, r, one_, split)
 
-work-few : (s : Setup) (es : List Event) → IsWithinLimits s → length es ≤ 2 ^ 32 → work s es ≤ 8 * (4101 * 2 ^ 24) + 4101 * 2 ^ 32
+work-few : (s : Setup) (es : List Event) → IsWithinLimits s → length es ≤ 2 ^ 32 → work s es ≤ 8 * (65541 * 2 ^ 24) + 65541 * 2 ^ 32
 work-few s es limits few =
-    let a = plays-few s.spheres limits.images in
+    let a = plays-few s.numbers.s s.spheres limits.images in
     let n = limits.few.1 in
     let b = schedule-few s limits [] es in
     let same = ap (λ (x : SerialState). moves_work s.numbers x (moves (world_of s) es)) (start-shown s) in
     omega (arith, a, n, b, same, few)
 
-price-few : (c work_ : ℕ) → c ≤ 8 → work_ ≤ 8 * (4101 * 2 ^ 24) + 4101 * 2 ^ 32 → (c + 6) * work_ ≤ 14 * (8 * (4101 * 2 ^ 24) + 4101 * 2 ^ 32)
+price-few : (c work_ : ℕ) → c ≤ 8 → work_ ≤ 8 * (65541 * 2 ^ 24) + 65541 * 2 ^ 32 → (c + 6) * work_ ≤ 14 * (8 * (65541 * 2 ^ 24) + 65541 * 2 ^ 32)
 unfolding price
 price-few c work_ cores few =
-    let l = price-least c work_ (8 * (4101 * 2 ^ 24) + 4101 * 2 ^ 32) few in omega (arith, l, cores)
+    let l = price-least c work_ (8 * (65541 * 2 ^ 24) + 65541 * 2 ^ 32) few in omega (arith, l, cores)
 
 -- a run of up to 2^32 events is finished before 2^63
 pub runs_short : RunsAreShort

@@ -9,7 +9,7 @@ use Rattle.spec_kernel.specs.Interrupts.{is_live}
 use Rattle.spec_log.specs.declared.LogParts.{LogParts}
 use Rattle.spec_play.specs.Progress.{position}
 use Rattle.spec_play.specs.Turns.{TurnOrEnd, Turn, TurnOfDma}
-use Rattle.spec_play.specs.Plays.{Played, opened, plays}
+use Rattle.spec_play.specs.Plays.{Played, plays}
 use Rattle.spec_protocol.specs.machine.Spheres.{Cursor, Replay, Sphere, is_over, whole_limit, limit_of}
 use Rattle.spec_protocol.specs.machine.Machine.{first_played, SphereSetup}
 use Rattle.spec_protocol.proofs.Moves.Granted.{get-set_same}

@@ -1,8 +1,7 @@
 -- Serial steps and DMAs of a replay pay, as its chunks do.
-use Rattle.std.proofs.Common.{◌≡◌, ℕ, suc, ◌+◌, ◌-◌, ◌≤◌, inl, inr, false, [], ◌∷◌, length, Option, Some, None, refl, sym, ap, ◌∙◌, subst, arith, set}
+use Rattle.std.proofs.Common.{◌≡◌, ℕ, suc, ◌+◌, ◌-◌, ◌≤◌, inl, inr, false, length, Option, Some, None, refl, sym, ap, ◌∙◌, subst, arith, set}
 use Rattle.std.specs.Prelude.{slice_get, IsSome}
 use Rattle.std.proofs.lemmas.Bool.{true≢false, lt-ltb, cases_lt}
-use Rattle.std.proofs.lemmas.List.{length-append}
 use Rattle.dl_entry.specs.declared.End.{End}
 use Rattle.spec_isa.specs.declared.thread.Parts.{Parts}
 use Rattle.spec_isa.specs.declared.thread.Kind.{Kind}

@@ -42,11 +42,11 @@ use Rattle.spec_protocol.proofs.Examples.Scenes.{alone, deep, replies}
 abbrev replayed : (count : ℕ) → List Actor → List ℕ → List Interrupt → RoleSetup
 replayed count order sizes interrupts =
     IsReplayed (record {
-      log = record (new_log ModeName.OrderSize 100) { count = count; order = order; sizes = Sizes.Each sizes; interrupts = interrupts };
+      log = record (new_log 1 ModeName.OrderSize 100) { count = count; order = order; sizes = Sizes.Each sizes; interrupts = interrupts };
     })
 
 abbrev recorded : RoleSetup
-recorded = IsRecorded (record { mode = ModeName.OrderSize })
+recorded = IsRecorded (record { version = 1; mode = ModeName.OrderSize })
 
 -- four instructions, and then the call that ends the thread
 abbrev goes_on : List ℕ

@@ -1,5 +1,5 @@
 -- The limits can be met: by a setup with a sphere of each role.
-use Rattle.std.proofs.Common.{◌≡◌, ℕ, zero, suc, [], ◌∷◌, length, replicate, Some, refl, subst, arith}
+use Rattle.std.proofs.Common.{◌≡◌, ℕ, zero, suc, inl, inr, [], ◌∷◌, length, replicate, Some, refl, subst, arith}
 use Rattle.std.specs.Prelude.{slice_get, slice_index}
 use Rattle.std.proofs.lemmas.Option.{none-some}
 use Rattle.std.proofs.lemmas.List.{length-replicate}
@@ -20,7 +20,7 @@ least =
       numbers = record { s = 16; capacity = 1; bits = 64; depth = 1 };
       seed = 0;
       input = [];
-      spheres = with_role IsPlain ∷ with_role (IsRecorded (record { mode = ModeName.Picolog })) ∷ with_role (IsReplayed (record { log = new_log ModeName.OrderSize 16 })) ∷ [];
+      spheres = with_role IsPlain ∷ with_role (IsRecorded (record { version = 2; mode = ModeName.Picolog })) ∷ with_role (IsReplayed (record { log = new_log 1 ModeName.OrderSize 16 })) ∷ [];
     }
 
 zeros : (n i : ℕ) → slice_index (replicate n 0) i ≡ 0
@@ -31,10 +31,10 @@ zeros (suc n) (suc i) = zeros n i
 none : {X : Type 0} (good : X → Type 0) (before : X → X → Type 0) → IsSection good before []
 none good before = record { few = omega arith; each = λ k d l. absurd (omega (arith, l)); rising = λ k d l. absurd (omega (arith, l)) }
 
-empty_log : IsLog (new_log ModeName.OrderSize 16)
+empty_log : IsLog (new_log 1 ModeName.OrderSize 16)
 empty_log =
     record {
-      version = (refl, refl);
+      version = inl (refl, refl);
       s = (omega arith, omega arith);
       count = omega arith;
       order = (refl, λ k d l. absurd (omega (arith, l)));
@@ -44,7 +44,7 @@ empty_log =
       dmas = none _ _;
     }
 
-image : (role : RoleSetup) → IsRole role → IsImage (with_role role)
+image : (role : RoleSetup) → IsRole 16 role → IsImage 16 (with_role role)
 image role is =
     let z : ℕ = 0 in
     let n : length (replicate 4096 z) ≡ 4096 = length-replicate 4096 z in
@@ -58,13 +58,13 @@ image role is =
       role = is;
     }
 
-image_is : (i : ℕ) (x : SphereSetup) → slice_get least.spheres i ≡ Some x → IsImage x
-image_is zero x e = subst IsImage (let q : with_role IsPlain ≡ x = cc in q) (image IsPlain tt)
+image_is : (i : ℕ) (x : SphereSetup) → slice_get least.spheres i ≡ Some x → IsImage 16 x
+image_is zero x e = subst (IsImage 16) (let q : with_role IsPlain ≡ x = cc in q) (image IsPlain tt)
 image_is (suc zero) x e =
-    subst IsImage (let q : with_role (IsRecorded (record { mode = ModeName.Picolog })) ≡ x = cc in q) (image (IsRecorded (record { mode = ModeName.Picolog })) tt)
+    subst (IsImage 16) (let q : with_role (IsRecorded (record { version = 2; mode = ModeName.Picolog })) ≡ x = cc in q) (image (IsRecorded (record { version = 2; mode = ModeName.Picolog })) (inr (refl, inr refl), (omega arith, omega arith)))
 image_is (suc (suc zero)) x e =
-    let r = IsReplayed (record { log = new_log ModeName.OrderSize 16 }) in
-    subst IsImage (let q : with_role r ≡ x = cc in q) (image r empty_log)
+    let r = IsReplayed (record { log = new_log 1 ModeName.OrderSize 16 }) in
+    subst (IsImage 16) (let q : with_role r ≡ x = cc in q) (image r empty_log)
 image_is (suc (suc (suc i))) x e = absurd (none-some x e)
 
 within_limits : IsWithinLimits least

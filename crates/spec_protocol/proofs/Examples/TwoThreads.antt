@@ -36,7 +36,7 @@ code =
     ∷ 0x00200293 ∷ 0x00300293 ∷ []
 
 abbrev two_threads : ModeName → Setup
-two_threads mode = record (alone 2 (IsRecorded (record { mode = mode })) 60 code) { input = 0x41 ∷ 0x42 ∷ 0x43 ∷ [] }
+two_threads mode = record (alone 2 (IsRecorded (record { version = 1; mode = mode })) 60 code) { input = 0x41 ∷ 0x42 ∷ 0x43 ∷ [] }
 
 abbrev points : List Point
 points =
@@ -47,7 +47,7 @@ points =
     ∷ Point.Commit 31 0 (Actor.Thread 0) CommitKind.Chunk 1 true ∷ []
 
 abbrev noted_log : ModeName → LogParts
-noted_log mode = logged mode 100 (supplied 0 (serial_start (two_threads mode)) points)
+noted_log mode = logged 1 mode 100 (supplied 0 (serial_start (two_threads mode)) points)
 
 abbrev played : ModeName → Played
 played mode = play (noted_log mode) (image 60 code) 0

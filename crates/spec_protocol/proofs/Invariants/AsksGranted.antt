@@ -15,7 +15,7 @@ use Rattle.spec_engine.proofs.Marking.{covers_hit}
 use Rattle.spec_engine.proofs.Searches.{first_none, first_some, full_at}
 use Rattle.spec_protocol.specs.declared.event.Event.{Event}
 use Rattle.spec_protocol.specs.declared.reply.Reply.{Reply}
-use Rattle.spec_protocol.specs.machine.Spheres.{other_than, turn_in, turn_against, Role, Plain, Record, Replay, Sphere, is_stopped, recording_turn, head_in, head_of}
+use Rattle.spec_protocol.specs.machine.Spheres.{other_than, turn_in, turn_against, Role, Plain, Record, Replay, Sphere, is_stopped, recording_turn}
 use Rattle.spec_protocol.specs.machine.Placing.{replays}
 use Rattle.spec_protocol.specs.machine.Commits.{CommitOutcome, Granted, Piece, Diverged, MovedSphere, is_piece, chunk_moved, serial_moved}
 use Rattle.spec_protocol.specs.machine.World.{Occupant, World, moment, sphere_at, EventOutcome, answered}

@@ -3,7 +3,7 @@ use Rattle.std.proofs.Common.{◌≡◌, ℕ, ◌<◌, inl, inr, Bool, true, fal
 use Rattle.std.specs.Prelude.{slice_get, option_map}
 use Rattle.std.proofs.lemmas.Bool.{cases_eq}
 use Rattle.std.proofs.lemmas.Option.{none-some, slice_get_within, slice_get-map, get_or_from_slice_get}
-use Rattle.dl_entry.specs.Numbers.{most_threads}
+use Rattle.dl_entry.specs.Numbers.{plain_threads}
 use Rattle.dl_entry.specs.declared.Request.{Request}
 use Rattle.spec_isa.specs.declared.thread.Parts.{Parts}
 use Rattle.spec_isa.specs.Runs.{Run, run}
@@ -47,13 +47,13 @@ chunk_last (Record recording) k piece short r devices p last = last-effect k (ch
 chunk_last (Replay b) k piece short r devices p last = replayed_last piece b k r devices p last
 
 -- what the devices' answer leaves of a serial step
-abbrev served_effect : (thread moment : ℕ) → Parts → Devices → Sphere → Effect
-served_effect k moment t devices p =
-    serial_effect k (serve most_threads k p.threads p.progress.request t p.memory (taken (need t p.memory) devices moment).input)
+abbrev served_effect : (most thread moment : ℕ) → Parts → Devices → Sphere → Effect
+served_effect most k moment t devices p =
+    serial_effect k (serve most k p.threads p.progress.request t p.memory (taken (need t p.memory) devices moment).input)
 
 serial_last : (role : Role) (k moment : ℕ) (t : Parts) (devices : Devices) (p : Sphere) → IsOfCommits p.progress → IsOfCommits (serial_in role k moment t devices p).sphere.progress
-serial_last Plain k moment t devices p last = last-effect k (served_effect k moment t devices p) p.progress refl
-serial_last (Record recording) k moment t devices p last = last-effect k (served_effect k moment t devices p) p.progress refl
+serial_last Plain k moment t devices p last = last-effect k (served_effect plain_threads k moment t devices p) p.progress refl
+serial_last (Record recording) k moment t devices p last = last-effect k (served_effect recording.log.threads k moment t devices p) p.progress refl
 serial_last (Replay b) k moment t devices p last = verdict_last b k (serial_verdict b.log p.progress b.used k p.threads t p.memory) devices p (serial-of b.log p.progress b.used k p.threads t p.memory) last
 
 -- after a DMA, if there is one

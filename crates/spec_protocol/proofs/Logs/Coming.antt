@@ -41,6 +41,7 @@ pub ahead-end : (p : Sphere) (log : LogParts) → Ahead log p log
 ahead-end p log =
     record {
       mode = refl;
+      threads = refl;
       s = refl;
       count = omega arith;
       order = ([], sym (append-nil log.order));
@@ -83,6 +84,7 @@ has_committed-ahead L c p q log qlog d a =
     let ints : (j i : ℕ) → interrupt_at qlog.interrupts j i ≡ interrupt_at log.interrupts j i = (λ j i. ap (λ (is : List Interrupt). interrupt_at is j i) n.interrupts) in
     record {
       mode = a.mode ∙ n.mode;
+      threads = a.threads ∙ n.threads;
       s = a.s ∙ n.s;
       count = let h = n.count in let l = a.count in omega arith;
       order = order_ahead log.mode (Actor.Thread c.thread) L.order log.order (subst (Behind L.order) n.order a.order);
@@ -157,6 +159,7 @@ transferred-ahead L p q log qlog bytes d b =
     let a : Ahead L q l = subst (Ahead L q) d.log_ b in
     record {
       mode = a.mode;
+      threads = a.threads;
       s = a.s;
       count = let h = a.count in omega arith;
       order = order_ahead log.mode Actor.Dma L.order log.order a.order;
@@ -244,6 +247,7 @@ raised-ahead L k value p q log qlog t d b =
     let was : commits_in p.threads k ≡ t.commits = ap commits_if d.start in
     record {
       mode = a.mode;
+      threads = a.threads;
       s = a.s;
       count = a.count;
       order = a.order;

@@ -4,6 +4,7 @@ use Rattle.std.specs.Prelude.{nat_lt, find}
 use Rattle.std.specs.List.{flat_map}
 use Rattle.std.proofs.lemmas.Bool.{true≢false, cases_eq, eq-eqb, ne_eqb, lt-ltb, le-ltb}
 use Rattle.std.proofs.lemmas.List.{append_assoc}
+use Rattle.dl_entry.specs.Numbers.{most_threads}
 use Rattle.spec_log.specs.Reading.{is_earlier}
 use Rattle.spec_log.specs.Noting.{insert_by}
 use Rattle.spec_protocol.specs.machine.Logged.{threads}
@@ -120,10 +121,10 @@ placed_from {X} thread index f g most x a (suc n) l m top are other own =
     ]
 
 -- among the entries of all threads the entry of one goes behind that thread's
-pub placed-behind : {X : Type 0} (thread index : X → ℕ) (f g : ℕ → List X) (most : ℕ → ℕ) (x : X) → thread x < 15 → Are thread index (thread x) (index x) (f (thread x)) → ((j : ℕ) → Are thread index j (most j) (f j))
+pub placed-behind : {X : Type 0} (thread index : X → ℕ) (f g : ℕ → List X) (most : ℕ → ℕ) (x : X) → thread x < most_threads → Are thread index (thread x) (index x) (f (thread x)) → ((j : ℕ) → Are thread index j (most j) (f j))
     → ((j : ℕ) → j ≢ thread x → g j ≡ f j) → g (thread x) ≡ f (thread x) ++ x ∷ []
     → insert_by thread index x (flat_map f threads) ≡ flat_map g threads
-placed-behind thread index f g most x l top are other own = placed_from thread index f g most x 0 15 (omega arith) l top are other own
+placed-behind thread index f g most x l top are other own = placed_from thread index f g most x 0 most_threads (omega arith) l top are other own
 
 -- ---- a thread's own among those of all
 
@@ -144,5 +145,5 @@ part_from {X} test f k a (suc n) l m e =
     ]
 
 -- what none of all is, none of one thread is
-pub part-none : {X : Type 0} (test : X → Bool) (f : ℕ → List X) (k : ℕ) → k < 15 → find test (flat_map f threads) ≡ None → find test (f k) ≡ None
-part-none test f k l e = part_from test f k 0 15 (omega arith) l e
+pub part-none : {X : Type 0} (test : X → Bool) (f : ℕ → List X) (k : ℕ) → k < most_threads → find test (flat_map f threads) ≡ None → find test (f k) ≡ None
+part-none test f k l e = part_from test f k 0 most_threads (omega arith) l e

@@ -66,6 +66,7 @@ DmasBehind ys xs n = (rest : List DmaRecord) × (ys ≡ xs ++ rest) × DmasFrom 
 -- L is what the log has become in the end
 pub record Ahead (L : LogParts) (p : Sphere) (log : LogParts) : Type 0 where
   pub mode : L.mode ≡ log.mode
+  pub threads : L.threads ≡ log.threads
   pub s : L.s ≡ log.s
   pub count : log.count ≤ L.count
   pub order : Behind L.order log.order
@@ -104,6 +105,7 @@ pub record HasCommitted (c : ThreadCommit) (p q : Sphere) (log qlog : LogParts) 
 
 record SameButInputs (a b : LogParts) : Type 0 where
   mode : a.mode ≡ b.mode
+  threads : a.threads ≡ b.threads
   s : a.s ≡ b.s
   count : a.count ≡ b.count
   order : a.order ≡ b.order
@@ -112,12 +114,13 @@ record SameButInputs (a b : LogParts) : Type 0 where
   dmas : a.dmas ≡ b.dmas
 
 inputs_apart : (o : Option Input) (log : LogParts) → SameButInputs (input_noted o log) log
-inputs_apart None log = record { mode = refl; s = refl; count = refl; order = refl; sizes = refl; interrupts = refl; dmas = refl }
-inputs_apart (Some r) log = record { mode = refl; s = refl; count = refl; order = refl; sizes = refl; interrupts = refl; dmas = refl }
+inputs_apart None log = record { mode = refl; threads = refl; s = refl; count = refl; order = refl; sizes = refl; interrupts = refl; dmas = refl }
+inputs_apart (Some r) log = record { mode = refl; threads = refl; s = refl; count = refl; order = refl; sizes = refl; interrupts = refl; dmas = refl }
 
 -- the parts of the log after the commit
 pub record LogAfter (c : ThreadCommit) (log qlog : LogParts) : Type 0 where
   pub mode : qlog.mode ≡ log.mode
+  pub threads : qlog.threads ≡ log.threads
   pub s : qlog.s ≡ log.s
   pub count : qlog.count ≡ log.count + 1
   pub order : qlog.order ≡ order_with log.mode log.order (Actor.Thread c.thread)
@@ -131,6 +134,7 @@ has_committed-parts c p q log qlog d =
     let a = inputs_apart c.input (noted c.commit c.before.commits c.short log) in
     record {
       mode = ap (λ (l : LogParts). l.mode) d.log_ ∙ a.mode;
+      threads = ap (λ (l : LogParts). l.threads) d.log_ ∙ a.threads;
       s = ap (λ (l : LogParts). l.s) d.log_ ∙ a.s;
       count = ap (λ (l : LogParts). l.count) d.log_ ∙ a.count;
       order = ap (λ (l : LogParts). l.order) d.log_ ∙ a.order ∙ ap (λ (x : Actor). order_with log.mode log.order x) d.actor;

@@ -5,6 +5,7 @@ use Rattle.std.specs.List.{list_all, range_with_len, zip}
 use Rattle.std.specs.Option.{option_or}
 use Rattle.std.proofs.lemmas.Bool.{true≢false, lt-ltb, le-ltb, le-leb, and_parts, cases_Bool}
 use Rattle.std.proofs.lemmas.List.{take_all}
+use Rattle.dl_entry.specs.Numbers.{most_threads}
 use Rattle.dl_entry.specs.declared.Actor.{Actor}
 use Rattle.dl_entry.specs.declared.Input.{Input}
 use Rattle.dl_entry.specs.declared.Why.{Why}
@@ -51,15 +52,15 @@ chunks_judged log p u k r =
 
 -- ---- what is kept
 
-size_kept : (mode : ModeName) (kept : Kept) (interrupts : List Interrupt) (inputs : List Input) (dmas : List DmaRecord) (actor : Actor) (i : ℕ) → size_in (log_of mode kept interrupts inputs dmas) actor i ≡ kept_size kept actor i
-size_kept mode kept interrupts inputs dmas (Actor.Thread k) i = refl
-size_kept mode kept interrupts inputs dmas Actor.Dma i = refl
+size_kept : (version threads : ℕ) (mode : ModeName) (kept : Kept) (interrupts : List Interrupt) (inputs : List Input) (dmas : List DmaRecord) (actor : Actor) (i : ℕ) → size_in (log_of version threads mode kept interrupts inputs dmas) actor i ≡ kept_size kept actor i
+size_kept version threads mode kept interrupts inputs dmas (Actor.Thread k) i = refl
+size_kept version threads mode kept interrupts inputs dmas Actor.Dma i = refl
 
-head_kept : (mode : ModeName) (kept : Kept) (interrupts : List Interrupt) (inputs : List Input) (dmas : List DmaRecord) (i : ℕ) (last : Option ℕ) (live : List Bool)
-    → head (log_of mode kept interrupts inputs dmas) i last live ≡ kept_head mode kept.order i (is_dma_at dmas i) last live
-head_kept ModeName.OrderSize kept interrupts inputs dmas i last live = refl
-head_kept ModeName.OrderOnly kept interrupts inputs dmas i last live = refl
-head_kept ModeName.Picolog kept interrupts inputs dmas i last live = refl
+head_kept : (version threads : ℕ) (mode : ModeName) (kept : Kept) (interrupts : List Interrupt) (inputs : List Input) (dmas : List DmaRecord) (i : ℕ) (last : Option ℕ) (live : List Bool)
+    → head (log_of version threads mode kept interrupts inputs dmas) i last live ≡ kept_head mode kept.order i (is_dma_at dmas i) last live
+head_kept version threads ModeName.OrderSize kept interrupts inputs dmas i last live = refl
+head_kept version threads ModeName.OrderOnly kept interrupts inputs dmas i last live = refl
+head_kept version threads ModeName.Picolog kept interrupts inputs dmas i last live = refl
 
 abbrev limit_with : (s : ℕ) → Option ℕ → ℕ
 limit_with s o = elim o [ None ↦ s | Some z ↦ max 1 z ]
@@ -101,7 +102,7 @@ all_true p (x ∷ xs) each = (λ i. each x i && all_true p xs each i)
 each_used : (order : List Actor) (sizes done : List ℕ) (threads : List Parts) (count : ℕ) → length order ≡ count → length sizes ≡ count → ((k : ℕ) → commits_if (slice_get threads k) ≡ commits_among k (take count order)) → AreCommits done threads
     → sizes_used order (Sizes.Each sizes) done ≡ true
 each_used order sizes done threads count long each ordered same =
-    all_true (λ k. nat_le (length (sizes_of_thread k order sizes)) (slice_index done k)) (range_with_len 0 15)
+    all_true (λ k. nat_le (length (sizes_of_thread k order sizes)) (slice_index done k)) (range_with_len 0 most_threads)
     (λ k.
     let all : take count order ≡ order = take_all count order (omega (arith, long)) in
     let n = sizes_length k order sizes (each ∙ sym long) in
@@ -152,9 +153,9 @@ pub seen_alike : LogsAreSeenAlike
 seen_alike =
     record {
       chunks = chunks_judged;
-      kept = λ mode kept interrupts inputs dmas. record {
-        size = size_kept mode kept interrupts inputs dmas;
-        head = head_kept mode kept interrupts inputs dmas;
+      kept = λ version threads mode kept interrupts inputs dmas. record {
+        size = size_kept version threads mode kept interrupts inputs dmas;
+        head = head_kept version threads mode kept interrupts inputs dmas;
       };
       limits = λ log k i. limit_same log.s (size_in log (Actor.Thread k) i);
       shorts = shorts_used;

@@ -7,7 +7,6 @@ use Rattle.spec_isa.specs.declared.thread.Kind.{Kind}
 use Rattle.spec_isa.specs.Words.{Stored, lays}
 use Rattle.spec_isa.specs.Instruction.{InstructionOutcome, Next, Serial, one}
 use Rattle.spec_isa.specs.Runs.{Run, followed, more, run}
-use Rattle.spec_kernel.specs.Needs.{next_kind}
 use Rattle.spec_engine.specs.declared.answers.How.{How}
 use Rattle.spec_engine.specs.declared.answers.Stepped.{Stepped}
 use Rattle.spec_engine.specs.Signatures.{Signature, hits, line}

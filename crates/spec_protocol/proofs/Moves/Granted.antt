@@ -3,7 +3,7 @@ use Rattle.std.proofs.Common.{◌≡◌, ◌≢◌, ℕ, zero, suc, ◌+◌, ◌
 use Rattle.std.specs.Prelude.{slice_get, slice_set, max}
 use Rattle.std.proofs.lemmas.Bool.{true≢false, eqb-true, ne_eqb, and_parts, not-true}
 use Rattle.std.proofs.lemmas.Option.{none-some}
-use Rattle.dl_entry.specs.Numbers.{most_threads}
+use Rattle.dl_entry.specs.Numbers.{plain_threads}
 use Rattle.dl_entry.specs.declared.Actor.{Actor}
 use Rattle.dl_entry.specs.declared.Input.{Input}
 use Rattle.dl_entry.specs.declared.Request.{Request}
@@ -287,24 +287,24 @@ pub either_serve : (P : StepResult → Type 0) (b : Bool) (x y : StepResult) →
 either_serve P true x y p q = p
 either_serve P false x y p q = q
 
-kind_apart : (o : Option Kind) (k : ℕ) (ts : List Parts) (request : Option Request) (t : Parts) (m : List ℕ) (input : Option Input) → Apart (serve_kind most_threads o k ts request t m input).words
-kind_apart None k ts request t m input = tt
-kind_apart (Some Kind.Call) k ts request t m input =
-    either_serve (λ (v : StepResult). Apart v.words) (is_outside t) (outside_called (need t m) request t input) (inside_called (called most_threads (length m) k ts request t)) (outside_apart (need t m) request t input) tt
-kind_apart (Some Kind.Break) k ts request t m input = tt
-kind_apart (Some Kind.DeviceLoad) k ts request t m input = loaded_apart request t _ input
-kind_apart (Some Kind.DeviceStore) k ts request t m input = stored_apart request t _
-kind_apart (Some (Kind.Fault cause)) k ts request t m input = tt
+kind_apart : (o : Option Kind) (most k : ℕ) (ts : List Parts) (request : Option Request) (t : Parts) (m : List ℕ) (input : Option Input) → Apart (serve_kind most o k ts request t m input).words
+kind_apart None most k ts request t m input = tt
+kind_apart (Some Kind.Call) most k ts request t m input =
+    either_serve (λ (v : StepResult). Apart v.words) (is_outside t) (outside_called (need t m) request t input) (inside_called (called most (length m) k ts request t)) (outside_apart (need t m) request t input) tt
+kind_apart (Some Kind.Break) most k ts request t m input = tt
+kind_apart (Some Kind.DeviceLoad) most k ts request t m input = loaded_apart request t _ input
+kind_apart (Some Kind.DeviceStore) most k ts request t m input = stored_apart request t _
+kind_apart (Some (Kind.Fault cause)) most k ts request t m input = tt
 
 -- a kernel copy stores no word twice
-pub serve-apart : (k : ℕ) (ts : List Parts) (request : Option Request) (t : Parts) (m : List ℕ) (input : Option Input) → Apart (serve most_threads k ts request t m input).words
+pub serve-apart : (most k : ℕ) (ts : List Parts) (request : Option Request) (t : Parts) (m : List ℕ) (input : Option Input) → Apart (serve most k ts request t m input).words
 unfolding serve
-serve-apart k ts request t m input = kind_apart _ k ts request t m input
+serve-apart most k ts request t m input = kind_apart _ most k ts request t m input
 
 served_apart : (log : LogParts) (p : Progress) (k : ℕ) (ts : List Parts) (t : Parts) (m : List ℕ) (o : Option TakenRecord) (e : Effect) (u : Used) → served_verdict log p k ts t m o ≡ Goes e u → Apart e.words
 served_apart log p k ts t m None e u is = cc
 served_apart log p k ts t m (Some g) e u is =
-    subst Apart (sym (interrupted_words _ (serial_effect k (serve most_threads k ts p.request t m g.input)) g.used e u is)) (serve-apart k ts p.request t m g.input)
+    subst Apart (sym (interrupted_words _ (serial_effect k (serve log.threads k ts p.request t m g.input)) g.used e u is)) (serve-apart log.threads k ts p.request t m g.input)
 
 unless_apart : (o : Option Why) (x : LogVerdict) → ((e : Effect) (u : Used) → x ≡ Goes e u → Apart e.words) → (e : Effect) (u : Used) → unless o x ≡ Goes e u → Apart e.words
 unless_apart None x each e u is = each e u is
@@ -320,12 +320,12 @@ serial_in_moves : (k moment : ℕ) (role : Role) (t : Parts) (devices : Devices)
 unfolding limit_of limit_after
 serial_in_moves k moment Plain t devices p is turn =
     let g = taken (need t p.memory) devices moment in
-    let v = serve most_threads k p.threads p.progress.request t p.memory g.input in
-    granted_moves k Plain (serial_effect k v) devices (console_written t p.memory v.outputs g.devices) p (ap halves (sym is)) (ap replays (sym is)) (λ s j u. ap (λ (q : Role). limit_in q s j u.commits) (sym is)) (λ s j u. ap (λ (q : Role). limit_after_in q s j u.commits) (sym is)) (serve-apart k p.threads p.progress.request t p.memory g.input)
+    let v = serve plain_threads k p.threads p.progress.request t p.memory g.input in
+    granted_moves k Plain (serial_effect k v) devices (console_written t p.memory v.outputs g.devices) p (ap halves (sym is)) (ap replays (sym is)) (λ s j u. ap (λ (q : Role). limit_in q s j u.commits) (sym is)) (λ s j u. ap (λ (q : Role). limit_after_in q s j u.commits) (sym is)) (serve-apart plain_threads k p.threads p.progress.request t p.memory g.input)
 serial_in_moves k moment (Record recording) t devices p is turn =
     let g = taken (need t p.memory) devices moment in
-    let v = serve most_threads k p.threads p.progress.request t p.memory g.input in
-    granted_moves k (Record (record recording { log = serial_noted k t g recording.log p })) (serial_effect k v) devices (console_written t p.memory v.outputs g.devices) p (ap halves (sym is)) (ap replays (sym is)) (λ s j u. ap (λ (q : Role). limit_in q s j u.commits) (sym is)) (λ s j u. ap (λ (q : Role). limit_after_in q s j u.commits) (sym is)) (serve-apart k p.threads p.progress.request t p.memory g.input)
+    let v = serve recording.log.threads k p.threads p.progress.request t p.memory g.input in
+    granted_moves k (Record (record recording { log = serial_noted k t g recording.log p })) (serial_effect k v) devices (console_written t p.memory v.outputs g.devices) p (ap halves (sym is)) (ap replays (sym is)) (λ s j u. ap (λ (q : Role). limit_in q s j u.commits) (sym is)) (λ s j u. ap (λ (q : Role). limit_after_in q s j u.commits) (sym is)) (serve-apart recording.log.threads k p.threads p.progress.request t p.memory g.input)
 serial_in_moves k moment (Replay b) t devices p is turn =
     verdict_moves k b (serial_verdict b.log p.progress b.used k p.threads t p.memory) devices p is (turn-is b.now k turn.going turn.turn)
     (λ e u h. serial_apart b.log p.progress b.used k p.threads t p.memory e u h)

@@ -2,7 +2,6 @@
 -- serial step spawns is new.
 use Rattle.std.proofs.Common.{◌≡◌, ℕ, zero, suc, Bool, true, false, ◌&&◌, eqb, cond, List, [], ◌∷◌, length, Option, Some, None, refl, ap, ◌∙◌, subst}
 use Rattle.std.specs.Prelude.{slice_get, nat_lt, ◌%◌}
-use Rattle.dl_entry.specs.Numbers.{most_threads}
 use Rattle.dl_entry.specs.declared.Input.{Input}
 use Rattle.dl_entry.specs.declared.Request.{Request}
 use Rattle.spec_isa.specs.declared.thread.Parts.{Parts}
@@ -86,9 +85,9 @@ either_call P false x y p q = q
 gives_keeps : (request : Option Request) (t : Parts) (n : ℕ) → CallKeeps t (gives request t n)
 gives_keeps request t n = record { commits = refl; fresh = tt }
 
-spawn_keeps : (ts : List Parts) (request : Option Request) (t : Parts) → CallKeeps t (spawn most_threads ts request t)
-spawn_keeps ts request t =
-    either_call (CallKeeps t) (nat_lt (length ts) 15 && eqb (a0 t % 4) 0)
+spawn_keeps : (most : ℕ) (ts : List Parts) (request : Option Request) (t : Parts) → CallKeeps t (spawn most ts request t)
+spawn_keeps most ts request t =
+    either_call (CallKeeps t) (nat_lt (length ts) most && eqb (a0 t % 4) 0)
     (record { thread = with_result (length ts) t; spawned = spawned (a0 t) (a1 t) (a2 t) ∷ []; request = request })
     (gives request t refused)
     (record { commits = refl; fresh = (record { commits = refl; handler = refl }, tt) })
@@ -111,10 +110,10 @@ dma_keeps size None t =
 dma_keeps size (Some request) t = record { commits = refl; fresh = tt }
 
 -- what holds of an answer alone, and of each call that does more, holds of the call that a thread makes
-pub any-call : (Q : Called → Type 0) (size k : ℕ) (ts : List Parts) (request : Option Request) (t : Parts) → ((m : ℕ) → Q (gives request t m)) → Q (exit request t) → Q (spawn most_threads ts request t) → Q (set_handler request t) → Q (iret request t) → Q (request_dma size request t)
-    → Q (called most_threads size k ts request t)
+pub any-call : (Q : Called → Type 0) (most size k : ℕ) (ts : List Parts) (request : Option Request) (t : Parts) → ((m : ℕ) → Q (gives request t m)) → Q (exit request t) → Q (spawn most ts request t) → Q (set_handler request t) → Q (iret request t) → Q (request_dma size request t)
+    → Q (called most size k ts request t)
 unfolding called
-any-call Q size k ts request t answers exits spawns handles returns asks =
+any-call Q most size k ts request t answers exits spawns handles returns asks =
     let n = number_of t in
     let c11 = cond (eqb n 11) (gives request t (has_ended (slice_get ts (a0 t)))) (gives request t unknown_call) in
     let c10 = cond (eqb n 10) (gives request t 0) c11 in
@@ -122,9 +121,9 @@ any-call Q size k ts request t answers exits spawns handles returns asks =
     let c8 = cond (eqb n 8) (request_dma size request t) c9 in
     let c7 = cond (eqb n 7) (iret request t) c8 in
     let c6 = cond (eqb n 6) (set_handler request t) c7 in
-    let c1 = cond (eqb n 1) (spawn most_threads ts request t) c6 in
+    let c1 = cond (eqb n 1) (spawn most ts request t) c6 in
     branch Q (eqb n 0) (exit request t) c1 (λ _. exits)
-    (λ _. branch Q (eqb n 1) (spawn most_threads ts request t) c6 (λ _. spawns)
+    (λ _. branch Q (eqb n 1) (spawn most ts request t) c6 (λ _. spawns)
     (λ _. branch Q (eqb n 6) (set_handler request t) c7 (λ _. handles)
     (λ _. branch Q (eqb n 7) (iret request t) c8 (λ _. returns)
     (λ _. branch Q (eqb n 8) (request_dma size request t) c9 (λ _. asks)
@@ -133,9 +132,9 @@ any-call Q size k ts request t answers exits spawns handles returns asks =
     (λ _. branch Q (eqb n 11) (gives request t (has_ended (slice_get ts (a0 t)))) (gives request t unknown_call) (λ _. answers _)
     (λ _. answers unknown_call))))))))
 
-called_keeps : (size k : ℕ) (ts : List Parts) (request : Option Request) (t : Parts) → CallKeeps t (called most_threads size k ts request t)
-called_keeps size k ts request t =
-    any-call (CallKeeps t) size k ts request t (gives_keeps request t) (record { commits = refl; fresh = tt }) (spawn_keeps ts request t) (handler_keeps request t) (iret_keeps request t) (dma_keeps size request t)
+called_keeps : (most size k : ℕ) (ts : List Parts) (request : Option Request) (t : Parts) → CallKeeps t (called most size k ts request t)
+called_keeps most size k ts request t =
+    any-call (CallKeeps t) most size k ts request t (gives_keeps request t) (record { commits = refl; fresh = tt }) (spawn_keeps most ts request t) (handler_keeps request t) (iret_keeps request t) (dma_keeps size request t)
 
 -- ---- serial steps
 
@@ -168,20 +167,20 @@ stored_keeps request t (Operation.Amo op rd a v) = record { commits = refl; fres
 inside_keeps : (t : Parts) (c : Called) → CallKeeps t c → ServeKeeps t (inside_called c)
 inside_keeps t c k = record { commits = k.commits; fresh = k.fresh }
 
-kind_keeps : (o : Option Kind) (k : ℕ) (ts : List Parts) (request : Option Request) (t : Parts) (m : List ℕ) (input : Option Input) → ServeKeeps t (serve_kind most_threads o k ts request t m input)
-kind_keeps None k ts request t m input = record { commits = refl; fresh = tt }
-kind_keeps (Some Kind.Call) k ts request t m input =
-    either_serve (ServeKeeps t) (is_outside t) (outside_called (need t m) request t input) (inside_called (called most_threads (length m) k ts request t)) (outside_keeps (need t m) request t input)
-    (inside_keeps t (called most_threads (length m) k ts request t) (called_keeps (length m) k ts request t))
-kind_keeps (Some Kind.Break) k ts request t m input = record { commits = refl; fresh = tt }
-kind_keeps (Some Kind.DeviceLoad) k ts request t m input = loaded_keeps request t _ input
-kind_keeps (Some Kind.DeviceStore) k ts request t m input = stored_keeps request t _
-kind_keeps (Some (Kind.Fault cause)) k ts request t m input = record { commits = refl; fresh = tt }
+kind_keeps : (o : Option Kind) (most k : ℕ) (ts : List Parts) (request : Option Request) (t : Parts) (m : List ℕ) (input : Option Input) → ServeKeeps t (serve_kind most o k ts request t m input)
+kind_keeps None most k ts request t m input = record { commits = refl; fresh = tt }
+kind_keeps (Some Kind.Call) most k ts request t m input =
+    either_serve (ServeKeeps t) (is_outside t) (outside_called (need t m) request t input) (inside_called (called most (length m) k ts request t)) (outside_keeps (need t m) request t input)
+    (inside_keeps t (called most (length m) k ts request t) (called_keeps most (length m) k ts request t))
+kind_keeps (Some Kind.Break) most k ts request t m input = record { commits = refl; fresh = tt }
+kind_keeps (Some Kind.DeviceLoad) most k ts request t m input = loaded_keeps request t _ input
+kind_keeps (Some Kind.DeviceStore) most k ts request t m input = stored_keeps request t _
+kind_keeps (Some (Kind.Fault cause)) most k ts request t m input = record { commits = refl; fresh = tt }
 
 -- a serial step keeps its thread's number of commits, and those that it spawns are new
-pub serve-keeps : (k : ℕ) (ts : List Parts) (request : Option Request) (t : Parts) (m : List ℕ) (input : Option Input) → ServeKeeps t (serve most_threads k ts request t m input)
+pub serve-keeps : (most k : ℕ) (ts : List Parts) (request : Option Request) (t : Parts) (m : List ℕ) (input : Option Input) → ServeKeeps t (serve most k ts request t m input)
 unfolding serve
-serve-keeps k ts request t m input = kind_keeps _ k ts request t m input
+serve-keeps most k ts request t m input = kind_keeps _ most k ts request t m input
 
 -- ---- threads that look alike to a serial step: as many, and the same ones live
 
@@ -190,13 +189,13 @@ pub record LookAlike (ts us : List Parts) : Type 0 where
   pub size : length us ≡ length ts
   pub ended : (j : ℕ) → has_ended (slice_get us j) ≡ has_ended (slice_get ts j)
 
-called_alike : (size k : ℕ) (ts us : List Parts) (request : Option Request) (t : Parts) → LookAlike ts us → called most_threads size k us request t ≡ called most_threads size k ts request t
+called_alike : (most size k : ℕ) (ts us : List Parts) (request : Option Request) (t : Parts) → LookAlike ts us → called most size k us request t ≡ called most size k ts request t
 unfolding called
-called_alike size k ts us request t a =
+called_alike most size k ts us request t a =
     (λ i.
     cond (eqb (number_of t) 0) (exit request t)
     (cond (eqb (number_of t) 1)
-    (cond (nat_lt (a.size i) 15 && eqb (a0 t % 4) 0)
+    (cond (nat_lt (a.size i) most && eqb (a0 t % 4) 0)
     (record { thread = with_result (a.size i) t; spawned = spawned (a0 t) (a1 t) (a2 t) ∷ []; request = request })
     (gives request t refused))
     (cond (eqb (number_of t) 6) (set_handler request t)
@@ -206,16 +205,16 @@ called_alike size k ts us request t a =
     (cond (eqb (number_of t) 10) (gives request t 0)
     (cond (eqb (number_of t) 11) (gives request t (a.ended (a0 t) i)) (gives request t unknown_call)))))))))
 
-kind_alike : (o : Option Kind) (k : ℕ) (ts us : List Parts) (request : Option Request) (t : Parts) (m : List ℕ) (input : Option Input) → LookAlike ts us → serve_kind most_threads o k us request t m input ≡ serve_kind most_threads o k ts request t m input
-kind_alike None k ts us request t m input a = refl
-kind_alike (Some Kind.Call) k ts us request t m input a =
-    ap (λ (c : Called). cond (is_outside t) (outside_called (need t m) request t input) (inside_called c)) (called_alike (length m) k ts us request t a)
-kind_alike (Some Kind.Break) k ts us request t m input a = refl
-kind_alike (Some Kind.DeviceLoad) k ts us request t m input a = refl
-kind_alike (Some Kind.DeviceStore) k ts us request t m input a = refl
-kind_alike (Some (Kind.Fault cause)) k ts us request t m input a = refl
+kind_alike : (o : Option Kind) (most k : ℕ) (ts us : List Parts) (request : Option Request) (t : Parts) (m : List ℕ) (input : Option Input) → LookAlike ts us → serve_kind most o k us request t m input ≡ serve_kind most o k ts request t m input
+kind_alike None most k ts us request t m input a = refl
+kind_alike (Some Kind.Call) most k ts us request t m input a =
+    ap (λ (c : Called). cond (is_outside t) (outside_called (need t m) request t input) (inside_called c)) (called_alike most (length m) k ts us request t a)
+kind_alike (Some Kind.Break) most k ts us request t m input a = refl
+kind_alike (Some Kind.DeviceLoad) most k ts us request t m input a = refl
+kind_alike (Some Kind.DeviceStore) most k ts us request t m input a = refl
+kind_alike (Some (Kind.Fault cause)) most k ts us request t m input a = refl
 
 -- a serial step looks at the other threads by their number and their ends alone
-pub serve-alike : (k : ℕ) (ts us : List Parts) (request : Option Request) (t : Parts) (m : List ℕ) (input : Option Input) → LookAlike ts us → serve most_threads k us request t m input ≡ serve most_threads k ts request t m input
+pub serve-alike : (most k : ℕ) (ts us : List Parts) (request : Option Request) (t : Parts) (m : List ℕ) (input : Option Input) → LookAlike ts us → serve most k us request t m input ≡ serve most k ts request t m input
 unfolding serve
-serve-alike k ts us request t m input a = kind_alike _ k ts us request t m input a
+serve-alike most k ts us request t m input a = kind_alike _ most k ts us request t m input a

@@ -19,7 +19,7 @@ use Rattle.spec_play.specs.Turns.{Ended, is_size_used, are_sizes_used, has_left_
 use Rattle.spec_play.specs.Verdicts.{interrupt_at}
 use Rattle.spec_log.specs.Noting.{no_sizes}
 use Rattle.spec_play.specs.Recording.{new_log, interrupt_noted}
-use Rattle.spec_play.specs.Plays.{Played, opened, plays, play}
+use Rattle.spec_play.specs.Plays.{Played, plays}
 use Rattle.spec_engine.specs.declared.answers.How.{How}
 use Rattle.spec_protocol.specs.machine.Spheres.{Recording, Role, Record, Sphere}
 use Rattle.spec_protocol.specs.machine.Commits.{MovedSphere, is_piece, chunk_in, chunk_moved, serial_in, serial_moved, dma_in, dma_moved, live_dma, dma_log, role_raised, raised}
@@ -139,8 +139,8 @@ start_sizes ModeName.OrderOnly entry = λ k i l. refl
 start_sizes ModeName.Picolog entry = λ k i l. refl
 
 -- a new log stands by the sphere that a setup starts
-pub start-stands : (s : ℕ) (image : SphereSetup) (mode : ModeName) → Stands (sphere_of s image) (new_log mode s)
-start-stands s image mode =
+pub start-stands : (s : ℕ) (image : SphereSetup) (version : ℕ) (mode : ModeName) → Stands (sphere_of s image) (new_log version mode s)
+start-stands s image version mode =
     record {
       count = refl;
       order = start_order mode image.entry;
@@ -151,25 +151,25 @@ start-stands s image mode =
       dmas = tt;
     }
 
-start_none : (L : LogParts) (s : ℕ) (image : SphereSetup) (mode : ModeName) → Ahead L (sphere_of s image) (new_log mode s) → (j : ℕ) (t : Parts) → slice_get (first_threads image) j ≡ Some t → interrupt_at L.interrupts j t.commits ≡ None
-start_none L s image mode a zero t e = elim (a.next zero t e) [
+start_none : (L : LogParts) (s : ℕ) (image : SphereSetup) (version : ℕ) (mode : ModeName) → Ahead L (sphere_of s image) (new_log version mode s) → (j : ℕ) (t : Parts) → slice_get (first_threads image) j ≡ Some t → interrupt_at L.interrupts j t.commits ≡ None
+start_none L s image version mode a zero t e = elim (a.next zero t e) [
   | inl h ↦ h
   | inr takes ↦ absurd (true≢false (sym takes ∙ ap takes_interrupt (let g : started image.entry ≡ t = cc in sym g)))
 ]
-start_none L s image mode a (suc j) t e = absurd (none-some t e)
+start_none L s image version mode a (suc j) t e = absurd (none-some t e)
 
-start_reaches : (L : LogParts) (s : ℕ) (image : SphereSetup) (mode : ModeName) → Ahead L (sphere_of s image) (new_log mode s) → Reaches L (first_played image L) (sphere_of s image) (new_log mode s)
-start_reaches L s image mode a =
+start_reaches : (L : LogParts) (s : ℕ) (image : SphereSetup) (version : ℕ) (mode : ModeName) → Ahead L (sphere_of s image) (new_log version mode s) → Reaches L (first_played image L) (sphere_of s image) (new_log version mode s)
+start_reaches L s image version mode a =
     record {
       memory = refl;
       size = refl;
-      threads = λ j t e. e ∙ ap Some (sym (early_same None (interrupt_at L.interrupts j t.commits) t (start_none L s image mode a j t e)));
+      threads = λ j t e. e ∙ ap Some (sym (early_same None (interrupt_at L.interrupts j t.commits) t (start_none L s image version mode a j t e)));
       progress = refl;
       inputs = refl;
       dmas = refl;
       interrupts = (let h = sum-zero (pending L.interrupts []) 0 (first_threads image) (λ j t e.
           let k : 0 + j ≡ j = omega arith in
-          ap (λ (n : ℕ). pending L.interrupts [] n t) k ∙ pending_same None (interrupt_at L.interrupts j t.commits) (start_none L s image mode a j t e)) in omega arith);
+          ap (λ (n : ℕ). pending L.interrupts [] n t) k ∙ pending_same None (interrupt_at L.interrupts j t.commits) (start_none L s image version mode a j t e)) in omega arith);
       now = refl;
     }
 
@@ -264,7 +264,7 @@ logs_play_back s es i image asked will p recording shown role_ =
     let L : LogParts = c.recording.log in
     let same : q ≡ p = (let h : Some q ≡ Some p = sym c.there ∙ ap (λ (x : SerialState). slice_get x.spheres i) (sym m.same) ∙ shown in cc) in
     let kept : c.recording ≡ recording = (let h : Record c.recording ≡ Record recording = sym c.role ∙ ap (λ (x : Sphere). x.role) same ∙ role_ in cc) in
-    let st = start-stands z image asked.mode in
+    let st = start-stands z image asked.version asked.mode in
     let last : Ahead L q L = ahead-end q L in
-    let done : PlaysBack L image q = ends L image q (c.grown.stands st) (c.grown.reaches L (first_played image L) st last (start_reaches L z image asked.mode (c.grown.ahead L last))) in
+    let done : PlaysBack L image q = ends L image q (c.grown.stands st) (c.grown.reaches L (first_played image L) st last (start_reaches L z image asked.version asked.mode (c.grown.ahead L last))) in
     subst (λ (r : Recording). PlaysBack r.log image p) kept (subst (PlaysBack L image) same done)

@@ -3,9 +3,7 @@ use Rattle.std.proofs.Common.{◌≡◌, ℕ, zero, suc, ◌+◌, ◌<◌, ◌�
 use Rattle.std.specs.Prelude.{slice_get, nat_lt, option_map}
 use Rattle.std.specs.Option.{option_or}
 use Rattle.std.proofs.lemmas.Bool.{true≢false, cases_eq, eqb-true, lt-ltb, cases_lt}
-use Rattle.std.proofs.lemmas.List.{length-append}
 use Rattle.std.proofs.lemmas.Option.{none-some}
-use Rattle.dl_entry.specs.Numbers.{most_threads}
 use Rattle.dl_entry.specs.declared.Actor.{Actor}
 use Rattle.dl_entry.specs.declared.Input.{Input}
 use Rattle.dl_entry.specs.declared.Request.{Request}
@@ -25,7 +23,7 @@ use Rattle.spec_play.specs.Progress.{position}
 use Rattle.spec_play.specs.Recording.{noted, interrupt_noted}
 use Rattle.spec_play.specs.Plays.{Played, plays}
 use Rattle.spec_engine.specs.declared.answers.How.{How}
-use Rattle.spec_protocol.specs.machine.Spheres.{other_than, turn_in, turn_against, Recording, Role, Record, Sphere, recording_turn, head_in, head_of, limit_in, limit_of, is_in_pieces}
+use Rattle.spec_protocol.specs.machine.Spheres.{other_than, turn_in, turn_against, Recording, Role, Record, Sphere, recording_turn, limit_in, limit_of, is_in_pieces}
 use Rattle.spec_protocol.specs.machine.Commits.{MovedSphere, is_piece, chunk_in, serial_noted, serial_in, dma_log, raised, dma_as}
 use Rattle.spec_protocol.specs.machine.World.{Numbers}
 use Rattle.spec_protocol.specs.machine.Asking.{is_short}
@@ -228,16 +226,16 @@ recorded_serial recording p k moment t devices = serial_in (Record recording) k 
 abbrev serial_log : LogParts → Sphere → ℕ → (moment : ℕ) → Parts → Devices → LogParts
 serial_log log p k moment t devices = serial_noted k t (taken (need t p.memory) devices moment) log p
 
-abbrev effect_of : Sphere → ℕ → (moment : ℕ) → Parts → Devices → Effect
-effect_of p k moment t devices = serial_effect k (serve most_threads k p.threads p.progress.request t p.memory (taken (need t p.memory) devices moment).input)
+abbrev effect_of : (most : ℕ) → Sphere → ℕ → (moment : ℕ) → Parts → Devices → Effect
+effect_of most p k moment t devices = serial_effect k (serve most k p.threads p.progress.request t p.memory (taken (need t p.memory) devices moment).input)
 
 -- a recorded serial step is a commit of its thread
 pub serial-committed : (recording : Recording) (p : Sphere) (k moment : ℕ) (t : Parts) (devices : Devices) → slice_get p.threads k ≡ Some t
-    → let e = effect_of p k moment t devices in
+    → let e = effect_of recording.log.threads p k moment t devices in
     HasCommitted (commit_of k false t e (taken (need t p.memory) devices moment).input) p (laid (recorded_serial recording p k moment t devices)) recording.log (serial_log recording.log p k moment t devices)
 serial-committed recording p k moment t devices is =
-    let e = effect_of p k moment t devices in
-    let h = serve-keeps k p.threads p.progress.request t p.memory (taken (need t p.memory) devices moment).input in
+    let e = effect_of recording.log.threads p k moment t devices in
+    let h = serve-keeps recording.log.threads k p.threads p.progress.request t p.memory (taken (need t p.memory) devices moment).input in
     record {
       start = is;
       threads = refl;
@@ -252,7 +250,7 @@ serial-committed recording p k moment t devices is =
 pub serial-grown : (recording : Recording) (p : Sphere) (k moment : ℕ) (t : Parts) (devices : Devices) → p.role ≡ Record recording → slice_get p.threads k ≡ Some t → SerialFits p k t
     → Grown p (laid (recorded_serial recording p k moment t devices)) recording.log (serial_log recording.log p k moment t devices)
 serial-grown recording p k moment t devices role is fits =
-    let e = effect_of p k moment t devices in
+    let e = effect_of recording.log.threads p k moment t devices in
     let o : Option Input = (taken (need t p.memory) devices moment).input in
     let q = laid (recorded_serial recording p k moment t devices) in
     let qlog = serial_log recording.log p k moment t devices in
@@ -268,7 +266,7 @@ serial-grown recording p k moment t devices role is fits =
       progress = refl;
       live = fits.live;
       turn_ = taken_turn L recording p k t role ap_.mode is fits.live fits.turn;
-      verdict = serial-goes L y k p.memory t p.progress p.threads devices moment (noted e.commit t.commits false recording.log) f.memory f.progress (look-alike L p recording.log y f) f.inputs fits.serial
+      verdict = serial-goes L y k p.memory t p.progress p.threads devices moment (noted e.commit t.commits false recording.log) ap_.threads f.memory f.progress (look-alike L p recording.log y f) f.inputs fits.serial
           (elim size [
             | inl h ↦ inl h
             | inr h ↦ inr h.0

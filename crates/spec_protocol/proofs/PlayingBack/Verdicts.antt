@@ -3,7 +3,6 @@ use Rattle.std.proofs.Common.{◌≡◌, ℕ, zero, suc, ◌+◌, ◌-◌, ◌<�
 use Rattle.std.specs.Prelude.{slice_get, nat_lt, IsSome}
 use Rattle.std.proofs.lemmas.Bool.{true≢false, le-ltb, ne_eqb}
 use Rattle.std.proofs.lemmas.List.{length-append, append_assoc}
-use Rattle.dl_entry.specs.Numbers.{most_threads}
 use Rattle.dl_entry.specs.declared.Actor.{Actor}
 use Rattle.dl_entry.specs.declared.Input.{Input}
 use Rattle.dl_entry.specs.declared.Why.{Why}
@@ -177,11 +176,11 @@ unfolding serial_verdict
 serial_verdict_is L p u k ts t m = refl
 
 -- the play of a recorded serial step goes on, with the recorded input
-pub serial-goes : (L : LogParts) (y : Played) (k : ℕ) (m : List ℕ) (t : Parts) (p : Progress) (ts : List Parts) (d : Devices) (moment : ℕ) (log : LogParts) → y.memory ≡ m → y.progress ≡ p → LookAlike ts y.threads → y.used.inputs ≡ length log.inputs
+pub serial-goes : (L : LogParts) (y : Played) (k : ℕ) (m : List ℕ) (t : Parts) (p : Progress) (ts : List Parts) (d : Devices) (moment : ℕ) (log : LogParts) → L.threads ≡ log.threads → y.memory ≡ m → y.progress ≡ p → LookAlike ts y.threads → y.used.inputs ≡ length log.inputs
     → IsSome (next_kind t m) → ZeroOrNone (size_in L (Actor.Thread k) t.commits) → Behind L.inputs (input_noted (taken (need t m) d moment).input log).inputs
     → thread_verdict L y k t (next_kind t y.memory)
-    ≡ ended L k (serial_effect k (serve most_threads k ts p.request t m (taken (need t m) d moment).input)) (record y.used { inputs = length (input_noted (taken (need t m) d moment).input log).inputs })
-serial-goes L y k m t p ts d moment log is_m is_p alike inputs some size behind =
+    ≡ ended L k (serial_effect k (serve log.threads k ts p.request t m (taken (need t m) d moment).input)) (record y.used { inputs = length (input_noted (taken (need t m) d moment).input log).inputs })
+serial-goes L y k m t p ts d moment log most is_m is_p alike inputs some size behind =
     let g : Taken = taken (need t m) d moment in
     let used1 : Used = record y.used { inputs = length (input_noted g.input log).inputs } in
     ap (λ (x : List ℕ). thread_verdict L y k t (next_kind t x)) is_m ∙ serial-turn L y k t (next_kind t m) some
@@ -189,4 +188,5 @@ serial-goes L y k m t p ts d moment log is_m is_p alike inputs some size behind 
     ∙ serial_verdict_is L p y.used k y.threads t m
     ∙ ap (λ (w : Option Why). unless_why w (served_verdict L p k y.threads t m (given (need t m) (slice_get L.inputs y.used.inputs) y.used))) (serial_goes (size_in L (Actor.Thread k) t.commits) size)
     ∙ ap (served_verdict L p k y.threads t m) (given-taken (need t m) d moment L.inputs log y.used behind inputs)
-    ∙ ap (λ (v : _). ended L k (serial_effect k v) used1) (serve-alike k ts y.threads p.request t m g.input alike)
+    ∙ ap (λ (v : _). ended L k (serial_effect k v) used1) (serve-alike L.threads k ts y.threads p.request t m g.input alike)
+    ∙ ap (λ (n : ℕ). ended L k (serial_effect k (serve n k ts p.request t m g.input)) used1) most

@@ -5,7 +5,7 @@ use Rattle.std.specs.List.{flat_map}
 use Rattle.std.proofs.lemmas.List.{append-nil, append_assoc}
 use Rattle.std.proofs.lemmas.Option.{get_or_from_slice_get}
 use Rattle.std.proofs.Math.Seq.{drop-append_seam, drop-length}
-use Rattle.dl_entry.specs.Numbers.{most_threads}
+use Rattle.dl_entry.specs.Numbers.{plain_threads}
 use Rattle.dl_entry.specs.declared.Actor.{Actor}
 use Rattle.dl_entry.specs.declared.Commit.{Commit}
 use Rattle.dl_entry.specs.declared.CommitKind.{CommitKind}
@@ -20,7 +20,6 @@ use Rattle.spec_kernel.specs.Copies.{dma_words}
 use Rattle.spec_kernel.specs.Answers.{taken, dma_bytes, dma_taken}
 use Rattle.spec_kernel.specs.Serving.{serve}
 use Rattle.spec_play.specs.Effects.{chunk_commit, serial_effect, dma_commit}
-use Rattle.spec_play.specs.Progress.{position}
 use Rattle.spec_protocol.specs.machine.Spheres.{Role, Plain, Record, Replay, Sphere, no_sphere}
 use Rattle.spec_protocol.specs.machine.Commits.{MovedSphere, dma_as, chunk_in, chunk_moved, serial_in, serial_moved, live_dma, dma_log, dma_in, dma_moved, raised}
 use Rattle.spec_protocol.specs.machine.Serial.{SerialState, serial_start, laid, do_moved, do_chunk, do_serial, do_dma, do_raise, do_kind, in_live, do_commit, do_interrupt, do_point, do_points}
@@ -79,15 +78,15 @@ unfolding chunk_moved
 chunk_if i x k size short p None live is = still_puts i x x refl refl
 chunk_if i x k size short p (Some t) live is = chunk_puts p.role i x k size short p t live is
 
-abbrev served_commit : (thread moment : ℕ) → Parts → Devices → Sphere → Commit
-served_commit k moment t devices p =
-    (serial_effect k (serve most_threads k p.threads p.progress.request t p.memory (taken (need t p.memory) devices moment).input)).commit
+abbrev served_commit : (most thread moment : ℕ) → Parts → Devices → Sphere → Commit
+served_commit most k moment t devices p =
+    (serial_effect k (serve most k p.threads p.progress.request t p.memory (taken (need t p.memory) devices moment).input)).commit
 
 serial_puts : (role : Role) (i : ℕ) (x : SerialState) (k moment : ℕ) (p : Sphere) (t : Parts) → IsLive role → slice_get x.spheres i ≡ Some p → Puts i x (do_moved x i (serial_in role k moment t x.devices p))
 serial_puts Plain i x k moment p t live is =
-    moved_puts i x p (serial_in Plain k moment t x.devices p) (served_commit k moment t x.devices p) is refl (serve-tells k p.threads p.progress.request t p.memory x.devices moment)
+    moved_puts i x p (serial_in Plain k moment t x.devices p) (served_commit plain_threads k moment t x.devices p) is refl (serve-tells plain_threads k p.threads p.progress.request t p.memory x.devices moment)
 serial_puts (Record recording) i x k moment p t live is =
-    moved_puts i x p (serial_in (Record recording) k moment t x.devices p) (served_commit k moment t x.devices p) is refl (serve-tells k p.threads p.progress.request t p.memory x.devices moment)
+    moved_puts i x p (serial_in (Record recording) k moment t x.devices p) (served_commit recording.log.threads k moment t x.devices p) is refl (serve-tells recording.log.threads k p.threads p.progress.request t p.memory x.devices moment)
 serial_puts (Replay b) i x k moment p t live is = absurd live
 
 serial_if : (i : ℕ) (x : SerialState) (k moment : ℕ) (p : Sphere) (o : Option Parts) → IsLive p.role → slice_get x.spheres i ≡ Some p → Puts i x (do_serial x i k moment p o)

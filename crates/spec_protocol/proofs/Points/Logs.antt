@@ -23,28 +23,28 @@ use Rattle.spec_protocol.proofs.Logs.Growing.{commits_in, commits_if, Stands}
 use Rattle.spec_protocol.proofs.PlayingBack.All.{start-stands}
 use Rattle.spec_protocol.proofs.Invariants.Schedules.{sizes_kept}
 use Rattle.spec_protocol.proofs.Points.Serial.{serial-after}
-use Rattle.spec_protocol.proofs.Points.KeptLogs.{keeping, Keeps, KeepsIn}
+use Rattle.spec_protocol.proofs.Points.KeptLogs.{new-least, keeping, Keeps, KeepsIn}
 use Rattle.spec_protocol.proofs.Points.OneByOne.{points-kept}
 
 -- ---- the start
 
-no_points : (mode : ModeName) (s : ℕ) → new_log mode s ≡ logged mode s []
-no_points ModeName.OrderSize s = refl
-no_points ModeName.OrderOnly s = refl
-no_points ModeName.Picolog s = refl
+no_points : (version : ℕ) (mode : ModeName) (s : ℕ) → new_log version mode s ≡ logged version mode s []
+no_points version ModeName.OrderSize s = refl
+no_points version ModeName.OrderOnly s = refl
+no_points version ModeName.Picolog s = refl
 
 no_commits : (entry k : ℕ) → 0 ≡ commits_in (started entry ∷ []) k
 no_commits entry zero = refl
 no_commits entry (suc k) = refl
 
-start_keeps : (mode : ModeName) (s : ℕ) (image : SphereSetup) → role_of s (first_threads image) image.role ≡ Record (keeping (new_log mode s)) → Keeps mode s [] (sphere_of s image)
-start_keeps mode s image role =
+start_keeps : (version : ℕ) (mode : ModeName) (s : ℕ) (image : SphereSetup) → role_of s (first_threads image) image.role ≡ Record (keeping (new_log version mode s)) → Keeps version mode s [] (sphere_of s image)
+start_keeps version mode s image role =
     record {
-      role = role ∙ ap (λ (log : LogParts). Record (keeping log)) (no_points mode s);
+      role = role ∙ ap (λ (log : LogParts). Record (keeping log)) (no_points version mode s);
       commits = no_commits image.entry;
       place = refl;
-      stands = subst (Stands (sphere_of s image)) (no_points mode s) (start-stands s image mode);
-      few = omega arith;
+      stands = subst (Stands (sphere_of s image)) (no_points version mode s) (start-stands s image version mode);
+      few = new-least version;
     }
 
 -- ---- all
@@ -56,16 +56,16 @@ stands_shown s es i log st =
 
 -- the sphere, with its current memory, keeps the log of its points
 log_kept : (s : Setup) (es : List Event) (i : ℕ) (image : SphereSetup) (asked : RecordSetup) → IsSetup s → slice_get s.spheres i ≡ Some image → image.role ≡ IsRecorded asked
-    → let w = after s es in Keeps asked.mode s.numbers.s (supplied i (serial_start s) w.points) (shown w.slots i (sphere_at w i))
+    → let w = after s es in Keeps asked.version asked.mode s.numbers.s (supplied i (serial_start s) w.points) (shown w.slots i (sphere_at w i))
 unfolding shown
 log_kept s es i image asked is there role =
     let w : World = after s es in
     let z : ℕ = s.numbers.s in
     let cs = supplied i (serial_start s) w.points in
     let so = serial-after s es is in
-    let k : KeepsIn asked.mode z i cs (do_points (serial_start s) w.points) =
-    points-kept asked.mode z i [] (serial_start s) w.points
-    (record { sphere = sphere_of z image; there = slice_get-map (sphere_of z) s.spheres i ∙ ap (option_map (sphere_of z)) there; keeps = start_keeps asked.mode z image (ap (role_of z (first_threads image)) role) })
+    let k : KeepsIn asked.version asked.mode z i cs (do_points (serial_start s) w.points) =
+    points-kept asked.version asked.mode z i [] (serial_start s) w.points
+    (record { sphere = sphere_of z image; there = slice_get-map (sphere_of z) s.spheres i ∙ ap (option_map (sphere_of z)) there; keeps = start_keeps asked.version asked.mode z image (ap (role_of z (first_threads image)) role) })
     so.possible
     in
     let p : Sphere = shown w.slots i (sphere_at w i) in
@@ -79,7 +79,7 @@ log_kept s es i image asked is there role =
           )
       | inr live ↦ (
           let same : k.sphere ≡ p = (let h : Some k.sphere ≡ Some p = sym k.there ∙ so.agrees.live i p e live in cc) in
-          subst (Keeps asked.mode z cs) same k.keeps
+          subst (Keeps asked.version asked.mode z cs) same k.keeps
           )
     ]
 
@@ -94,8 +94,8 @@ unfolding shown
 logs_are_fresh s es i image asked will recording kept =
     let log = recording.log in
     let k = log_kept s es i image asked will.setup will.there will.role in
-    let same : logged asked.mode s.numbers.s (supplied i (serial_start s) (after s es).points) ≡ log =
-    (let h : Record (keeping (logged asked.mode s.numbers.s (supplied i (serial_start s) (after s es).points))) ≡ Record recording = sym k.role ∙ kept in cc) in
+    let same : logged asked.version asked.mode s.numbers.s (supplied i (serial_start s) (after s es).points) ≡ log =
+    (let h : Record (keeping (logged asked.version asked.mode s.numbers.s (supplied i (serial_start s) (after s es).points))) ≡ Record recording = sym k.role ∙ kept in cc) in
     let st : Stands (sphere_at (after s es) i) log = stands_shown s es i log (subst (Stands (shown (after s es).slots i (sphere_at (after s es) i))) same k.stands) in
     record {
       count = st.count;

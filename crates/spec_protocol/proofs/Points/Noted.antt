@@ -13,6 +13,7 @@ use Rattle.spec_log.specs.declared.DmaRecord.{DmaRecord}
 use Rattle.spec_log.specs.declared.ShortSize.{ShortSize}
 use Rattle.spec_log.specs.declared.Sizes.{Sizes}
 use Rattle.spec_log.specs.declared.LogParts.{LogParts}
+use Rattle.spec_log.specs.Versions.{new_threads}
 use Rattle.spec_play.specs.Effects.{dma_commit}
 use Rattle.spec_log.specs.Noting.{order_with}
 use Rattle.spec_play.specs.Verdicts.{interrupt_at}
@@ -44,7 +45,7 @@ count_of_more ps q n is = let a = ap (λ (as_ : List Actor). length as_) (actors
 abbrev by_thread : (moment i thread : ℕ) → CommitKind → (size : ℕ) → (short : Bool) → Point
 by_thread moment i k kind size short = Point.Commit moment i (Actor.Thread k) kind size short
 
-shorts_more : (b : Bool) (ps : List Point) (moment i k n size : ℕ) (kind : CommitKind) (short : Bool) → k < 15 → n ≡ commits_of k ps → is_short_chunk kind short ≡ b
+shorts_more : (b : Bool) (ps : List Point) (moment i k n size : ℕ) (kind : CommitKind) (short : Bool) → k < most_threads → n ≡ commits_of k ps → is_short_chunk kind short ≡ b
     → with_size (Sizes.Short (all_shorts ps)) (Actor.Thread k) n size b ≡ Sizes.Short (all_shorts (ps ++ by_thread moment i k kind size short ∷ []))
 shorts_more true ps moment i k n size kind short l is e =
     let q = by_thread moment i k kind size short in
@@ -61,7 +62,7 @@ shorts_more false ps moment i k n size kind short l is e =
     (unchanged (λ (j : ℕ). shorts_of j 0 ps) (λ (j : ℕ). shorts_of j 0 (ps ++ q ∷ []))
     (λ j. nothing_behind (shorts_of j 0 ps) _ _ (shorts-append j 0 ps (q ∷ [])) (shorts_of_whole k j (0 + commits_of j ps) moment i size kind short e)))
 
-sizes_more : (mode : ModeName) (ps : List Point) (moment i k n size : ℕ) (kind : CommitKind) (short : Bool) → k < 15 → n ≡ commits_of k ps
+sizes_more : (mode : ModeName) (ps : List Point) (moment i k n size : ℕ) (kind : CommitKind) (short : Bool) → k < most_threads → n ≡ commits_of k ps
     → with_size (sizes_in mode ps) (Actor.Thread k) n size (is_short_chunk kind short) ≡ sizes_in mode (ps ++ by_thread moment i k kind size short ∷ [])
 sizes_more ModeName.OrderSize ps moment i k n size kind short l is = ap (λ (ns : List ℕ). Sizes.Each ns) (sym (sizes-append ps (by_thread moment i k kind size short ∷ [])))
 sizes_more ModeName.OrderOnly ps moment i k n size kind short l is = shorts_more (is_short_chunk kind short) ps moment i k n size kind short l is refl
@@ -91,7 +92,7 @@ no_interrupts ps moment i size actor kind short =
     unchanged (λ (j : ℕ). interrupts_of j 0 ps) (λ (j : ℕ). interrupts_of j 0 (ps ++ q ∷ []))
     (λ j. nothing_behind (interrupts_of j 0 ps) _ _ (interrupts-append j 0 ps (q ∷ [])) (ints_of_commit j (0 + commits_of j ps) moment i size actor kind short))
 
-interrupts_more : (mode : ModeName) (s : ℕ) (log : LogParts) (ps : List Point) (moment i k n value : ℕ) → k < 15 → n ≡ commits_of k ps → log.interrupts ≡ all_interrupts ps → interrupt_at (all_interrupts ps) k n ≡ None
+interrupts_more : (mode : ModeName) (s : ℕ) (log : LogParts) (ps : List Point) (moment i k n value : ℕ) → k < most_threads → n ≡ commits_of k ps → log.interrupts ≡ all_interrupts ps → interrupt_at (all_interrupts ps) k n ≡ None
     → (interrupt_noted k n value log).interrupts ≡ all_interrupts (ps ++ Point.Raise moment i k value ∷ [])
 interrupts_more mode s log ps moment i k n value l is e none =
     let q = Point.Raise moment i k value in
@@ -131,20 +132,20 @@ abbrev pub point_of : (moment i size : ℕ) → CommitKind → (short : Bool) �
 point_of moment i size kind short c = record { point = by_thread moment i c.thread kind size short; input = c.input; bytes = [] }
 
 -- what a recording notes of a commit of a thread is what its point adds to the log of the points before it
-pub commit-logged : (mode : ModeName) (s : ℕ) (cs : List Supplied) (c : ThreadCommit) (moment i size : ℕ) (kind : CommitKind) (short : Bool) → c.thread < 15 → c.before.commits ≡ commits_of c.thread (points_so cs) → c.commit.actor ≡ Actor.Thread c.thread → c.commit.size ≡ size → c.short ≡ is_short_chunk kind short
-    → input_noted c.input (noted c.commit c.before.commits c.short (logged mode s cs)) ≡ logged mode s (cs ++ point_of moment i size kind short c ∷ [])
-commit-logged mode s cs c moment i size kind short l is actor sized early =
+pub commit-logged : (version : ℕ) (mode : ModeName) (s : ℕ) (cs : List Supplied) (c : ThreadCommit) (moment i size : ℕ) (kind : CommitKind) (short : Bool) → c.thread < most_threads → c.before.commits ≡ commits_of c.thread (points_so cs) → c.commit.actor ≡ Actor.Thread c.thread → c.commit.size ≡ size → c.short ≡ is_short_chunk kind short
+    → input_noted c.input (noted c.commit c.before.commits c.short (logged version mode s cs)) ≡ logged version mode s (cs ++ point_of moment i size kind short c ∷ [])
+commit-logged version mode s cs c moment i size kind short l is actor sized early =
     let k = c.thread in
     let n = c.before.commits in
     let ps = points_so cs in
     let q = by_thread moment i k kind size short in
     let x : Supplied = point_of moment i size kind short c in
     let all = sym (points-more cs x) in
-    ap (λ (b : Bool). input_noted c.input (noted c.commit n b (logged mode s cs))) early
-    ∙ input_listed c.input (noted c.commit n (is_short_chunk kind short) (logged mode s cs))
+    ap (λ (b : Bool). input_noted c.input (noted c.commit n b (logged version mode s cs))) early
+    ∙ input_listed c.input (noted c.commit n (is_short_chunk kind short) (logged version mode s cs))
     ∙ (λ h. record {
-      version = 1;
-      threads = most_threads;
+      version = version;
+      threads = new_threads version;
       mode = mode;
       s = s;
       count = (count_of_more ps q 1 refl ∙ ap (λ (qs : List Point). length (actors_of qs)) all) h;
@@ -156,17 +157,17 @@ commit-logged mode s cs c moment i size kind short l is actor sized early =
     })
 
 -- of a DMA, which is the sphere's n-th commit
-pub dma-logged : (mode : ModeName) (s : ℕ) (cs : List Supplied) (moment i n : ℕ) (kind : CommitKind) (short : Bool) (bytes : List ℕ) → n ≡ length (actors_of (points_so cs))
-    → dma_noted n bytes (noted dma_commit n false (logged mode s cs)) ≡ logged mode s (cs ++ record { point = Point.Commit moment i Actor.Dma kind 0 short; input = None; bytes = bytes } ∷ [])
-dma-logged mode s cs moment i n kind short bytes is =
+pub dma-logged : (version : ℕ) (mode : ModeName) (s : ℕ) (cs : List Supplied) (moment i n : ℕ) (kind : CommitKind) (short : Bool) (bytes : List ℕ) → n ≡ length (actors_of (points_so cs))
+    → dma_noted n bytes (noted dma_commit n false (logged version mode s cs)) ≡ logged version mode s (cs ++ record { point = Point.Commit moment i Actor.Dma kind 0 short; input = None; bytes = bytes } ∷ [])
+dma-logged version mode s cs moment i n kind short bytes is =
     let ps = points_so cs in
     let q = Point.Commit moment i Actor.Dma kind 0 short in
     let c : Supplied = record { point = q; input = None; bytes = bytes } in
     let all = sym (points-more cs c) in
     let here : 0 + length (actors_of ps) ≡ n = omega arith in
     (λ h. record {
-      version = 1;
-      threads = most_threads;
+      version = version;
+      threads = new_threads version;
       mode = mode;
       s = s;
       count = (count_of_more ps q 1 refl ∙ ap (λ (qs : List Point). length (actors_of qs)) all) h;
@@ -178,22 +179,22 @@ dma-logged mode s cs moment i n kind short bytes is =
     })
 
 -- what a recording notes of an interrupt of thread k, after so many of its commits, is what its point adds to the log
-pub raise-logged : (mode : ModeName) (s : ℕ) (cs : List Supplied) (moment i k n value : ℕ) → k < 15 → n ≡ commits_of k (points_so cs) → interrupt_at (all_interrupts (points_so cs)) k n ≡ None
-    → interrupt_noted k n value (logged mode s cs) ≡ logged mode s (cs ++ record { point = Point.Raise moment i k value; input = None; bytes = [] } ∷ [])
-raise-logged mode s cs moment i k n value l is none =
+pub raise-logged : (version : ℕ) (mode : ModeName) (s : ℕ) (cs : List Supplied) (moment i k n value : ℕ) → k < most_threads → n ≡ commits_of k (points_so cs) → interrupt_at (all_interrupts (points_so cs)) k n ≡ None
+    → interrupt_noted k n value (logged version mode s cs) ≡ logged version mode s (cs ++ record { point = Point.Raise moment i k value; input = None; bytes = [] } ∷ [])
+raise-logged version mode s cs moment i k n value l is none =
     let ps = points_so cs in
     let q = Point.Raise moment i k value in
     let c : Supplied = record { point = q; input = None; bytes = [] } in
     let all = sym (points-more cs c) in
     (λ h. record {
-      version = 1;
-      threads = most_threads;
+      version = version;
+      threads = new_threads version;
       mode = mode;
       s = s;
       count = (sym (ap (λ (as_ : List Actor). length as_) (nothing_behind (actors_of ps) _ (actors_of (q ∷ [])) (actors-append ps (q ∷ [])) refl)) ∙ ap (λ (qs : List Point). length (actors_of qs)) all) h;
       order = (order_same mode ps q refl ∙ ap (order_in mode) all) h;
       sizes = (sizes_same mode ps moment i k value ∙ ap (sizes_in mode) all) h;
-      interrupts = (interrupts_more mode s (logged mode s cs) ps moment i k n value l is refl none ∙ ap all_interrupts all) h;
+      interrupts = (interrupts_more mode s (logged version mode s cs) ps moment i k n value l is refl none ∙ ap all_interrupts all) h;
       inputs = inputs_same cs c refl h;
       dmas = dmas_same cs c refl h;
     })

@@ -25,57 +25,57 @@ use Rattle.spec_protocol.proofs.Points.KeptLogs.{keeping, Keeps, KeepsIn, record
 
 -- ---- in its sphere
 
-at_once : (mode : ModeName) (s i : ℕ) (cs : List Supplied) (x : SerialState) (p : Sphere) (v : MovedSphere) → slice_get x.spheres i ≡ Some p → Keeps mode s cs (laid v) → KeepsIn mode s i cs (do_moved x i v)
-at_once mode s i cs x p v is keeps = record { sphere = laid v; there = get-set_same x.spheres i (laid v) p is; keeps = keeps }
+at_once : (version : ℕ) (mode : ModeName) (s i : ℕ) (cs : List Supplied) (x : SerialState) (p : Sphere) (v : MovedSphere) → slice_get x.spheres i ≡ Some p → Keeps version mode s cs (laid v) → KeepsIn version mode s i cs (do_moved x i v)
+at_once version mode s i cs x p v is keeps = record { sphere = laid v; there = get-set_same x.spheres i (laid v) p is; keeps = keeps }
 
 -- a point, with what comes from outside at it
 abbrev supplied_at : SerialState → Point → Supplied
 supplied_at x q = record { point = q; input = input_at x q; bytes = bytes_at x q }
 
 -- the points so far, and the state that they leave
-module _ (mode : ModeName) (s : ℕ) (cs : List Supplied) (x : SerialState) where
-  chunk_kept : (moment i k size : ℕ) (short : Bool) (p : Sphere) (o : Option Parts) → slice_get x.spheres i ≡ Some p → Keeps mode s cs p → slice_get p.threads k ≡ o → CanChunk size p o
-      → KeepsIn mode s i (cs ++ record { point = Point.Commit moment i (Actor.Thread k) CommitKind.Chunk size short; input = None; bytes = [] } ∷ []) (do_chunk x i k size short p o)
+module _ (version : ℕ) (mode : ModeName) (s : ℕ) (cs : List Supplied) (x : SerialState) where
+  chunk_kept : (moment i k size : ℕ) (short : Bool) (p : Sphere) (o : Option Parts) → slice_get x.spheres i ≡ Some p → Keeps version mode s cs p → slice_get p.threads k ≡ o → CanChunk size p o
+      → KeepsIn version mode s i (cs ++ record { point = Point.Commit moment i (Actor.Thread k) CommitKind.Chunk size short; input = None; bytes = [] } ∷ []) (do_chunk x i k size short p o)
   unfolding chunk_moved
   chunk_kept moment i k size short p None is keeps thread can = absurd can
   chunk_kept moment i k size short p (Some t) is keeps thread can =
       let all = cs ++ record { point = Point.Commit moment i (Actor.Thread k) CommitKind.Chunk size short; input = None; bytes = [] } ∷ [] in
-      subst (λ (v : MovedSphere). KeepsIn mode s i all (do_moved x i v))
+      subst (λ (v : MovedSphere). KeepsIn version mode s i all (do_moved x i v))
       (sym (ap (λ (r : Role). chunk_in r k false short (run p.memory t size) x.devices p) keeps.role))
-      (at_once mode s i all x p (recorded_chunk (logged mode s cs) k short (run p.memory t size) x.devices p) is (chunk-keeps mode s cs moment i k size short p t x.devices keeps thread can.ran))
+      (at_once version mode s i all x p (recorded_chunk (logged version mode s cs) k short (run p.memory t size) x.devices p) is (chunk-keeps version mode s cs moment i k size short p t x.devices keeps thread can.ran))
 
-  serial_kept : (moment i k size : ℕ) (short : Bool) (p : Sphere) (o : Option Parts) → slice_get x.spheres i ≡ Some p → Keeps mode s cs p → slice_get p.threads k ≡ o → CanSerial size p o
-      → KeepsIn mode s i (cs ++ record { point = Point.Commit moment i (Actor.Thread k) CommitKind.Serial size short; input = answer_to x.devices moment p o; bytes = [] } ∷ []) (do_serial x i k moment p o)
+  serial_kept : (moment i k size : ℕ) (short : Bool) (p : Sphere) (o : Option Parts) → slice_get x.spheres i ≡ Some p → Keeps version mode s cs p → slice_get p.threads k ≡ o → CanSerial size p o
+      → KeepsIn version mode s i (cs ++ record { point = Point.Commit moment i (Actor.Thread k) CommitKind.Serial size short; input = answer_to x.devices moment p o; bytes = [] } ∷ []) (do_serial x i k moment p o)
   unfolding serial_moved
   serial_kept moment i k size short p None is keeps thread can = absurd can
   serial_kept moment i k size short p (Some t) is keeps thread can =
       let all = cs ++ record { point = Point.Commit moment i (Actor.Thread k) CommitKind.Serial size short; input = (taken (need t p.memory) x.devices moment).input; bytes = [] } ∷ [] in
-      subst (λ (v : MovedSphere). KeepsIn mode s i all (do_moved x i v))
+      subst (λ (v : MovedSphere). KeepsIn version mode s i all (do_moved x i v))
       (sym (ap (λ (r : Role). serial_in r k moment t x.devices p) keeps.role))
-      (at_once mode s i all x p (recorded_serial (keeping (logged mode s cs)) p k moment t x.devices) is (serial-keeps mode s cs moment i k size short p t x.devices keeps thread can.empty))
+      (at_once version mode s i all x p (recorded_serial (keeping (logged version mode s cs)) p k moment t x.devices) is (serial-keeps version mode s cs moment i k size short p t x.devices keeps thread can.empty))
 
-  dma_kept : (moment i : ℕ) (short : Bool) (p : Sphere) (o : Option Request) → slice_get x.spheres i ≡ Some p → Keeps mode s cs p → p.progress.request ≡ o → IsSome o
-      → KeepsIn mode s i (cs ++ record { point = Point.Commit moment i Actor.Dma CommitKind.Dma 0 short; input = None; bytes = bytes_for x.devices o } ∷ []) (do_dma x i (dma_moved x.devices p))
+  dma_kept : (moment i : ℕ) (short : Bool) (p : Sphere) (o : Option Request) → slice_get x.spheres i ≡ Some p → Keeps version mode s cs p → p.progress.request ≡ o → IsSome o
+      → KeepsIn version mode s i (cs ++ record { point = Point.Commit moment i Actor.Dma CommitKind.Dma 0 short; input = None; bytes = bytes_for x.devices o } ∷ []) (do_dma x i (dma_moved x.devices p))
   unfolding dma_moved
   dma_kept moment i short p None is keeps asked some = absurd (true≢false (sym some))
   dma_kept moment i short p (Some request) is keeps asked some =
-      let log = logged mode s cs in
+      let log = logged version mode s cs in
       let all = cs ++ record { point = Point.Commit moment i Actor.Dma CommitKind.Dma 0 short; input = None; bytes = dma_bytes x.devices request } ∷ [] in
-      subst (λ (v : Option MovedSphere). KeepsIn mode s i all (do_dma x i v))
+      subst (λ (v : Option MovedSphere). KeepsIn version mode s i all (do_dma x i v))
       (sym (ap (λ (r : Role). dma_in r x.devices p) keeps.role ∙ (λ j. live_dma (Record (keeping (dma_log log x.devices p (asked j)))) x.devices p (asked j))))
-      (at_once mode s i all x p (recorded_dma (keeping log) p x.devices request) is (dma-keeps mode s cs moment i short p request x.devices keeps))
+      (at_once version mode s i all x p (recorded_dma (keeping log) p x.devices request) is (dma-keeps version mode s cs moment i short p request x.devices keeps))
 
-  raise_kept : (moment i k value : ℕ) (p : Sphere) (o : Option Parts) → slice_get x.spheres i ≡ Some p → Keeps mode s cs p → slice_get p.threads k ≡ o → CanTake o
-      → KeepsIn mode s i (cs ++ record { point = Point.Raise moment i k value; input = None; bytes = [] } ∷ []) (do_raise x i k value p o)
+  raise_kept : (moment i k value : ℕ) (p : Sphere) (o : Option Parts) → slice_get x.spheres i ≡ Some p → Keeps version mode s cs p → slice_get p.threads k ≡ o → CanTake o
+      → KeepsIn version mode s i (cs ++ record { point = Point.Raise moment i k value; input = None; bytes = [] } ∷ []) (do_raise x i k value p o)
   raise_kept moment i k value p None is keeps thread can = absurd can
   raise_kept moment i k value p (Some t) is keeps thread can =
-      record { sphere = raised k value t p; there = get-set_same x.spheres i (raised k value t p) p is; keeps = raise-keeps mode s cs moment i k value p t keeps thread can }
+      record { sphere = raised k value t p; there = get-set_same x.spheres i (raised k value t p) p is; keeps = raise-keeps version mode s cs moment i k value p t keeps thread can }
 
-  kind_kept : (moment i : ℕ) (actor : Actor) (kind : CommitKind) (size : ℕ) (short : Bool) (p : Sphere) → slice_get x.spheres i ≡ Some p → Keeps mode s cs p → CanKind x.devices actor kind size p
-      → KeepsIn mode s i (cs ++ supplied_at x (Point.Commit moment i actor kind size short) ∷ []) (do_kind x moment i actor kind size short p)
+  kind_kept : (moment i : ℕ) (actor : Actor) (kind : CommitKind) (size : ℕ) (short : Bool) (p : Sphere) → slice_get x.spheres i ≡ Some p → Keeps version mode s cs p → CanKind x.devices actor kind size p
+      → KeepsIn version mode s i (cs ++ supplied_at x (Point.Commit moment i actor kind size short) ∷ []) (do_kind x moment i actor kind size short p)
   kind_kept moment i (Actor.Thread k) CommitKind.Chunk size short p is keeps can = chunk_kept moment i k size short p (slice_get p.threads k) is keeps refl can
   kind_kept moment i (Actor.Thread k) CommitKind.Serial size short p is keeps can =
-      subst (λ (r : Sphere). KeepsIn mode s i (cs ++ record { point = Point.Commit moment i (Actor.Thread k) CommitKind.Serial size short; input = answer_to x.devices moment r (slice_get r.threads k); bytes = [] } ∷ []) (do_serial x i k moment p (slice_get p.threads k)))
+      subst (λ (r : Sphere). KeepsIn version mode s i (cs ++ record { point = Point.Commit moment i (Actor.Thread k) CommitKind.Serial size short; input = answer_to x.devices moment r (slice_get r.threads k); bytes = [] } ∷ []) (do_serial x i k moment p (slice_get p.threads k)))
       (sym (get_or_from_slice_get x.spheres i p no_sphere is))
       (serial_kept moment i k size short p (slice_get p.threads k) is keeps refl can)
   kind_kept moment i (Actor.Thread k) CommitKind.Dma size short p is keeps can = absurd can
@@ -84,25 +84,25 @@ module _ (mode : ModeName) (s : ℕ) (cs : List Supplied) (x : SerialState) wher
   kind_kept moment i Actor.Dma CommitKind.Serial size short p is keeps can = absurd can
   kind_kept moment i Actor.Dma CommitKind.Piece size short p is keeps can = absurd can
   kind_kept moment i Actor.Dma CommitKind.Dma size short p is keeps can =
-      subst (λ (n : ℕ). KeepsIn mode s i (cs ++ record { point = Point.Commit moment i Actor.Dma CommitKind.Dma n short; input = None; bytes = bytes_for x.devices (sphere_in x i).progress.request } ∷ []) (do_dma x i (dma_moved x.devices p))) (sym can.0)
-      (subst (λ (r : Sphere). KeepsIn mode s i (cs ++ record { point = Point.Commit moment i Actor.Dma CommitKind.Dma 0 short; input = None; bytes = bytes_for x.devices r.progress.request } ∷ []) (do_dma x i (dma_moved x.devices p)))
+      subst (λ (n : ℕ). KeepsIn version mode s i (cs ++ record { point = Point.Commit moment i Actor.Dma CommitKind.Dma n short; input = None; bytes = bytes_for x.devices (sphere_in x i).progress.request } ∷ []) (do_dma x i (dma_moved x.devices p))) (sym can.0)
+      (subst (λ (r : Sphere). KeepsIn version mode s i (cs ++ record { point = Point.Commit moment i Actor.Dma CommitKind.Dma 0 short; input = None; bytes = bytes_for x.devices r.progress.request } ∷ []) (do_dma x i (dma_moved x.devices p)))
       (sym (get_or_from_slice_get x.spheres i p no_sphere is))
       (dma_kept moment i short p p.progress.request is keeps refl can.1))
 
-  point_kept : (q : Point) → KeepsIn mode s (sphere_of_point q) cs x → CanDo x q → KeepsIn mode s (sphere_of_point q) (cs ++ supplied_at x q ∷ []) (do_point x q)
+  point_kept : (q : Point) → KeepsIn version mode s (sphere_of_point q) cs x → CanDo x q → KeepsIn version mode s (sphere_of_point q) (cs ++ supplied_at x q ∷ []) (do_point x q)
   unfolding do_point
   point_kept (Point.Commit moment i actor kind size short) k can =
       let p : Sphere = k.sphere in
       let all = cs ++ supplied_at x (Point.Commit moment i actor kind size short) ∷ [] in
       let fits : CanKind x.devices actor kind size p = subst (λ (r : Role). InLive r (CanKind x.devices actor kind size p)) k.keeps.role (subst (CanCommit x.devices actor kind size) k.there can) in
-      subst (KeepsIn mode s i all)
+      subst (KeepsIn version mode s i all)
       (sym (ap (do_commit x moment i actor kind size short) k.there ∙ ap (λ (r : Role). in_live r x (do_kind x moment i actor kind size short p)) k.keeps.role))
       (kind_kept moment i actor kind size short p k.there k.keeps fits)
   point_kept (Point.Raise moment i k value) h can =
       let p : Sphere = h.sphere in
       let all = cs ++ supplied_at x (Point.Raise moment i k value) ∷ [] in
       let fits : CanTake (slice_get p.threads k) = subst (λ (r : Role). InLive r (CanTake (slice_get p.threads k))) h.keeps.role (subst (CanInterrupt k) h.there can) in
-      subst (KeepsIn mode s i all)
+      subst (KeepsIn version mode s i all)
       (sym (ap (do_interrupt x i k value) h.there ∙ ap (λ (r : Role). in_live r x (do_raise x i k value p (slice_get p.threads k))) h.keeps.role))
       (raise_kept moment i k value p (slice_get p.threads k) h.there h.keeps refl fits)
 
@@ -150,23 +150,23 @@ one_more : (i : ℕ) (x : SerialState) (q : Point) (qs : List Point) (b : Bool) 
 one_more i x q qs b e = ap (λ (c : Bool). cond c (supplied_at x q ∷ supplied i (do_point x q) qs) (supplied i (do_point x q) qs)) e
 
 -- points done one at a time leave the sphere with the log that they tell
-pub points-kept : (mode : ModeName) (s i : ℕ) (cs : List Supplied) (x : SerialState) (qs : List Point) → KeepsIn mode s i cs x → CanDoAll x qs → KeepsIn mode s i (cs ++ supplied i x qs) (do_points x qs)
-points-kept mode s i cs x [] k can = subst (λ (ds : List Supplied). KeepsIn mode s i ds x) (sym (append-nil cs)) k
-points-kept mode s i cs x (q ∷ qs) k can =
+pub points-kept : (version : ℕ) (mode : ModeName) (s i : ℕ) (cs : List Supplied) (x : SerialState) (qs : List Point) → KeepsIn version mode s i cs x → CanDoAll x qs → KeepsIn version mode s i (cs ++ supplied i x qs) (do_points x qs)
+points-kept version mode s i cs x [] k can = subst (λ (ds : List Supplied). KeepsIn version mode s i ds x) (sym (append-nil cs)) k
+points-kept version mode s i cs x (q ∷ qs) k can =
     let y : SerialState = do_point x q in
     elim (cases_Bool (is_of i q)) [
       | inl own ↦ (
           let e : sphere_of_point q ≡ i = eqb-true (sphere_of_point q) i (sym (of_sphere i q) ∙ own) in
-          let one : KeepsIn mode s i (cs ++ supplied_at x q ∷ []) y =
-          subst (λ (j : ℕ). KeepsIn mode s j (cs ++ supplied_at x q ∷ []) y) e (point_kept mode s cs x q (subst (λ (j : ℕ). KeepsIn mode s j cs x) (sym e) k) can.0)
+          let one : KeepsIn version mode s i (cs ++ supplied_at x q ∷ []) y =
+          subst (λ (j : ℕ). KeepsIn version mode s j (cs ++ supplied_at x q ∷ []) y) e (point_kept version mode s cs x q (subst (λ (j : ℕ). KeepsIn version mode s j cs x) (sym e) k) can.0)
           in
-          subst (λ (ds : List Supplied). KeepsIn mode s i ds (do_points y qs))
+          subst (λ (ds : List Supplied). KeepsIn version mode s i ds (do_points y qs))
           (append_assoc cs (supplied_at x q ∷ []) (supplied i y qs) ∙ ap (λ (ds : List Supplied). cs ++ ds) (sym (one_more i x q qs true own)))
-          (points-kept mode s i (cs ++ supplied_at x q ∷ []) y qs one can.1)
+          (points-kept version mode s i (cs ++ supplied_at x q ∷ []) y qs one can.1)
           )
       | inr other ↦ (
           let ne : i ≢ sphere_of_point q = (λ e. true≢false (sym (eq-eqb (sphere_of_point q) i (sym e)) ∙ sym (of_sphere i q) ∙ other)) in
-          subst (λ (ds : List Supplied). KeepsIn mode s i (cs ++ ds) (do_points y qs)) (sym (one_more i x q qs false other))
-          (points-kept mode s i cs y qs (record { sphere = k.sphere; there = point_away x q i ne ∙ k.there; keeps = k.keeps }) can.1)
+          subst (λ (ds : List Supplied). KeepsIn version mode s i (cs ++ ds) (do_points y qs)) (sym (one_more i x q qs false other))
+          (points-kept version mode s i cs y qs (record { sphere = k.sphere; there = point_away x q i ne ∙ k.there; keeps = k.keeps }) can.1)
           )
     ]

@@ -5,7 +5,6 @@ use Rattle.std.specs.List.{flat_map}
 use Rattle.std.proofs.lemmas.Bool.{true≢false, cases_eq, cases_lt, eq-eqb, ne_eqb, lt-ltb, le-ltb, le-leb, and_from}
 use Rattle.std.proofs.lemmas.List.{append-nil}
 use Rattle.std.proofs.Math.Seq.{take-length}
-use Rattle.dl_entry.specs.Numbers.{most_threads}
 use Rattle.dl_entry.specs.declared.Input.{Input}
 use Rattle.dl_entry.specs.declared.Output.{Output}
 use Rattle.dl_entry.specs.declared.Request.{Request}
@@ -138,21 +137,21 @@ store_tells d request t (Operation.Amo op rd a v) = refl
 
 -- ---- the step
 
-kind_tells : (o : Option Kind) (number : ℕ) (ts : List Parts) (request : Option Request) (t : Parts) (m : List ℕ) (d : Devices) (moment : ℕ) → next_kind t m ≡ o
-    → let g = taken (need_of o t m) d moment in let v = serve_kind most_threads o number ts request t m g.input in Tells d (store_written o v.outputs g.devices) v.outputs
+kind_tells : (o : Option Kind) (most number : ℕ) (ts : List Parts) (request : Option Request) (t : Parts) (m : List ℕ) (d : Devices) (moment : ℕ) → next_kind t m ≡ o
+    → let g = taken (need_of o t m) d moment in let v = serve_kind most o number ts request t m g.input in Tells d (store_written o v.outputs g.devices) v.outputs
 unfolding need
-kind_tells None number ts request t m d moment is = tells_nothing d d [] refl refl
-kind_tells (Some Kind.Call) number ts request t m d moment is =
-    call_tells (is_outside t) d request t m (called most_threads (length m) number ts request t) (need t m) moment refl (ap (λ (o : Option Kind). need_of o t m) is)
-kind_tells (Some Kind.Break) number ts request t m d moment is = tells_nothing d d [] refl refl
-kind_tells (Some Kind.DeviceLoad) number ts request t m d moment is =
+kind_tells None most number ts request t m d moment is = tells_nothing d d [] refl refl
+kind_tells (Some Kind.Call) most number ts request t m d moment is =
+    call_tells (is_outside t) d request t m (called most (length m) number ts request t) (need t m) moment refl (ap (λ (o : Option Kind). need_of o t m) is)
+kind_tells (Some Kind.Break) most number ts request t m d moment is = tells_nothing d d [] refl refl
+kind_tells (Some Kind.DeviceLoad) most number ts request t m d moment is =
     let g = taken (need_of_load (next_operation t m)) d moment in
     tells_nothing d g.devices (device_loaded request t (next_operation t m) g.input).outputs (load_console d moment (next_operation t m)) (loaded_none request t (next_operation t m) g.input)
-kind_tells (Some Kind.DeviceStore) number ts request t m d moment is = store_tells d request t (next_operation t m)
-kind_tells (Some (Kind.Fault cause)) number ts request t m d moment is = tells_nothing d d [] refl refl
+kind_tells (Some Kind.DeviceStore) most number ts request t m d moment is = store_tells d request t (next_operation t m)
+kind_tells (Some (Kind.Fault cause)) most number ts request t m d moment is = tells_nothing d d [] refl refl
 
 -- the console grows in a serial step by what its outputs put out there
-pub serve-tells : (number : ℕ) (ts : List Parts) (request : Option Request) (t : Parts) (m : List ℕ) (d : Devices) (moment : ℕ)
-    → let g = taken (need t m) d moment in let v = serve most_threads number ts request t m g.input in (console_written t m v.outputs g.devices).console ≡ d.console ++ flat_map on_console v.outputs
+pub serve-tells : (most number : ℕ) (ts : List Parts) (request : Option Request) (t : Parts) (m : List ℕ) (d : Devices) (moment : ℕ)
+    → let g = taken (need t m) d moment in let v = serve most number ts request t m g.input in (console_written t m v.outputs g.devices).console ≡ d.console ++ flat_map on_console v.outputs
 unfolding need serve console_written
-serve-tells number ts request t m d moment = kind_tells (next_kind t m) number ts request t m d moment refl
+serve-tells most number ts request t m d moment = kind_tells (next_kind t m) most number ts request t m d moment refl

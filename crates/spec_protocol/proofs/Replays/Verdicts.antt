@@ -15,7 +15,7 @@ use Rattle.spec_play.specs.Progress.{position, with_effect, Used, with_interrupt
 use Rattle.spec_play.specs.Turns.{Turn, Ended}
 use Rattle.spec_play.specs.Plays.{with_threads}
 use Rattle.spec_play.specs.Verdicts.{LogVerdict, Goes, Fails, unless, interrupt_at, with_interrupted, ended}
-use Rattle.spec_protocol.specs.machine.Spheres.{Cursor, Role, Replay, Sphere, is_over, actor_of}
+use Rattle.spec_protocol.specs.machine.Spheres.{Cursor, Role, Replay, Sphere, is_over, actor_of, most_in}
 use Rattle.spec_protocol.specs.machine.Commits.{diverged, by_verdict}
 use Rattle.spec_protocol.specs.machine.Machine.{SphereSetup}
 use Rattle.spec_protocol.specs.promises.Sound.{IsDoneInOrder, due, IsSoundCursor, IsSoundRole, IsSoundSphere, HaveByteInput}
@@ -47,9 +47,9 @@ unless-goes Q (Some why) x h = tt
 
 -- what goes on has a sound effect, and uses the log soundly
 abbrev pub SoundlyIn : (size : ℕ) (log : LogParts) (k : ℕ) (ts : List Parts) (t : Parts) → Effect → Used → Type 0
-SoundlyIn size log k ts t e u = IsSoundEffect size ts t e × Uses log (with_threads k e ts) u
+SoundlyIn size log k ts t e u = IsSoundEffect size log.threads ts t e × Uses log (with_threads k e ts) u
 
-interrupted-goes : (size : ℕ) (log : LogParts) (k : ℕ) (ts : List Parts) (t : Parts) (e : Effect) (u : Used) (o : Option ℕ) → interrupt_at log.interrupts k e.thread.commits ≡ o → slice_get ts k ≡ Some t → IsSoundEffect size ts t e → Uses log ts u
+interrupted-goes : (size : ℕ) (log : LogParts) (k : ℕ) (ts : List Parts) (t : Parts) (e : Effect) (u : Used) (o : Option ℕ) → interrupt_at log.interrupts k e.thread.commits ≡ o → slice_get ts k ≡ Some t → IsSoundEffect size log.threads ts t e → Uses log ts u
     → IfGoes (SoundlyIn size log k ts t) (with_interrupted o e u)
 interrupted-goes size log k ts t e u None at is sound uses =
     let m = once-more ts e.spawned k t e.thread is sound.commits sound.fresh in
@@ -62,11 +62,11 @@ interrupted-goes size log k ts t e u (Some value) at is sound uses =
     let c : suc t.commits ≡ e.thread.commits = (let h = sound.commits in omega (arith, h)) in
     let d = one-due log.interrupts ts (with_threads k f ts) k t.commits value uses.rising m (ap (interrupt_at log.interrupts k) c ∙ at) in
     branch (IfGoes (SoundlyIn size log k ts t)) (takes_interrupt e.thread) (Goes f (with_interrupt u)) (Fails Why.Interrupt)
-    (λ _. (interrupted-effect size value ts t e sound, record { rising = uses.rising; inputs = uses.inputs; dmas = uses.dmas; interrupts = ap suc uses.interrupts ∙ sym d }))
+    (λ _. (interrupted-effect size log.threads value ts t e sound, record { rising = uses.rising; inputs = uses.inputs; dmas = uses.dmas; interrupts = ap suc uses.interrupts ∙ sym d }))
     (λ _. tt)
 
 -- a commit with a sound effect goes on soundly past the interrupt that is due behind it
-pub ended-goes : (size : ℕ) (log : LogParts) (k : ℕ) (ts : List Parts) (t : Parts) (e : Effect) (u : Used) → slice_get ts k ≡ Some t → IsSoundEffect size ts t e → Uses log ts u → IfGoes (SoundlyIn size log k ts t) (ended log k e u)
+pub ended-goes : (size : ℕ) (log : LogParts) (k : ℕ) (ts : List Parts) (t : Parts) (e : Effect) (u : Used) → slice_get ts k ≡ Some t → IsSoundEffect size log.threads ts t e → Uses log ts u → IfGoes (SoundlyIn size log k ts t) (ended log k e u)
 ended-goes size log k ts t e u is sound uses = interrupted-goes size log k ts t e u (interrupt_at log.interrupts k e.thread.commits) refl is sound uses
 
 -- ---- by a verdict
@@ -87,33 +87,33 @@ over-sound commits threads b how s =
     }
 
 -- a sound sphere is sound an event later in another role that is sound
-pub as-role : (s : ℕ) (image : SphereSetup) (now : ℕ) (role : Role) (p : Sphere) → IsSoundRole s (position p.progress) p.threads role → IsSoundSphere s image now p → IsSoundSphere s image (suc now) (record p { role = role })
-as-role s image now role p new sound =
+pub as-role : (s : ℕ) (image : SphereSetup) (now : ℕ) (role : Role) (p : Sphere) → IsSoundRole s (position p.progress) p.threads role → length p.threads ≤ most_in role → IsSoundSphere s image now p → IsSoundSphere s image (suc now) (record p { role = role })
+as-role s image now role p new few sound =
     record {
       size = sound.size;
       bytes = sound.bytes;
       request = sound.request;
       some = sound.some;
-      few = sound.few;
+      few = few;
       threads = sound.threads;
       commits = (let l = sound.commits in omega (arith, l));
       role = new;
     }
 
 -- a divergence leaves a sound replay
-pub diverged-sound : (s : ℕ) (image : SphereSetup) (now : ℕ) (b : Cursor) (why : Why) (devices : Devices) (p : Sphere) → IsSoundCursor (position p.progress) p.threads b → IsSoundSphere s image now p → HaveByteInput devices → IsSoundMoved s image (suc now) (diverged b why devices p)
-diverged-sound s image now b why devices p cursor sound d =
+pub diverged-sound : (s : ℕ) (image : SphereSetup) (now : ℕ) (b : Cursor) (why : Why) (devices : Devices) (p : Sphere) → IsSoundCursor (position p.progress) p.threads b → IsSoundSphere s image now p → length p.threads ≤ b.log.threads → HaveByteInput devices → IsSoundMoved s image (suc now) (diverged b why devices p)
+diverged-sound s image now b why devices p cursor sound few d =
     record {
-      sphere = as-role s image now (Replay (record b { now = Ended (End.Diverged (position p.progress) why) })) p (over-sound (position p.progress) p.threads b (End.Diverged (position p.progress) why) cursor) sound;
+      sphere = as-role s image now (Replay (record b { now = Ended (End.Diverged (position p.progress) why) })) p (over-sound (position p.progress) p.threads b (End.Diverged (position p.progress) why) cursor) few sound;
       words = sound-none (length image.memory);
       devices = d;
     }
 
 -- a commit leaves a sound replay, whether it goes on or diverges
-pub verdict-sound : (s : ℕ) (image : SphereSetup) (now k : ℕ) (b : Cursor) (t : Parts) (x : LogVerdict) (devices : Devices) (p : Sphere) → IsSoundCursor (position p.progress) p.threads b → b.now ≡ Turn k → IsSoundSphere s image now p → slice_get p.threads k ≡ Some t
+pub verdict-sound : (s : ℕ) (image : SphereSetup) (now k : ℕ) (b : Cursor) (t : Parts) (x : LogVerdict) (devices : Devices) (p : Sphere) → IsSoundCursor (position p.progress) p.threads b → b.now ≡ Turn k → IsSoundSphere s image now p → length p.threads ≤ b.log.threads → slice_get p.threads k ≡ Some t
     → IfGoes (SoundlyIn (length image.memory) b.log k p.threads t) x → HaveByteInput devices → IsSoundMoved s image (suc now) (by_verdict b k x devices p)
-verdict-sound s image now k b t (Fails why) devices p cursor turn sound is goes d = diverged-sound s image now b why devices p cursor sound d
-verdict-sound s image now k b t (Goes e u) devices p cursor turn sound is goes d =
+verdict-sound s image now k b t (Fails why) devices p cursor turn sound few is goes d = diverged-sound s image now b why devices p cursor sound few d
+verdict-sound s image now k b t (Goes e u) devices p cursor turn sound few is goes d =
     let n = next-position k e p.progress in
     let l = cursor.going (ap is_over turn) in
     let effect = goes.0 in

@@ -3,6 +3,7 @@ use Rattle.std.proofs.Common.{◌≡◌, ℕ, suc, ◌/◌, ◌<◌, ◌≤◌, 
 use Rattle.std.specs.Prelude.{nat_lt, ◌&&◌, ◌||◌}
 use Rattle.std.proofs.lemmas.Bool.{true≢false, ltb-true}
 use Rattle.std.proofs.lemmas.Option.{none-some}
+use Rattle.dl_entry.specs.Numbers.{most_chunk}
 use Rattle.spec_isa.specs.declared.thread.Parts.{Parts}
 use Rattle.spec_isa.specs.declared.thread.Kind.{Kind}
 use Rattle.spec_isa.specs.Words.{Stored, lays, read, put, holds, is_inside}
@@ -151,11 +152,11 @@ cut-sound capacity size i ch c = cut-open-sound capacity size i ch ch.closed c
 -- ---- a beginning, and a squash
 
 -- a new chunk is sound
-pub fresh-sound : (capacity size bits i : ℕ) (t : Parts) (limit : ℕ) (halves : Bool) → limit ≤ 4096 → IsThread t → IsSoundChunk capacity size (fresh bits i t limit halves)
+pub fresh-sound : (capacity size bits i : ℕ) (t : Parts) (limit : ℕ) (halves : Bool) → limit ≤ most_chunk → IsThread t → IsSoundChunk capacity size (fresh bits i t limit halves)
 fresh-sound capacity size bits i t limit halves l is =
     record { words = sound-none size; room = omega arith; limit = l; squashes = omega arith; start = is; thread = is; commits = refl; status = refl }
 
-squash-limit : (b : Bool) (limit : ℕ) → limit ≤ 4096 → cond b (halved limit) limit ≤ 4096
+squash-limit : (b : Bool) (limit : ℕ) → limit ≤ most_chunk → cond b (halved limit) limit ≤ most_chunk
 squash-limit true limit l = omega (arith, l)
 squash-limit false limit l = l
 

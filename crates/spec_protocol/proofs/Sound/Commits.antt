@@ -1,9 +1,8 @@
 -- A commit of a thread leaves a sound sphere: what its effect leaves, and what a recording notes of it.
-use Rattle.std.proofs.Common.{◌≡◌, ℕ, zero, suc, ◌+◌, ◌%◌, ◌≤◌, inl, inr, Bool, List, [], ◌∷◌, length, Option, Some, refl, sym, ap, ◌∙◌, subst, set, arith}
+use Rattle.std.proofs.Common.{◌≡◌, ℕ, zero, suc, ◌+◌, ◌%◌, ◌≤◌, inl, inr, Bool, List, [], ◌∷◌, length, Option, Some, sym, ap, ◌∙◌, subst, set, arith}
 use Rattle.std.specs.Prelude.{slice_get, slice_set}
 use Rattle.std.proofs.Math.ListN.{length-set, length-append}
 use Rattle.std.proofs.lemmas.Option.{none-some}
-use Rattle.dl_entry.specs.Numbers.{most_threads}
 use Rattle.dl_entry.specs.declared.Input.{Input}
 use Rattle.dl_entry.specs.declared.Request.{Request}
 use Rattle.spec_isa.specs.declared.thread.Parts.{Parts}
@@ -18,12 +17,12 @@ use Rattle.spec_play.specs.Effects.{Effect, chunk_effect, serial_effect}
 use Rattle.spec_play.specs.Progress.{Progress, position, with_effect}
 use Rattle.spec_play.specs.Plays.{with_threads}
 use Rattle.spec_play.specs.Recording.{noted}
-use Rattle.spec_protocol.specs.machine.Spheres.{Role, Sphere}
+use Rattle.spec_protocol.specs.machine.Spheres.{Role, Sphere, most_in}
 use Rattle.spec_protocol.specs.machine.Commits.{MovedSphere, granted_as}
 use Rattle.spec_protocol.specs.machine.Machine.{SphereSetup}
 use Rattle.spec_protocol.specs.promises.Sound.{AreSoundWords, IsSoundIf, IsSoundLog, IsSoundRole, IsSoundThread, IsSoundSphere, HaveByteInput}
 use Rattle.spec_protocol.proofs.Moves.Threads.{AreNew, serve-keeps}
-use Rattle.spec_protocol.proofs.Logs.Growing.{get_cases, pushed_length}
+use Rattle.spec_protocol.proofs.Logs.Growing.{get_cases}
 use Rattle.spec_protocol.proofs.Moves.Spawning.{serve-few}
 use Rattle.spec_protocol.proofs.Sound.Threads.{AreThreads, BringsIf, interrupted-thread, IsSoundStepResult, serve-sound}
 use Rattle.spec_protocol.proofs.Logs.Fresh.{at-set_parts, fresh-commit}
@@ -43,13 +42,13 @@ spawned-sound n (t ∷ spawned) (suc j) x threads new e = spawned-sound n spawne
 
 -- ---- a commit of a thread
 
--- what a commit of thread t leaves, in a memory of that size and among these threads
-pub record IsSoundEffect (size : ℕ) (ts : List Parts) (t : Parts) (e : Effect) : Type 0 where
+-- what a commit of thread t leaves, in a memory of that size and among these threads, of which there may be so many
+pub record IsSoundEffect (size most : ℕ) (ts : List Parts) (t : Parts) (e : Effect) : Type 0 where
   pub thread : IsThread e.thread
   pub commits : e.thread.commits ≡ t.commits + 1
   pub spawned : AreThreads e.spawned
   pub fresh : AreNew e.spawned
-  pub few : length ts + length e.spawned ≤ 15
+  pub few : length ts + length e.spawned ≤ most
   pub request : IsSoundIf size e.request
   pub words : AreSoundWords size e.words
 
@@ -61,9 +60,9 @@ later-thread m n x l s = record { thread = s.thread; few = (let k = s.few in ome
 pub next-position : (k : ℕ) (e : Effect) (p : Progress) → position (with_effect k e p) ≡ suc (position p)
 next-position k e p = position-more p e.commit
 
-commit-threads : (n size k : ℕ) (ts : List Parts) (t : Parts) (e : Effect) → slice_get ts k ≡ Some t → IsSoundEffect size ts t e → ((j : ℕ) (x : Parts) → slice_get ts j ≡ Some x → IsSoundThread n x)
+commit-threads : (n size most k : ℕ) (ts : List Parts) (t : Parts) (e : Effect) → slice_get ts k ≡ Some t → IsSoundEffect size most ts t e → ((j : ℕ) (x : Parts) → slice_get ts j ≡ Some x → IsSoundThread n x)
     → (j : ℕ) (x : Parts) → slice_get (with_threads k e ts) j ≡ Some x → IsSoundThread (suc n) x
-commit-threads n size k ts t e is effect old j x there =
+commit-threads n size most k ts t e is effect old j x there =
     elim (get_cases (slice_set ts k e.thread) e.spawned j x there) [
       | inl q ↦ set-all (IsSoundThread (suc n)) ts k e.thread
           (record { thread = effect.thread; few = (let l = (old k t is).few in let c = effect.commits in omega (arith, l, c)) })
@@ -81,7 +80,7 @@ pub record IsSoundMoved (s : ℕ) (image : SphereSetup) (now : ℕ) (v : MovedSp
   pub devices : HaveByteInput v.devices
 
 -- a commit with a sound effect leaves a sound sphere, if its role is left sound
-pub granted-sound : (s : ℕ) (image : SphereSetup) (now k : ℕ) (role : Role) (t : Parts) (e : Effect) (devices : Devices) (p : Sphere) → IsSoundSphere s image now p → slice_get p.threads k ≡ Some t → IsSoundEffect (length image.memory) p.threads t e
+pub granted-sound : (s : ℕ) (image : SphereSetup) (now k : ℕ) (role : Role) (t : Parts) (e : Effect) (devices : Devices) (p : Sphere) → IsSoundSphere s image now p → slice_get p.threads k ≡ Some t → IsSoundEffect (length image.memory) (most_in role) p.threads t e
     → IsSoundRole s (position (with_effect k e p.progress)) (with_threads k e p.threads) role → HaveByteInput devices → IsSoundMoved s image (suc now) (granted_as role k e devices p)
 granted-sound s image now k role t e devices p sound is effect role_sound devices_sound =
     let n = next-position k e p.progress in
@@ -93,7 +92,7 @@ granted-sound s image now k role t e devices p sound is effect role_sound device
         request = effect.request;
         some = (let a = sound.some in omega (arith, l, a));
         few = (let a = effect.few in omega (arith, l, a));
-        threads = λ j x h. subst (λ (m : ℕ). IsSoundThread m x) (sym n) (commit-threads (position p.progress) (length image.memory) k p.threads t e is effect sound.threads j x h);
+        threads = λ j x h. subst (λ (m : ℕ). IsSoundThread m x) (sym n) (commit-threads (position p.progress) (length image.memory) (most_in role) k p.threads t e is effect sound.threads j x h);
         commits = (let a = sound.commits in omega (arith, n, a));
         role = role_sound;
       };
@@ -104,8 +103,8 @@ granted-sound s image now k role t e devices p sound is effect role_sound device
 -- ---- effects
 
 -- the effect of a chunk's sound run is sound
-pub chunk-effect : (size k : ℕ) (ts : List Parts) (t : Parts) (request : Option Request) (r : Run) → IsThread r.thread → r.thread.commits ≡ t.commits → AreSoundWords size r.words → IsSoundIf size request → length ts ≤ 15 → IsSoundEffect size ts t (chunk_effect k request r)
-chunk-effect size k ts t request r thread commits words sound few =
+pub chunk-effect : (size most k : ℕ) (ts : List Parts) (t : Parts) (request : Option Request) (r : Run) → IsThread r.thread → r.thread.commits ≡ t.commits → AreSoundWords size r.words → IsSoundIf size request → length ts ≤ most → IsSoundEffect size most ts t (chunk_effect k request r)
+chunk-effect size most k ts t request r thread commits words sound few =
     record {
       thread = record { pc = thread.pc; saved_pc = thread.saved_pc; handler = thread.handler; zero = thread.zero; registers = thread.registers };
       commits = ap (λ (n : ℕ). n + 1) commits;
@@ -117,28 +116,28 @@ chunk-effect size k ts t request r thread commits words sound few =
     }
 
 -- the effect of a serial step is sound
-pub serial-effect : (size k : ℕ) (ts : List Parts) (request : Option Request) (t : Parts) (m : List ℕ) (input : Option Input) → length m ≡ size → size % 4 ≡ 0 → BringsIf (need t m) input → IsThread t → IsSoundIf size request → length ts ≤ 15
-    → IsSoundEffect size ts t (serial_effect k (serve most_threads k ts request t m input))
-serial-effect size k ts request t m input same whole brings thread sound few =
-    let v = serve most_threads k ts request t m input in
+pub serial-effect : (size most k : ℕ) (ts : List Parts) (request : Option Request) (t : Parts) (m : List ℕ) (input : Option Input) → length m ≡ size → size % 4 ≡ 0 → BringsIf (need t m) input → IsThread t → IsSoundIf size request → length ts ≤ most
+    → IsSoundEffect size most ts t (serial_effect k (serve most k ts request t m input))
+serial-effect size most k ts request t m input same whole brings thread sound few =
+    let v = serve most k ts request t m input in
     let served : IsSoundStepResult size v =
-    subst (λ (n : ℕ). n % 4 ≡ 0 → IsSoundIf n request → IsSoundStepResult n v) same (λ w q. serve-sound k ts request t m input w brings thread q) whole sound
+    subst (λ (n : ℕ). n % 4 ≡ 0 → IsSoundIf n request → IsSoundStepResult n v) same (λ w q. serve-sound most k ts request t m input w brings thread q) whole sound
     in
-    let keeps = serve-keeps k ts request t m input in
+    let keeps = serve-keeps most k ts request t m input in
     let th = served.thread in
     record {
       thread = record { pc = th.pc; saved_pc = th.saved_pc; handler = th.handler; zero = th.zero; registers = th.registers };
       commits = ap (λ (n : ℕ). n + 1) keeps.commits;
       spawned = served.spawned;
       fresh = keeps.fresh;
-      few = serve-few k ts request t m input few;
+      few = serve-few most k ts request t m input few;
       request = served.request;
       words = served.words;
     }
 
 -- the interrupt at its end
-pub interrupted-effect : (size value : ℕ) (ts : List Parts) (t : Parts) (e : Effect) → IsSoundEffect size ts t e → IsSoundEffect size ts t (record e { thread = interrupted value e.thread })
-interrupted-effect size value ts t e s =
+pub interrupted-effect : (size most value : ℕ) (ts : List Parts) (t : Parts) (e : Effect) → IsSoundEffect size most ts t e → IsSoundEffect size most ts t (record e { thread = interrupted value e.thread })
+interrupted-effect size most value ts t e s =
     record {
       thread = interrupted-thread value e.thread s.thread;
       commits = s.commits;
@@ -157,4 +156,4 @@ pub noted-sound : (s k i : ℕ) (short : Bool) (log : LogParts) (t : Parts) (e :
 noted-sound s k i short log t e p is commits role =
     let n = next-position k e p.progress in
     let c = role.count in
-    record { size = role.size; count = omega (arith, n, c); interrupts = fresh-commit p.threads e.spawned k t e.thread log.interrupts is commits role.interrupts }
+    record { version = role.version; size = role.size; count = omega (arith, n, c); interrupts = fresh-commit p.threads e.spawned k t e.thread log.interrupts is commits role.interrupts }

@@ -7,6 +7,7 @@ use Rattle.spec_isa.specs.Threads.{IsThread}
 use Rattle.spec_play.specs.Effects.{counted}
 use Rattle.spec_play.specs.Progress.{position}
 use Rattle.spec_engine.specs.Chunks.{Chunk, squash}
+use Rattle.dl_entry.specs.Numbers.{most_chunk}
 use Rattle.spec_protocol.specs.machine.Spheres.{Sphere, limit_after, halves}
 use Rattle.spec_protocol.specs.machine.Placing.{replays}
 use Rattle.spec_protocol.specs.machine.World.{Occupant}
@@ -47,7 +48,7 @@ counted-thread : (t : Parts) → IsThread t → IsThread (counted t)
 counted-thread t is = record { pc = is.pc; saved_pc = is.saved_pc; handler = is.handler; zero = is.zero; registers = is.registers }
 
 -- the younger chunk of which a step speaks is sound
-pub younger-sound : (s : Setup) (now : ℕ) (p : Sphere) (h : Occupant) (y : Chunk) (o : Option Chunk) → s.numbers.s ≤ 4096 → IsSoundSphere s.numbers.s (image_at s h.chunk.sphere) now p → IsSoundHeld s h → h.younger ≡ o → younger_for s.numbers p.role h o ≡ Some y
+pub younger-sound : (s : Setup) (now : ℕ) (p : Sphere) (h : Occupant) (y : Chunk) (o : Option Chunk) → s.numbers.s ≤ most_chunk → IsSoundSphere s.numbers.s (image_at s h.chunk.sphere) now p → IsSoundHeld s h → h.younger ≡ o → younger_for s.numbers p.role h o ≡ Some y
     → IsSoundChunk s.numbers.capacity (size_of s h.chunk.sphere) y
 younger-sound s now p h y (Some x) most sphere k is e = k.younger y (is ∙ e)
 younger-sound s now p h y None most sphere k is e =

@@ -1,8 +1,9 @@
--- The limits of chunks: over 0, and no more than a log can say.
+-- The limits of chunks: over 0, and no more than a log can say. And no sphere may have more threads than any.
 use Rattle.std.proofs.Common.{◌≡◌, ℕ, zero, suc, ◌<◌, ◌≤◌, Bool, eqb, List, [], ◌∷◌, Option, Some, None, refl, subst, arith}
 use Rattle.std.specs.Prelude.{slice_get, max, All, map, filter, find, option_map, ◌&&◌}
 use Rattle.std.specs.List.{zip}
 use Rattle.std.proofs.lemmas.Option.{none-some}
+use Rattle.dl_entry.specs.Numbers.{most_chunk, most_threads}
 use Rattle.dl_entry.specs.declared.Actor.{Actor}
 use Rattle.spec_isa.specs.declared.thread.Parts.{Parts}
 use Rattle.spec_log.specs.declared.ModeName.{ModeName}
@@ -11,7 +12,8 @@ use Rattle.spec_log.specs.declared.Sizes.{Sizes}
 use Rattle.spec_log.specs.declared.LogParts.{LogParts}
 use Rattle.spec_log.specs.Log.{IsSizes, IsShortSize, IsLog}
 use Rattle.spec_log.specs.Size.{is_thread, sizes_of_thread, thread_size, size_in}
-use Rattle.spec_protocol.specs.machine.Spheres.{Role, Plain, Record, Replay, whole_limit, limit_of, limit_after, limit_after}
+use Rattle.spec_log.proofs.Threads.{threads-few, standard-few}
+use Rattle.spec_protocol.specs.machine.Spheres.{Role, Plain, Record, Replay, whole_limit, limit_of, limit_after, most_in}
 use Rattle.spec_protocol.specs.promises.Sound.{IsSoundRole}
 use Rattle.spec_protocol.proofs.Invariants.Cores.{branch}
 
@@ -93,18 +95,26 @@ pub whole-most : (log : LogParts) (k n : ℕ) → IsLog log → whole_limit log 
 whole-most log k n is =
     by-most log.s (size_in log (Actor.Thread k) n) (let l = is.s.0 in omega (arith, l)) (λ z e. size-most log.mode log.threads log.s log.count k n z log.order log.sizes is.sizes e)
 
--- the limit of a chunk in a sound sphere is at most 4,096
-pub limit-most : (s commits : ℕ) (threads : List Parts) (role : Role) (k : ℕ) (t : Parts) → s ≤ 4096 → IsSoundRole s commits threads role → limit_of s role k t ≤ 4096
+-- the limit of a chunk in a sound sphere is at most the size of the largest standard chunk
+pub limit-most : (s commits : ℕ) (threads : List Parts) (role : Role) (k : ℕ) (t : Parts) → s ≤ most_chunk → IsSoundRole s commits threads role → limit_of s role k t ≤ most_chunk
 unfolding limit_of
 limit-most s commits threads Plain k t l is = l
 limit-most s commits threads (Record recording) k t l is = l
 limit-most s commits threads (Replay b) k t l is =
-    let a = whole-most b.log k t.commits is.log in let c = is.log.s.1 in omega (arith, a, c)
+    let a = whole-most b.log k t.commits is.log in let m = standard-few b.log.version b.log.threads b.log.s is.log.version is.log.s in omega (arith, a, m)
 
 -- so is that of the commit after it
-pub after-most : (s commits : ℕ) (threads : List Parts) (role : Role) (k : ℕ) (t : Parts) → s ≤ 4096 → IsSoundRole s commits threads role → limit_after s role k t ≤ 4096
+pub after-most : (s commits : ℕ) (threads : List Parts) (role : Role) (k : ℕ) (t : Parts) → s ≤ most_chunk → IsSoundRole s commits threads role → limit_after s role k t ≤ most_chunk
 unfolding limit_after
 after-most s commits threads Plain k t l is = l
 after-most s commits threads (Record log) k t l is = l
 after-most s commits threads (Replay b) k t l is =
-    let a = whole-most b.log k t.commits is.log in let c = is.log.s.1 in omega (arith, a, c)
+    let a = whole-most b.log k t.commits is.log in let m = standard-few b.log.version b.log.threads b.log.s is.log.version is.log.s in omega (arith, a, m)
+
+-- ---- threads
+
+-- a sound sphere may have no more threads than any sphere can
+pub threads-most : (s commits : ℕ) (threads : List Parts) (role : Role) → IsSoundRole s commits threads role → most_in role ≤ most_threads
+threads-most s commits threads Plain is = omega arith
+threads-most s commits threads (Record recording) is = threads-few recording.log.version recording.log.threads is.version
+threads-most s commits threads (Replay b) is = threads-few b.log.version b.log.threads is.log.version

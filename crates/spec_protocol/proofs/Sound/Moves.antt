@@ -5,7 +5,7 @@ use Rattle.std.proofs.Math.ListN.{length-set, length-append}
 use Rattle.std.proofs.lemmas.Bool.{leb-true, eqb-true, and_parts}
 use Rattle.std.proofs.lemmas.List.{append-nil}
 use Rattle.std.proofs.lemmas.Option.{slice_get_within}
-use Rattle.dl_entry.specs.Numbers.{most_threads}
+use Rattle.dl_entry.specs.Numbers.{plain_threads}
 use Rattle.dl_entry.specs.declared.Actor.{Actor}
 use Rattle.dl_entry.specs.declared.Input.{Input}
 use Rattle.spec_isa.specs.declared.thread.Parts.{Parts}
@@ -25,7 +25,7 @@ use Rattle.spec_play.specs.Turns.{Turn}
 use Rattle.spec_play.specs.Plays.{with_threads}
 use Rattle.spec_play.specs.Recording.{noted, input_noted}
 use Rattle.spec_play.specs.Verdicts.{ended, chunk_why, chunk_verdict, TakenRecord, given, serial_why, served_verdict, serial_verdict}
-use Rattle.spec_protocol.specs.machine.Spheres.{Cursor, Role, Plain, Record, Replay, Sphere, whole_limit}
+use Rattle.spec_protocol.specs.machine.Spheres.{Cursor, Role, Plain, Record, Replay, Sphere, whole_limit, most_in}
 use Rattle.spec_protocol.specs.machine.Commits.{joined, piece_moved, replayed_chunk, chunk_in, chunk_moved, served_as, serial_noted, serial_in, serial_moved}
 use Rattle.spec_protocol.specs.machine.Machine.{SphereSetup}
 use Rattle.spec_protocol.specs.promises.Sound.{IsDoneInOrder, AreSoundWords, IsSoundIf, HasThread, IsSoundCursor, IsSoundLog, IsSoundRole, IsSoundThread, IsSoundSphere, HaveByteInput}
@@ -48,12 +48,12 @@ pub record IsSoundRun (size : ℕ) (t : Parts) (r : Run) : Type 0 where
   pub words : AreSoundWords size r.words
   pub loads : length r.loads ≤ r.n
 
-chunk-goes : (size k : ℕ) (log : LogParts) (p : Progress) (u : Used) (ts : List Parts) (t : Parts) (r : Run) → slice_get ts k ≡ Some t → IsThread r.thread → r.thread.commits ≡ t.commits → AreSoundWords size r.words → IsSoundIf size p.request → length ts ≤ 15 → Uses log ts u
+chunk-goes : (size k : ℕ) (log : LogParts) (p : Progress) (u : Used) (ts : List Parts) (t : Parts) (r : Run) → slice_get ts k ≡ Some t → IsThread r.thread → r.thread.commits ≡ t.commits → AreSoundWords size r.words → IsSoundIf size p.request → length ts ≤ log.threads → Uses log ts u
     → IfGoes (SoundlyIn size log k ts t) (chunk_verdict log p u k r)
 unfolding chunk_verdict
 chunk-goes size k log p u ts t r is thread commits words request few uses =
     unless-goes (SoundlyIn size log k ts t) (chunk_why (size_in log (Actor.Thread k) r.thread.commits) r.n) (ended log k (chunk_effect k p.request r) u)
-    (ended-goes size log k ts t (chunk_effect k p.request r) u is (chunk-effect size k ts t p.request r thread commits words request few) uses)
+    (ended-goes size log k ts t (chunk_effect k p.request r) u is (chunk-effect size log.threads k ts t p.request r thread commits words request few) uses)
 
 cursor-uses : (commits : ℕ) (threads : List Parts) (b : Cursor) → IsSoundCursor commits threads b → Uses b.log threads b.used
 cursor-uses commits threads b s = record { rising = rising-of b.log.interrupts s.log.interrupts.rising; inputs = s.inputs; dmas = s.dmas; interrupts = s.interrupts }
@@ -67,9 +67,9 @@ pub record FitsRole (k : ℕ) (t : Parts) (piece : Bool) (r : Run) (role : Role)
 -- at this moment sphere p is sound, thread k of it is t, and the input is bytes
 module _ (s : ℕ) (image : SphereSetup) (now k : ℕ) (t : Parts) (devices : Devices) (p : Sphere) (sound : IsSoundSphere s image now p) (is : slice_get p.threads k ≡ Some t) (d : HaveByteInput devices) where
   -- a piece leaves the thread's commits, and room for an instruction more
-  piece-sound : (b : Cursor) (r : Run) → IsSoundCursor (position p.progress) p.threads b → b.now ≡ Turn k → is_live t ≡ true → IsSoundRun (length image.memory) t r → b.total + r.n < whole_limit b.log k t.commits
+  piece-sound : (b : Cursor) (r : Run) → IsSoundCursor (position p.progress) p.threads b → b.now ≡ Turn k → is_live t ≡ true → IsSoundRun (length image.memory) t r → b.total + r.n < whole_limit b.log k t.commits → length p.threads ≤ b.log.threads
       → IsSoundMoved s image (suc now) (piece_moved b k r devices p)
-  piece-sound b r cursor turn live run room =
+  piece-sound b r cursor turn live run room few =
       let n = position p.progress in
       let us = set p.threads k r.thread in
       let c = run.commits in
@@ -81,7 +81,7 @@ module _ (s : ℕ) (image : SphereSetup) (now k : ℕ) (t : Parts) (devices : De
           bytes = sound.bytes;
           request = sound.request;
           some = (let a = sound.some in let l = length-set p.threads k r.thread in omega (arith, l, a));
-          few = (let a = sound.few in let l = length-set p.threads k r.thread in omega (arith, l, a));
+          few = (let l = length-set p.threads k r.thread in omega (arith, l, few));
           threads = set-all (IsSoundThread n) p.threads k r.thread (record { thread = run.thread; few = (let l = (sound.threads k t is).few in omega (arith, l, c)) }) sound.threads;
           commits = (let l = sound.commits in omega (arith, l));
           role = record {
@@ -102,30 +102,30 @@ module _ (s : ℕ) (image : SphereSetup) (now k : ℕ) (t : Parts) (devices : De
         devices = d;
       }
 
-  replayed-sound : (b : Cursor) (piece : Bool) (r : Run) → IsSoundCursor (position p.progress) p.threads b → FitsRole k t piece r (Replay b) → IsSoundRun (length image.memory) t r
+  replayed-sound : (b : Cursor) (piece : Bool) (r : Run) → IsSoundCursor (position p.progress) p.threads b → FitsRole k t piece r (Replay b) → IsSoundRun (length image.memory) t r → length p.threads ≤ b.log.threads
       → IsSoundMoved s image (suc now) (replayed_chunk piece b k r devices p)
-  replayed-sound b true r cursor fits run =
-      piece-sound b r cursor (fits.turn b refl) fits.live run (fits.room b refl refl)
-  replayed-sound b false r cursor fits run =
-      verdict-sound s image now k b t (chunk_verdict b.log p.progress b.used k (joined b r)) devices p cursor (fits.turn b refl) sound is
-      (chunk-goes (length image.memory) k b.log p.progress b.used p.threads t (joined b r) is run.thread run.commits run.words sound.request sound.few (cursor-uses (position p.progress) p.threads b cursor)) d
+  replayed-sound b true r cursor fits run few =
+      piece-sound b r cursor (fits.turn b refl) fits.live run (fits.room b refl refl) few
+  replayed-sound b false r cursor fits run few =
+      verdict-sound s image now k b t (chunk_verdict b.log p.progress b.used k (joined b r)) devices p cursor (fits.turn b refl) sound few is
+      (chunk-goes (length image.memory) k b.log p.progress b.used p.threads t (joined b r) is run.thread run.commits run.words sound.request few (cursor-uses (position p.progress) p.threads b cursor)) d
 
-  chunk-in-sound : (role : Role) (piece short : Bool) (r : Run) → IsSoundRole s (position p.progress) p.threads role → FitsRole k t piece r role → IsSoundRun (length image.memory) t r
+  chunk-in-sound : (role : Role) (piece short : Bool) (r : Run) → IsSoundRole s (position p.progress) p.threads role → FitsRole k t piece r role → IsSoundRun (length image.memory) t r → length p.threads ≤ most_in role
       → IsSoundMoved s image (suc now) (chunk_in role k piece short r devices p)
-  chunk-in-sound Plain piece short r role fits run =
+  chunk-in-sound Plain piece short r role fits run few =
       granted-sound s image now k Plain t (chunk_effect k p.progress.request r) devices p sound is
-      (chunk-effect (length image.memory) k p.threads t p.progress.request r run.thread run.commits run.words sound.request sound.few) tt d
-  chunk-in-sound (Record recording) piece short r role fits run =
+      (chunk-effect (length image.memory) plain_threads k p.threads t p.progress.request r run.thread run.commits run.words sound.request few) tt d
+  chunk-in-sound (Record recording) piece short r role fits run few =
       let e = chunk_effect k p.progress.request r in
-      let effect = chunk-effect (length image.memory) k p.threads t p.progress.request r run.thread run.commits run.words sound.request sound.few in
+      let effect = chunk-effect (length image.memory) recording.log.threads k p.threads t p.progress.request r run.thread run.commits run.words sound.request few in
       granted-sound s image now k (Record (record recording { log = noted e.commit r.thread.commits short recording.log })) t e devices p sound is effect
       (noted-sound s k r.thread.commits short recording.log t e p is effect.commits role) d
-  chunk-in-sound (Replay b) piece short r role fits run = replayed-sound b piece r role fits run
+  chunk-in-sound (Replay b) piece short r role fits run few = replayed-sound b piece r role fits run few
 
   -- a granted chunk leaves a sound sphere
   pub chunk-sound : (piece short : Bool) (r : Run) → FitsRole k t piece r p.role → IsSoundRun (length image.memory) t r → IsSoundMoved s image (suc now) (chunk_moved k piece short r devices p)
   unfolding chunk_moved
-  chunk-sound piece short r fits run = chunk-in-sound p.role piece short r sound.role fits run
+  chunk-sound piece short r fits run = chunk-in-sound p.role piece short r sound.role fits run sound.few
 
 -- ---- serial steps
 
@@ -171,13 +171,13 @@ given-sound log threads (Some n) (Some r) u is uses =
     (λ e. record { brings = fits-brings n r e; uses = record { rising = uses.rising; inputs = (let l = slice_get_within log.inputs u.inputs r is in omega (arith, l)); dmas = uses.dmas; interrupts = uses.interrupts } })
     (λ _. tt)
 
-served-goes : (size k : ℕ) (log : LogParts) (p : Progress) (ts : List Parts) (t : Parts) (m : List ℕ) (o : Option TakenRecord) → slice_get ts k ≡ Some t → IfGiven log ts (need t m) o → length m ≡ size → size % 4 ≡ 0 → IsThread t → IsSoundIf size p.request → length ts ≤ 15
+served-goes : (size k : ℕ) (log : LogParts) (p : Progress) (ts : List Parts) (t : Parts) (m : List ℕ) (o : Option TakenRecord) → slice_get ts k ≡ Some t → IfGiven log ts (need t m) o → length m ≡ size → size % 4 ≡ 0 → IsThread t → IsSoundIf size p.request → length ts ≤ log.threads
     → IfGoes (SoundlyIn size log k ts t) (served_verdict log p k ts t m o)
 served-goes size k log p ts t m None is each same whole thread request few = tt
 served-goes size k log p ts t m (Some g) is each same whole thread request few =
-    ended-goes size log k ts t (serial_effect k (serve most_threads k ts p.request t m g.input)) g.used is (serial-effect size k ts p.request t m g.input same whole each.brings thread request few) each.uses
+    ended-goes size log k ts t (serial_effect k (serve log.threads k ts p.request t m g.input)) g.used is (serial-effect size log.threads k ts p.request t m g.input same whole each.brings thread request few) each.uses
 
-serial-goes : (size k : ℕ) (log : LogParts) (p : Progress) (u : Used) (ts : List Parts) (t : Parts) (m : List ℕ) → slice_get ts k ≡ Some t → Uses log ts u → length m ≡ size → size % 4 ≡ 0 → IsThread t → IsSoundIf size p.request → length ts ≤ 15
+serial-goes : (size k : ℕ) (log : LogParts) (p : Progress) (u : Used) (ts : List Parts) (t : Parts) (m : List ℕ) → slice_get ts k ≡ Some t → Uses log ts u → length m ≡ size → size % 4 ≡ 0 → IsThread t → IsSoundIf size p.request → length ts ≤ log.threads
     → IfGoes (SoundlyIn size log k ts t) (serial_verdict log p u k ts t m)
 unfolding serial_verdict
 serial-goes size k log p u ts t m is uses same whole thread request few =
@@ -188,34 +188,34 @@ serial-goes size k log p u ts t m is uses same whole thread request few =
 -- the log keeps its standard size, and an input is no commit
 input-log : (s n : ℕ) (threads : List Parts) (o : Option Input) (log : LogParts) → IsSoundLog s n threads log → IsSoundLog s n threads (input_noted o log)
 input-log s n threads None log h = h
-input-log s n threads (Some r) log h = record { size = h.size; count = h.count; interrupts = h.interrupts }
+input-log s n threads (Some r) log h = record { version = h.version; size = h.size; count = h.count; interrupts = h.interrupts }
 
-served-sound : (s : ℕ) (image : SphereSetup) (now k : ℕ) (role : Role) (t : Parts) (g : Taken) (p : Sphere) → length image.memory % 4 ≡ 0 → IsSoundSphere s image now p → slice_get p.threads k ≡ Some t → IsSoundTaken (need t p.memory) g
-    → IsSoundRole s (position (with_effect k (serial_effect k (serve most_threads k p.threads p.progress.request t p.memory g.input)) p.progress)) (with_threads k (serial_effect k (serve most_threads k p.threads p.progress.request t p.memory g.input)) p.threads) role
+served-sound : (s : ℕ) (image : SphereSetup) (now k : ℕ) (role : Role) (t : Parts) (g : Taken) (p : Sphere) → length image.memory % 4 ≡ 0 → IsSoundSphere s image now p → slice_get p.threads k ≡ Some t → IsSoundTaken (need t p.memory) g → length p.threads ≤ most_in role
+    → IsSoundRole s (position (with_effect k (serial_effect k (serve (most_in role) k p.threads p.progress.request t p.memory g.input)) p.progress)) (with_threads k (serial_effect k (serve (most_in role) k p.threads p.progress.request t p.memory g.input)) p.threads) role
     → IsSoundMoved s image (suc now) (served_as role k t g p)
-served-sound s image now k role t g p whole sound is taken_ role_sound =
-    let v = serve most_threads k p.threads p.progress.request t p.memory g.input in
+served-sound s image now k role t g p whole sound is taken_ few role_sound =
+    let v = serve (most_in role) k p.threads p.progress.request t p.memory g.input in
     granted-sound s image now k role t (serial_effect k v) (console_written t p.memory v.outputs g.devices) p sound is
-    (serial-effect (length image.memory) k p.threads p.progress.request t p.memory g.input sound.size whole taken_.brings (sound.threads k t is).thread sound.request sound.few)
+    (serial-effect (length image.memory) (most_in role) k p.threads p.progress.request t p.memory g.input sound.size whole taken_.brings (sound.threads k t is).thread sound.request few)
     role_sound (written-devices t p.memory v.outputs g.devices taken_.devices)
 
 serial-in-sound : (s : ℕ) (image : SphereSetup) (now k moment : ℕ) (role : Role) (t : Parts) (devices : Devices) (p : Sphere) → length image.memory % 4 ≡ 0 → IsSoundRole s (position p.progress) p.threads role → ((b : Cursor) → role ≡ Replay b → b.now ≡ Turn k)
-    → IsSoundSphere s image now p → slice_get p.threads k ≡ Some t → HaveByteInput devices → IsSoundMoved s image (suc now) (serial_in role k moment t devices p)
-serial-in-sound s image now k moment Plain t devices p whole role going sound is d =
-    served-sound s image now k Plain t (taken (need t p.memory) devices moment) p whole sound is (taken-sound t p.memory devices moment sound.bytes d) tt
-serial-in-sound s image now k moment (Record recording) t devices p whole role going sound is d =
+    → IsSoundSphere s image now p → length p.threads ≤ most_in role → slice_get p.threads k ≡ Some t → HaveByteInput devices → IsSoundMoved s image (suc now) (serial_in role k moment t devices p)
+serial-in-sound s image now k moment Plain t devices p whole role going sound few is d =
+    served-sound s image now k Plain t (taken (need t p.memory) devices moment) p whole sound is (taken-sound t p.memory devices moment sound.bytes d) few tt
+serial-in-sound s image now k moment (Record recording) t devices p whole role going sound few is d =
     let g = taken (need t p.memory) devices moment in
-    let e = serial_effect k (serve most_threads k p.threads p.progress.request t p.memory g.input) in
+    let e = serial_effect k (serve recording.log.threads k p.threads p.progress.request t p.memory g.input) in
     let taken_ = taken-sound t p.memory devices moment sound.bytes d in
-    let effect = serial-effect (length image.memory) k p.threads p.progress.request t p.memory g.input sound.size whole taken_.brings (sound.threads k t is).thread sound.request sound.few in
-    served-sound s image now k (Record (record recording { log = serial_noted k t g recording.log p })) t g p whole sound is taken_
+    let effect = serial-effect (length image.memory) recording.log.threads k p.threads p.progress.request t p.memory g.input sound.size whole taken_.brings (sound.threads k t is).thread sound.request few in
+    served-sound s image now k (Record (record recording { log = serial_noted k t g recording.log p })) t g p whole sound is taken_ few
     (input-log s (position (with_effect k e p.progress)) (with_threads k e p.threads) g.input (noted e.commit t.commits false recording.log) (noted-sound s k t.commits false recording.log t e p is effect.commits role))
-serial-in-sound s image now k moment (Replay b) t devices p whole role going sound is d =
-    verdict-sound s image now k b t (serial_verdict b.log p.progress b.used k p.threads t p.memory) devices p role (going b refl) sound is
-    (serial-goes (length image.memory) k b.log p.progress b.used p.threads t p.memory is (cursor-uses (position p.progress) p.threads b role) sound.size whole (sound.threads k t is).thread sound.request sound.few) d
+serial-in-sound s image now k moment (Replay b) t devices p whole role going sound few is d =
+    verdict-sound s image now k b t (serial_verdict b.log p.progress b.used k p.threads t p.memory) devices p role (going b refl) sound few is
+    (serial-goes (length image.memory) k b.log p.progress b.used p.threads t p.memory is (cursor-uses (position p.progress) p.threads b role) sound.size whole (sound.threads k t is).thread sound.request few) d
 
 -- a granted serial step leaves a sound sphere
 pub serial-sound : (s : ℕ) (image : SphereSetup) (now k moment : ℕ) (t : Parts) (devices : Devices) (p : Sphere) → length image.memory % 4 ≡ 0 → ((b : Cursor) → p.role ≡ Replay b → b.now ≡ Turn k)
     → IsSoundSphere s image now p → slice_get p.threads k ≡ Some t → HaveByteInput devices → IsSoundMoved s image (suc now) (serial_moved k moment t devices p)
 unfolding serial_moved
-serial-sound s image now k moment t devices p whole going sound is d = serial-in-sound s image now k moment p.role t devices p whole sound.role going sound is d
+serial-sound s image now k moment t devices p whole going sound is d = serial-in-sound s image now k moment p.role t devices p whole sound.role going sound sound.few is d

@@ -14,18 +14,19 @@ use Rattle.spec_isa.specs.declared.thread.Parts.{Parts}
 use Rattle.spec_isa.specs.Words.{Stored, lay, lays}
 use Rattle.spec_isa.specs.Threads.{started}
 use Rattle.spec_isa.proofs.MemoryLaws.{length_lay, length_lays}
+use Rattle.spec_log.specs.Versions.{IsVersion, new_threads}
 use Rattle.spec_play.specs.Progress.{position, no_progress, nothing_used}
 use Rattle.spec_play.specs.Turns.{TurnOrEnd, Turn, TurnOfDma}
 use Rattle.spec_engine.specs.declared.answers.How.{How}
 use Rattle.spec_engine.specs.Flights.{Flight, at}
 use Rattle.spec_engine.specs.Chunks.{Chunk, step, cut}
 use Rattle.spec_protocol.specs.declared.event.Event.{Event}
-use Rattle.spec_protocol.specs.machine.Spheres.{turn_in, turn_against, Cursor, Role, Replay, Sphere, no_sphere, is_over, is_stopped, whole_limit, pieces_of, limit_of, halves}
+use Rattle.spec_protocol.specs.machine.Spheres.{turn_in, turn_against, Cursor, Role, Replay, Sphere, no_sphere, is_over, is_stopped, whole_limit, pieces_of, limit_of, halves, most_in}
 use Rattle.spec_protocol.specs.machine.Commits.{MovedSphere, is_piece, chunk_moved, serial_moved}
 use Rattle.spec_protocol.specs.machine.Asking.{is_short}
 use Rattle.spec_protocol.specs.machine.World.{Numbers, Occupant, World, EventOutcome, moment, sphere_at}
 use Rattle.spec_protocol.specs.machine.Placing.{replays}
-use Rattle.spec_protocol.specs.machine.Machine.{RoleSetup, IsPlain, IsRecorded, IsReplayed, SphereSetup, Setup, role_of, sphere_of, world_of, act, name_of, with_event, happens, world_after}
+use Rattle.spec_protocol.specs.machine.Machine.{first_threads, RoleSetup, IsPlain, IsRecorded, IsReplayed, SphereSetup, Setup, role_of, sphere_of, world_of, act, name_of, with_event, happens, world_after}
 use Rattle.spec_protocol.specs.promises.Invariants.{IsGood}
 use Rattle.spec_protocol.specs.promises.Promises.{IsSetup, AreSizesKept}
 use Rattle.spec_protocol.specs.promises.Sound.{IsRole, IsImage, IsWithinLimits, AreSoundWords, no_image, image_at, size_of, IsSoundCursor, IsSoundRole, IsSoundThread, IsSoundSphere, IsSoundChunk, HaveByteInput, IsSound, WorldsAreSound, EventsKeepSound}
@@ -61,14 +62,14 @@ sound s =
       devices = HaveByteInput;
     }
 
-images-whole : (ds : List SphereSetup) (i : ℕ) → ((d : SphereSetup) → slice_get ds i ≡ Some d → IsImage d) → length (get_or ds i no_image).memory % 4 ≡ 0
-images-whole [] i each = refl
-images-whole (d ∷ ds) zero each = let e = (each d refl).pages in omega (arith, e)
-images-whole (d ∷ ds) (suc i) each = images-whole ds i each
+images-whole : (s : ℕ) (ds : List SphereSetup) (i : ℕ) → ((d : SphereSetup) → slice_get ds i ≡ Some d → IsImage s d) → length (get_or ds i no_image).memory % 4 ≡ 0
+images-whole s [] i each = refl
+images-whole s (d ∷ ds) zero each = let e = (each d refl).pages in omega (arith, e)
+images-whole s (d ∷ ds) (suc i) each = images-whole s ds i each
 
 -- a memory's length is a whole number of words
 whole : (s : Setup) (i : ℕ) → IsWithinLimits s → length (image_at s i).memory % 4 ≡ 0
-whole s i limits = images-whole s.spheres i (limits.images i)
+whole s i limits = images-whole s.numbers.s s.spheres i (limits.images i)
 
 landed : (s : Setup) (now i : ℕ) (v : MovedSphere) → IsSoundMoved s.numbers.s (image_at s i) now v → Lands (sound s) now i v
 landed s now i v m = record { sphere = m.sphere; flight = λ writes told. m.words; devices = m.devices }
@@ -182,7 +183,7 @@ in-own s ch i k = subst (λ (n : ℕ). IsSoundChunk s.numbers.capacity (size_of 
 sound-keeps : (s : Setup) → IsWithinLimits s → Keeps s.numbers (sound s)
 sound-keeps s limits =
     record {
-      later = λ now i p k. as-role s.numbers.s (image_at s i) now p.role p k.role k;
+      later = λ now i p k. as-role s.numbers.s (image_at s i) now p.role p k.role k.few k;
       stepped = λ now c p slots h sphere opened none k. older-alone s h _ none
           (in-own s (step s.numbers.capacity p.memory slots c h.chunk).chunk h.chunk.sphere
           (step-sound s.numbers.capacity (size_of s h.chunk.sphere) h.chunk.sphere p.memory slots c h.chunk sphere.size (record { sphere = refl; sound = k.older })));
@@ -273,27 +274,44 @@ first-thread entry zero t aligned e =
     subst (IsSoundThread 0) (let q : started entry ≡ t = cc in q) (record { thread = started-thread entry aligned; few = omega arith })
 first-thread entry (suc k) t aligned e = absurd (none-some t e)
 
-first-role : (s entry : ℕ) (r : RoleSetup) → IsRole r → let threads = started entry ∷ [] in IsSoundRole s 0 threads (role_of s threads r)
+first-role : (s entry : ℕ) (r : RoleSetup) → IsRole s r → let threads = started entry ∷ [] in IsSoundRole s 0 threads (role_of s threads r)
 first-role s entry IsPlain is = tt
-first-role s entry (IsRecorded asked) is = record { size = refl; count = refl; interrupts = fresh-none (started entry ∷ []) }
+first-role s entry (IsRecorded asked) is = record { version = is.0; size = refl; count = refl; interrupts = fresh-none (started entry ∷ []) }
 first-role s entry (IsReplayed asked) is =
     turned-sound asked.log no_progress nothing_used (started entry ∷ []) is (omega arith) (done-none asked.log.mode asked.log.order (started entry) refl) (omega arith) (omega arith)
     (sym (none-due_first (started entry) asked.log.interrupts refl))
 
-first-sphere : (s : ℕ) (image : SphereSetup) → IsImage image → IsSoundSphere s image 0 (sphere_of s image)
+-- a version of logs has room for a thread
+version-least : (version threads : ℕ) → IsVersion version threads → 1 ≤ threads
+version-least version threads is =
+    elim is [
+      | inl first ↦ (let e = first.1 in omega (arith, e))
+      | inr second ↦ elim second.1 [
+        | inl e ↦ omega (arith, e)
+        | inr e ↦ omega (arith, e)
+      ]
+    ]
+
+-- so has every role for the first one
+first-few : (s : ℕ) (threads : List Parts) (r : RoleSetup) → IsRole s r → 1 ≤ most_in (role_of s threads r)
+first-few s threads IsPlain is = omega arith
+first-few s threads (IsRecorded asked) is = version-least asked.version (new_threads asked.version) is.0
+first-few s threads (IsReplayed asked) is = version-least asked.log.version asked.log.threads is.version
+
+first-sphere : (s : ℕ) (image : SphereSetup) → IsImage s image → IsSoundSphere s image 0 (sphere_of s image)
 first-sphere s image is =
     record {
       size = refl;
       bytes = is.bytes;
       request = tt;
       some = omega arith;
-      few = omega arith;
+      few = first-few s (first_threads image) image.role is.role;
       threads = λ k t e. first-thread image.entry k t is.aligned e;
       commits = omega arith;
       role = first-role s image.entry image.role is.role;
     }
 
-first-spheres : (s : ℕ) (ds : List SphereSetup) (i : ℕ) → ((d : SphereSetup) → slice_get ds i ≡ Some d → IsImage d) → i < length ds → IsSoundSphere s (get_or ds i no_image) 0 (get_or (map (sphere_of s) ds) i no_sphere)
+first-spheres : (s : ℕ) (ds : List SphereSetup) (i : ℕ) → ((d : SphereSetup) → slice_get ds i ≡ Some d → IsImage s d) → i < length ds → IsSoundSphere s (get_or ds i no_image) 0 (get_or (map (sphere_of s) ds) i no_sphere)
 first-spheres s [] i each l = absurd (omega arith)
 first-spheres s (d ∷ ds) zero each l = first-sphere s d (each d refl)
 first-spheres s (d ∷ ds) (suc i) each l = first-spheres s ds i each (omega (arith, l))

@@ -5,7 +5,6 @@ use Rattle.std.specs.Prelude.{slice_index, slice_set, replicate, nat_le, nat_lt,
 use Rattle.std.proofs.Math.ListN.{length-set}
 use Rattle.std.proofs.lemmas.Bool.{eqb-true, eqb-false, and_parts, leb-true}
 use Rattle.std.proofs.lemmas.Option.{none-some}
-use Rattle.dl_entry.specs.Numbers.{most_threads}
 use Rattle.dl_entry.specs.declared.Input.{Input}
 use Rattle.dl_entry.specs.declared.Request.{Request}
 use Rattle.spec_isa.specs.declared.thread.Parts.{Parts}
@@ -124,14 +123,14 @@ exit-sound size request t is sound =
       request = sound;
     }
 
-spawn-sound : (size : ℕ) (ts : List Parts) (request : Option Request) (t : Parts) → IsThread t → IsSoundIf size request → IsSoundCall size (spawn most_threads ts request t)
-spawn-sound size ts request t is sound =
-    branch (IsSoundCall size) (nat_lt (length ts) 15 && eqb (a0 t % 4) 0)
+spawn-sound : (most size : ℕ) (ts : List Parts) (request : Option Request) (t : Parts) → IsThread t → IsSoundIf size request → IsSoundCall size (spawn most ts request t)
+spawn-sound most size ts request t is sound =
+    branch (IsSoundCall size) (nat_lt (length ts) most && eqb (a0 t % 4) 0)
     (record { thread = with_result (length ts) t; spawned = spawned (a0 t) (a1 t) (a2 t) ∷ []; request = request })
     (gives request t refused)
     (λ e. record {
       thread = follows-thread t 10 (length ts) is;
-      spawned = (spawned-thread (a0 t) (a1 t) (a2 t) (eqb-true (a0 t % 4) 0 (and_parts (nat_lt (length ts) 15) (eqb (a0 t % 4) 0) e).1), tt);
+      spawned = (spawned-thread (a0 t) (a1 t) (a2 t) (eqb-true (a0 t % 4) 0 (and_parts (nat_lt (length ts) most) (eqb (a0 t % 4) 0) e).1), tt);
       request = sound;
     })
     (λ _. gives-sound size request t refused is sound)
@@ -186,9 +185,9 @@ dma-call-sound size None t is sound =
     (λ _. gives-sound size None t bad_buffer is tt)
 dma-call-sound size (Some request) t is sound = gives-sound size (Some request) t _ is sound
 
-called-sound : (size k : ℕ) (ts : List Parts) (request : Option Request) (t : Parts) → IsThread t → IsSoundIf size request → IsSoundCall size (called most_threads size k ts request t)
-called-sound size k ts request t is sound =
-    any-call (IsSoundCall size) size k ts request t (λ m. gives-sound size request t m is sound) (exit-sound size request t is sound) (spawn-sound size ts request t is sound) (handler-sound size request t is sound) (iret-sound size request t is sound)
+called-sound : (most size k : ℕ) (ts : List Parts) (request : Option Request) (t : Parts) → IsThread t → IsSoundIf size request → IsSoundCall size (called most size k ts request t)
+called-sound most size k ts request t is sound =
+    any-call (IsSoundCall size) most size k ts request t (λ m. gives-sound size request t m is sound) (exit-sound size request t is sound) (spawn-sound most size ts request t is sound) (handler-sound size request t is sound) (iret-sound size request t is sound)
     (dma-call-sound size request t is sound)
 
 -- ---- what a step wants has room in the memory
@@ -319,20 +318,20 @@ fault-sound size cause request t is sound =
 inside-sound : (size : ℕ) (c : Called) → IsSoundCall size c → IsSoundStepResult size (inside_called c)
 inside-sound size c s = record { thread = s.thread; spawned = s.spawned; request = s.request; words = sound-none size }
 
-kind-sound : (o : Option Kind) (k : ℕ) (ts : List Parts) (request : Option Request) (t : Parts) (m : List ℕ) (input : Option Input) → length m % 4 ≡ 0 → BringsIf (need t m) input → IsThread t → IsSoundIf (length m) request
-    → IsSoundStepResult (length m) (serve_kind most_threads o k ts request t m input)
-kind-sound None k ts request t m input whole brings is sound = alone-sound (length m) request t is sound
-kind-sound (Some Kind.Call) k ts request t m input whole brings is sound =
-    either_serve (IsSoundStepResult (length m)) (is_outside t) (outside_called (need t m) request t input) (inside_called (called most_threads (length m) k ts request t))
+kind-sound : (o : Option Kind) (most k : ℕ) (ts : List Parts) (request : Option Request) (t : Parts) (m : List ℕ) (input : Option Input) → length m % 4 ≡ 0 → BringsIf (need t m) input → IsThread t → IsSoundIf (length m) request
+    → IsSoundStepResult (length m) (serve_kind most o k ts request t m input)
+kind-sound None most k ts request t m input whole brings is sound = alone-sound (length m) request t is sound
+kind-sound (Some Kind.Call) most k ts request t m input whole brings is sound =
+    either_serve (IsSoundStepResult (length m)) (is_outside t) (outside_called (need t m) request t input) (inside_called (called most (length m) k ts request t))
     (outside-sound (length m) (need t m) request t input whole (need-room t m) brings is sound)
-    (inside-sound (length m) (called most_threads (length m) k ts request t) (called-sound (length m) k ts request t is sound))
-kind-sound (Some Kind.Break) k ts request t m input whole brings is sound = fault-sound (length m) 3 request t is sound
-kind-sound (Some Kind.DeviceLoad) k ts request t m input whole brings is sound = loaded-sound (length m) request t (next_operation t m) input is sound
-kind-sound (Some Kind.DeviceStore) k ts request t m input whole brings is sound = device_stored-sound (length m) request t (next_operation t m) is sound
-kind-sound (Some (Kind.Fault cause)) k ts request t m input whole brings is sound = fault-sound (length m) cause request t is sound
+    (inside-sound (length m) (called most (length m) k ts request t) (called-sound most (length m) k ts request t is sound))
+kind-sound (Some Kind.Break) most k ts request t m input whole brings is sound = fault-sound (length m) 3 request t is sound
+kind-sound (Some Kind.DeviceLoad) most k ts request t m input whole brings is sound = loaded-sound (length m) request t (next_operation t m) input is sound
+kind-sound (Some Kind.DeviceStore) most k ts request t m input whole brings is sound = device_stored-sound (length m) request t (next_operation t m) is sound
+kind-sound (Some (Kind.Fault cause)) most k ts request t m input whole brings is sound = fault-sound (length m) cause request t is sound
 
 -- a serial step leaves sound threads, words and requests
-pub serve-sound : (k : ℕ) (ts : List Parts) (request : Option Request) (t : Parts) (m : List ℕ) (input : Option Input) → length m % 4 ≡ 0 → BringsIf (need t m) input → IsThread t → IsSoundIf (length m) request
-    → IsSoundStepResult (length m) (serve most_threads k ts request t m input)
+pub serve-sound : (most k : ℕ) (ts : List Parts) (request : Option Request) (t : Parts) (m : List ℕ) (input : Option Input) → length m % 4 ≡ 0 → BringsIf (need t m) input → IsThread t → IsSoundIf (length m) request
+    → IsSoundStepResult (length m) (serve most k ts request t m input)
 unfolding serve
-serve-sound k ts request t m input whole brings is sound = kind-sound (next_kind t m) k ts request t m input whole brings is sound
+serve-sound most k ts request t m input whole brings is sound = kind-sound (next_kind t m) most k ts request t m input whole brings is sound

@@ -1,5 +1,5 @@
 -- What a DMA or an interrupt makes of a sound sphere is sound.
-use Rattle.std.proofs.Common.{◌≡◌, ℕ, suc, ◌%◌, ◌<◌, false, eqb, List, length, Option, Some, None, refl, sym, ap, subst, set, arith}
+use Rattle.std.proofs.Common.{◌≡◌, ℕ, suc, ◌%◌, ◌<◌, ◌≤◌, false, eqb, List, length, Option, Some, None, refl, sym, ap, subst, set, arith}
 use Rattle.std.specs.Prelude.{slice_get, nat_le}
 use Rattle.std.proofs.Math.ListN.{length-set}
 use Rattle.std.proofs.lemmas.Bool.{true≢false, leb-true, and_parts}
@@ -21,12 +21,11 @@ use Rattle.spec_play.specs.Progress.{Progress, position, with_dma, Used, with_dm
 use Rattle.spec_play.specs.Turns.{TurnOfDma}
 use Rattle.spec_play.specs.Verdicts.{serial_why}
 use Rattle.spec_play.specs.Transfers.{DmaVerdict, DmaGoes, DmaFails, is_for, transferred, dma_unless, dma_verdict}
-use Rattle.spec_protocol.specs.machine.Spheres.{Recording, Cursor, Role, Plain, Record, Replay, Sphere, is_over, actor_of}
+use Rattle.spec_protocol.specs.machine.Spheres.{Recording, Cursor, Role, Plain, Record, Replay, Sphere, is_over, actor_of, most_in}
 use Rattle.spec_protocol.specs.machine.Commits.{MovedSphere, dma_as, live_dma, dma_log, dma_by_verdict, dma_in, dma_moved, role_raised, raised}
 use Rattle.spec_protocol.specs.machine.Placing.{replays}
 use Rattle.spec_protocol.specs.machine.Machine.{SphereSetup}
 use Rattle.spec_protocol.specs.promises.Sound.{IsDoneInOrder, AreSoundWords, IsSoundIf, IsSoundCursor, IsSoundLog, IsSoundRole, IsSoundThread, IsSoundSphere, HaveByteInput}
-use Rattle.spec_protocol.proofs.Logs.Growing.{pushed_length}
 use Rattle.spec_protocol.proofs.Invariants.Cores.{branch}
 use Rattle.spec_protocol.proofs.Sound.Words.{dma-sound}
 use Rattle.spec_protocol.proofs.Sound.Threads.{interrupted-thread}
@@ -43,9 +42,9 @@ use Rattle.spec_play.proofs.Positions.{position-more}
 dma-position : (p : Progress) → position (with_dma p) ≡ suc (position p)
 dma-position p = position-more p dma_commit
 
-dma-as-sound : (s : ℕ) (image : SphereSetup) (now : ℕ) (role : Role) (words : List Stored) (devices : Devices) (p : Sphere) → IsSoundSphere s image now p → AreSoundWords (length image.memory) words → IsSoundRole s (position (with_dma p.progress)) p.threads role
+dma-as-sound : (s : ℕ) (image : SphereSetup) (now : ℕ) (role : Role) (words : List Stored) (devices : Devices) (p : Sphere) → IsSoundSphere s image now p → AreSoundWords (length image.memory) words → IsSoundRole s (position (with_dma p.progress)) p.threads role → length p.threads ≤ most_in role
     → HaveByteInput devices → IsSoundMoved s image (suc now) (dma_as role words devices p)
-dma-as-sound s image now role words devices p sound words_sound role_sound d =
+dma-as-sound s image now role words devices p sound words_sound role_sound few d =
     let n = dma-position p.progress in
     record {
       sphere = record {
@@ -53,7 +52,7 @@ dma-as-sound s image now role words devices p sound words_sound role_sound d =
         bytes = sound.bytes;
         request = tt;
         some = sound.some;
-        few = sound.few;
+        few = few;
         threads = λ j x h. later-thread (position p.progress) (position (with_dma p.progress)) x (omega (arith, n)) (sound.threads j x h);
         commits = (let l = sound.commits in omega (arith, n, l));
         role = role_sound;
@@ -66,22 +65,22 @@ abbrev IfMoved : (s : ℕ) (image : SphereSetup) (now : ℕ) → Option MovedSph
 IfMoved s image now None = Unit {0}
 IfMoved s image now (Some v) = IsSoundMoved s image now v
 
-live-dma-sound : (s : ℕ) (image : SphereSetup) (now : ℕ) (role : Role) (devices : Devices) (p : Sphere) (o : Option Request) → length image.memory % 4 ≡ 0 → IsSoundSphere s image now p → IsSoundIf (length image.memory) o → IsSoundRole s (position (with_dma p.progress)) p.threads role
+live-dma-sound : (s : ℕ) (image : SphereSetup) (now : ℕ) (role : Role) (devices : Devices) (p : Sphere) (o : Option Request) → length image.memory % 4 ≡ 0 → IsSoundSphere s image now p → IsSoundIf (length image.memory) o → IsSoundRole s (position (with_dma p.progress)) p.threads role → length p.threads ≤ most_in role
     → HaveByteInput devices → IfMoved s image (suc now) (live_dma role devices p o)
-live-dma-sound s image now role devices p None whole sound request role_sound d = tt
-live-dma-sound s image now role devices p (Some q) whole sound request role_sound d =
-    dma-as-sound s image now role (dma_words q (dma_bytes devices q)) (dma_taken devices q) p sound (dma-sound (length image.memory) q (dma_bytes devices q) whole request (dma-few devices q)) role_sound (dma-devices devices q d)
+live-dma-sound s image now role devices p None whole sound request role_sound few d = tt
+live-dma-sound s image now role devices p (Some q) whole sound request role_sound few d =
+    dma-as-sound s image now role (dma_words q (dma_bytes devices q)) (dma_taken devices q) p sound (dma-sound (length image.memory) q (dma_bytes devices q) whole request (dma-few devices q)) role_sound few (dma-devices devices q d)
 
 dma-log-sound : (s n m : ℕ) (log : LogParts) (devices : Devices) (p : Sphere) (o : Option Request) → m ≡ suc n → (o ≡ None → ⊥) → IsSoundLog s n p.threads log → IsSoundLog s m p.threads (dma_log log devices p o)
 dma-log-sound s n m log devices p None e some h = absurd (some refl)
-dma-log-sound s n m log devices p (Some q) e some h = record { size = h.size; count = (let c = h.count in omega (arith, c, e)); interrupts = h.interrupts }
+dma-log-sound s n m log devices p (Some q) e some h = record { version = h.version; size = h.size; count = (let c = h.count in omega (arith, c, e)); interrupts = h.interrupts }
 
-recorded-dma-sound : (s : ℕ) (image : SphereSetup) (now : ℕ) (recording : Recording) (devices : Devices) (p : Sphere) (o : Option Request) → length image.memory % 4 ≡ 0 → IsSoundSphere s image now p → IsSoundIf (length image.memory) o → IsSoundLog s (position p.progress) p.threads recording.log
+recorded-dma-sound : (s : ℕ) (image : SphereSetup) (now : ℕ) (recording : Recording) (devices : Devices) (p : Sphere) (o : Option Request) → length image.memory % 4 ≡ 0 → IsSoundSphere s image now p → IsSoundIf (length image.memory) o → IsSoundLog s (position p.progress) p.threads recording.log → length p.threads ≤ recording.log.threads
     → HaveByteInput devices → IfMoved s image (suc now) (live_dma (Record (record recording { log = dma_log recording.log devices p o })) devices p o)
-recorded-dma-sound s image now recording devices p None whole sound request role d = tt
-recorded-dma-sound s image now recording devices p (Some q) whole sound request role d =
+recorded-dma-sound s image now recording devices p None whole sound request role few d = tt
+recorded-dma-sound s image now recording devices p (Some q) whole sound request role few d =
     live-dma-sound s image now (Record (record recording { log = dma_log recording.log devices p (Some q) })) devices p (Some q) whole sound request
-    (dma-log-sound s (position p.progress) (position (with_dma p.progress)) recording.log devices p (Some q) (dma-position p.progress) (λ e. none-some q (sym e)) role) d
+    (dma-log-sound s (position p.progress) (position (with_dma p.progress)) recording.log devices p (Some q) (dma-position p.progress) (λ e. none-some q (sym e)) role) few d
 
 -- what the log says of it
 pub record DmaUses (size : ℕ) (log : LogParts) (u : Used) (words : List Stored) : Type 0 where
@@ -115,36 +114,42 @@ dma-goes size log p u whole request =
     dma-unless-goes size log u (serial_why (size_in log Actor.Dma (position p))) (transferred (position p) p.request (slice_get log.dmas u.dmas))
     (transferred-goes size log u (position p) p.request (slice_get log.dmas u.dmas) whole request refl)
 
-dma-verdict-sound : (s : ℕ) (image : SphereSetup) (now : ℕ) (b : Cursor) (x : DmaVerdict) (devices : Devices) (p : Sphere) → IsSoundCursor (position p.progress) p.threads b → b.now ≡ TurnOfDma → IsSoundSphere s image now p → IfDmaGoes (length image.memory) b.log b.used x
+dma-verdict-sound : (s : ℕ) (image : SphereSetup) (now : ℕ) (b : Cursor) (x : DmaVerdict) (devices : Devices) (p : Sphere) → IsSoundCursor (position p.progress) p.threads b → b.now ≡ TurnOfDma → IsSoundSphere s image now p → IfDmaGoes (length image.memory) b.log b.used x → length p.threads ≤ b.log.threads
     → HaveByteInput devices → IsSoundMoved s image (suc now) (dma_by_verdict b x devices p)
-dma-verdict-sound s image now b (DmaFails why) devices p cursor turn sound goes d = diverged-sound s image now b why devices p cursor sound d
-dma-verdict-sound s image now b (DmaGoes words) devices p cursor turn sound goes d =
+dma-verdict-sound s image now b (DmaFails why) devices p cursor turn sound goes few d = diverged-sound s image now b why devices p cursor sound few d
+dma-verdict-sound s image now b (DmaGoes words) devices p cursor turn sound goes few d =
     let n = dma-position p.progress in
     let l = cursor.going (ap is_over turn) in
     let done = done-dma b.log.mode b.log.order (position p.progress) p.threads (cursor.named Actor.Dma (ap actor_of turn)) cursor.done in
     dma-as-sound s image now _ words devices p sound goes.words_sound
     (turned-sound b.log (with_dma p.progress) (with_dma_used b.used) p.threads cursor.log (omega (arith, n, l))
-    (subst (λ (m : ℕ). IsDoneInOrder b.log.mode b.log.order m p.threads) (sym n) done) cursor.inputs goes.among cursor.interrupts) d
+    (subst (λ (m : ℕ). IsDoneInOrder b.log.mode b.log.order m p.threads) (sym n) done) cursor.inputs goes.among cursor.interrupts) few d
 
-dma-in-sound : (s : ℕ) (image : SphereSetup) (now : ℕ) (role : Role) (devices : Devices) (p : Sphere) → length image.memory % 4 ≡ 0 → IsSoundRole s (position p.progress) p.threads role → ((b : Cursor) → role ≡ Replay b → b.now ≡ TurnOfDma) → IsSoundSphere s image now p
+dma-in-sound : (s : ℕ) (image : SphereSetup) (now : ℕ) (role : Role) (devices : Devices) (p : Sphere) → length image.memory % 4 ≡ 0 → IsSoundRole s (position p.progress) p.threads role → ((b : Cursor) → role ≡ Replay b → b.now ≡ TurnOfDma) → IsSoundSphere s image now p → length p.threads ≤ most_in role
     → HaveByteInput devices → IfMoved s image (suc now) (dma_in role devices p)
-dma-in-sound s image now Plain devices p whole role going sound d = live-dma-sound s image now Plain devices p p.progress.request whole sound sound.request tt d
-dma-in-sound s image now (Record recording) devices p whole role going sound d = recorded-dma-sound s image now recording devices p p.progress.request whole sound sound.request role d
-dma-in-sound s image now (Replay b) devices p whole role going sound d =
-    dma-verdict-sound s image now b (dma_verdict b.log p.progress b.used) devices p role (going b refl) sound (dma-goes (length image.memory) b.log p.progress b.used whole sound.request) d
+dma-in-sound s image now Plain devices p whole role going sound few d = live-dma-sound s image now Plain devices p p.progress.request whole sound sound.request tt few d
+dma-in-sound s image now (Record recording) devices p whole role going sound few d = recorded-dma-sound s image now recording devices p p.progress.request whole sound sound.request role few d
+dma-in-sound s image now (Replay b) devices p whole role going sound few d =
+    dma-verdict-sound s image now b (dma_verdict b.log p.progress b.used) devices p role (going b refl) sound (dma-goes (length image.memory) b.log p.progress b.used whole sound.request) few d
 
 -- a DMA that is done leaves a sound sphere
 pub dma-moved-sound : (s : ℕ) (image : SphereSetup) (now : ℕ) (devices : Devices) (p : Sphere) (v : MovedSphere) → length image.memory % 4 ≡ 0 → ((b : Cursor) → p.role ≡ Replay b → b.now ≡ TurnOfDma) → IsSoundSphere s image now p
     → HaveByteInput devices → dma_moved devices p ≡ Some v → IsSoundMoved s image (suc now) v
 unfolding dma_moved
-dma-moved-sound s image now devices p v whole going sound d is = subst (IfMoved s image (suc now)) is (dma-in-sound s image now p.role devices p whole sound.role going sound d)
+dma-moved-sound s image now devices p v whole going sound d is = subst (IfMoved s image (suc now)) is (dma-in-sound s image now p.role devices p whole sound.role going sound sound.few d)
 
 -- ---- interrupts
 
 role-raised-sound : (s n k value : ℕ) (t : Parts) (threads : List Parts) (role : Role) → replays role ≡ false → slice_get threads k ≡ Some t → IsSoundRole s n threads role → IsSoundRole s n (set threads k (interrupted value t)) (role_raised k t.commits value role)
 role-raised-sound s n k value t threads Plain live is h = tt
-role-raised-sound s n k value t threads (Record recording) live is h = record { size = h.size; count = h.count; interrupts = fresh-raise threads k value t recording.log.interrupts is h.interrupts }
+role-raised-sound s n k value t threads (Record recording) live is h = record { version = h.version; size = h.size; count = h.count; interrupts = fresh-raise threads k value t recording.log.interrupts is h.interrupts }
 role-raised-sound s n k value t threads (Replay b) live is h = absurd (true≢false live)
+
+-- nor does it change how many threads there may be
+raised-most : (k n value : ℕ) (role : Role) → most_in (role_raised k n value role) ≡ most_in role
+raised-most k n value Plain = refl
+raised-most k n value (Record recording) = refl
+raised-most k n value (Replay b) = refl
 
 -- an interrupt leaves a sound sphere
 pub raised-sound : (s : ℕ) (image : SphereSetup) (now k value : ℕ) (t : Parts) (p : Sphere) → replays p.role ≡ false → slice_get p.threads k ≡ Some t → IsSoundSphere s image now p → IsSoundSphere s image (suc now) (raised k value t p)
@@ -157,7 +162,7 @@ raised-sound s image now k value t p live is sound =
       bytes = sound.bytes;
       request = sound.request;
       some = (let a = sound.some in omega (arith, l, a));
-      few = (let a = sound.few in omega (arith, l, a));
+      few = (let a = sound.few in let e = raised-most k t.commits value p.role in omega (arith, l, a, e));
       threads = set-all (IsSoundThread (position p.progress)) p.threads k (interrupted value t) (record { thread = interrupted-thread value t th.thread; few = th.few }) sound.threads;
       commits = (let a = sound.commits in omega (arith, a));
       role = role-raised-sound s (position p.progress) k value t p.threads p.role live is sound.role;

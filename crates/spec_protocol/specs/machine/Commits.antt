@@ -1,6 +1,5 @@
 -- What a granted request makes of its sphere. The machine lets the words fly; the serial execution lays them at once.
 use Rattle.std.specs.Prelude.{ℕ, ◌+◌, Bool, true, false, List, [], ◌++◌, slice_set, Option, Some, None}
-use Rattle.dl_entry.specs.Numbers.{most_threads}
 use Rattle.dl_entry.specs.declared.End.{End}
 use Rattle.dl_entry.specs.declared.Request.{Request}
 use Rattle.dl_entry.specs.declared.Why.{Why}
@@ -22,7 +21,7 @@ use Rattle.spec_play.specs.Transfers.{DmaVerdict, DmaGoes, DmaFails, dma_verdict
 use Rattle.spec_play.specs.Plays.{with_threads}
 use Rattle.spec_play.specs.Recording.{noted, input_noted, dma_noted, interrupt_noted}
 use Rattle.spec_engine.specs.declared.answers.How.{How}
-use Rattle.spec_protocol.specs.machine.Spheres.{Cursor, Role, Plain, Record, Replay, Sphere}
+use Rattle.spec_protocol.specs.machine.Spheres.{Cursor, Role, Plain, Record, Replay, Sphere, most_in}
 
 pub data CommitOutcome : Type 0 where
   -- a whole commit, or the last part of one
@@ -123,13 +122,13 @@ chunk_moved k piece short r devices p = chunk_in p.role k piece short r devices 
 -- a role's part in a step that real devices have answered
 abbrev pub served_as : Role → (thread : ℕ) → Parts → Taken → Sphere → MovedSphere
 served_as role k t g p =
-    let v = serve most_threads k p.threads p.progress.request t p.memory g.input in
+    let v = serve (most_in role) k p.threads p.progress.request t p.memory g.input in
     granted_as role k (serial_effect k v) (console_written t p.memory v.outputs g.devices) p
 
 -- the log with a serial step and what came for it
 abbrev pub serial_noted : (thread : ℕ) → Parts → Taken → LogParts → Sphere → LogParts
 serial_noted k t g log p =
-    let v = serve most_threads k p.threads p.progress.request t p.memory g.input in
+    let v = serve log.threads k p.threads p.progress.request t p.memory g.input in
     input_noted g.input (noted (serial_effect k v).commit t.commits false log)
 
 abbrev pub serial_in : Role → (thread : ℕ) → (moment : ℕ) → Parts → Devices → Sphere → MovedSphere

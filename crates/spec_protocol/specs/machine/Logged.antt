@@ -14,6 +14,7 @@ use Rattle.spec_log.specs.declared.DmaRecord.{DmaRecord}
 use Rattle.spec_log.specs.declared.ShortSize.{ShortSize}
 use Rattle.spec_log.specs.declared.Sizes.{Sizes}
 use Rattle.spec_log.specs.declared.LogParts.{LogParts}
+use Rattle.spec_log.specs.Versions.{new_threads}
 use Rattle.spec_log.specs.Size.{is_thread}
 use Rattle.spec_kernel.specs.Devices.{Devices}
 use Rattle.spec_kernel.specs.Needs.{need}
@@ -160,12 +161,12 @@ abbrev pub all_interrupts : List Point → List Interrupt
 all_interrupts ps = flat_map (λ k. interrupts_of k 0 ps) threads
 
 -- short sizes and interrupts stand thread by thread; orders, records and DMA data in the order of the points
-abbrev pub logged : ModeName → (s : ℕ) → List Supplied → LogParts
-logged mode s cs =
+abbrev pub logged : (version : ℕ) → ModeName → (s : ℕ) → List Supplied → LogParts
+logged version mode s cs =
     let ps = map (λ c. c.point) cs in
     record {
-      version = 1;
-      threads = most_threads;
+      version = version;
+      threads = new_threads version;
       mode = mode;
       s = s;
       count = length (actors_of ps);

@@ -26,6 +26,7 @@ use Rattle.spec_protocol.specs.machine.Transferring.{transferring}
 
 -- how a sphere is recorded
 pub record RecordSetup : Type 0 where
+  pub version : ℕ
   pub mode : ModeName
 
 -- what is replayed
@@ -40,7 +41,7 @@ pub data RoleSetup : Type 0 where
 
 -- what a recorded sphere begins with
 abbrev pub new_recording : RecordSetup → (s : ℕ) → Recording
-new_recording asked s = record { log = new_log asked.mode s }
+new_recording asked s = record { log = new_log asked.version asked.mode s }
 
 -- of its image the bytes of memory, and where thread 0 starts
 pub record SphereSetup : Type 0 where

@@ -8,7 +8,7 @@ use Rattle.spec_kernel.specs.Devices.{Devices}
 use Rattle.spec_kernel.specs.Needs.{next_kind}
 use Rattle.spec_kernel.specs.Interrupts.{is_live, takes_interrupt}
 use Rattle.spec_engine.specs.declared.answers.How.{How}
-use Rattle.spec_protocol.specs.machine.Spheres.{turn_against, Sphere, is_stopped, head_of, limit_of, is_in_pieces}
+use Rattle.spec_protocol.specs.machine.Spheres.{turn_against, Sphere, is_stopped, limit_of, is_in_pieces}
 use Rattle.spec_protocol.specs.machine.Commits.{is_piece, chunk_moved, dma_moved}
 use Rattle.spec_protocol.specs.machine.World.{Numbers, MoveKind, OfChunk, OfSerial, OfDma, OfRaise, Move}
 use Rattle.spec_protocol.specs.machine.Asking.{is_short}

@@ -1,6 +1,7 @@
 -- A sphere: its memory, its threads, how far it has come, and its role.
 use Rattle.std.specs.Prelude.{ℕ, ◌-◌, Bool, true, false, max, nat_eq, nat_lt, List, [], map, Option, Some, None, option_map, if◌then◌else◌}
 use Rattle.dl_entry.specs.declared.Actor.{Actor}
+use Rattle.dl_entry.specs.Numbers.{plain_threads}
 use Rattle.spec_isa.specs.declared.thread.Parts.{Parts}
 use Rattle.spec_isa.specs.declared.thread.Load.{Load}
 use Rattle.spec_log.specs.declared.ModeName.{ModeName}
@@ -92,6 +93,14 @@ turn_in role p actor = if takes_turns actor role then other_than actor (head_in 
 -- the actor whose turn keeps this one from committing; none where it may commit
 unfoldable pub turn_against : Sphere → Actor → Option Actor
 turn_against p actor = turn_in p.role p actor
+
+-- ---- threads
+
+-- how many threads a sphere may have: spawn is refused at this number
+abbrev pub most_in : Role → ℕ
+most_in Plain = plain_threads
+most_in (Record recording) = recording.log.threads
+most_in (Replay b) = b.log.threads
 
 -- ---- limits of chunks
 

@@ -3,7 +3,7 @@ use Rattle.std.specs.Prelude.{◌≡◌, ℕ, Bool, Option, Some, None}
 use Rattle.spec_isa.specs.declared.thread.Parts.{Parts}
 use Rattle.spec_isa.specs.Runs.{Run}
 use Rattle.spec_kernel.specs.Devices.{Devices}
-use Rattle.spec_protocol.specs.machine.Spheres.{Recording, Role, Plain, Record, Sphere}
+use Rattle.spec_protocol.specs.machine.Spheres.{Recording, Role, Plain, Record, Sphere, most_in}
 use Rattle.spec_protocol.specs.machine.Commits.{MovedSphere, chunk_moved, serial_moved, dma_moved, raised}
 
 abbrev pub in_role : Role → Sphere → Sphere
@@ -25,11 +25,13 @@ MoveAlikeIf None None = Unit {0}
 MoveAlikeIf (Some v) (Some u) = MoveAlike v u
 MoveAlikeIf _ _ = ⊥
 
--- a chunk, a serial step, a DMA and an interrupt leave in p what they leave in q, but for the roles
+-- a chunk, a DMA and an interrupt leave in p what they leave in q, but for the roles; and so does a serial step, if both may
+-- have as many threads
 pub record MovesAlike (p q : Sphere) : Type 0 where
   pub chunk : (k : ℕ) (piece short : Bool) (r : Run) (devices : Devices)
       → MoveAlike (chunk_moved k piece short r devices p) (chunk_moved k piece short r devices q)
   pub serial : (k moment : ℕ) (t : Parts) (devices : Devices)
+      → most_in p.role ≡ most_in q.role
       → MoveAlike (serial_moved k moment t devices p) (serial_moved k moment t devices q)
   pub dma : (devices : Devices) → MoveAlikeIf (dma_moved devices p) (dma_moved devices q)
   pub raise : (k value : ℕ) (t : Parts) → AreAlike (raised k value t p) (raised k value t q)

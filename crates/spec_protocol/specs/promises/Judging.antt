@@ -56,11 +56,12 @@ pub record IsLogged (mode : ModeName) (kept : Kept) (log : LogParts) : Type 0 wh
   pub head : (i : ℕ) (last : Option ℕ) (live : List Bool)
       → head log i last live ≡ kept_head mode kept.order i (is_dma_at log.dmas i) last live
 
--- so has the log of what is kept, whatever its records
+-- so has the log of what is kept, in each version and whatever its records
 abbrev pub KeptIsLogged : Type 0
 KeptIsLogged =
-    (mode : ModeName) (kept : Kept) (interrupts : List Interrupt) (inputs : List Input) (dmas : List DmaRecord)
-    → IsLogged mode kept (log_of mode kept interrupts inputs dmas)
+    (version threads : ℕ) (mode : ModeName) (kept : Kept)
+    → (interrupts : List Interrupt) (inputs : List Input) (dmas : List DmaRecord)
+    → IsLogged mode kept (log_of version threads mode kept interrupts inputs dmas)
 
 -- the limit of a commit is that of its size
 abbrev pub LimitsAreOfSizes : Type 0

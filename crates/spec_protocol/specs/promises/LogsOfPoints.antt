@@ -1,6 +1,5 @@
 -- What is promised of the logs that are kept: that they are those of the points.
 use Rattle.std.specs.Prelude.{◌≡◌, ℕ, List}
-use Rattle.spec_log.specs.declared.ModeName.{ModeName}
 use Rattle.spec_log.specs.declared.LogParts.{LogParts}
 use Rattle.spec_protocol.specs.declared.event.Event.{Event}
 use Rattle.spec_protocol.specs.machine.Spheres.{Recording, Record}
@@ -10,13 +9,13 @@ use Rattle.spec_protocol.specs.machine.Serial.{serial_start}
 use Rattle.spec_protocol.specs.machine.Logged.{supplied, logged}
 use Rattle.spec_protocol.specs.promises.Promises.{WillRecord, after}
 
--- the log that the points of sphere i tell, in this mode
-abbrev pub log_of_points : Setup → List Event → (i : ℕ) → ModeName → LogParts
-log_of_points s es i mode = logged mode s.numbers.s (supplied i (serial_start s) (after s es).points)
+-- the log that the points of sphere i tell, where it is recorded so
+abbrev pub log_of_points : Setup → List Event → (i : ℕ) → RecordSetup → LogParts
+log_of_points s es i asked = logged asked.version asked.mode s.numbers.s (supplied i (serial_start s) (after s es).points)
 
 -- what a recorded sphere keeps by its points
 abbrev pub recording_of_points : Setup → List Event → (i : ℕ) → RecordSetup → Recording
-recording_of_points s es i asked = record { log = log_of_points s es i asked.mode }
+recording_of_points s es i asked = record { log = log_of_points s es i asked }
 
 -- the log that a sphere has kept is that of its points, with the standard size
 abbrev pub LogsAreOfPoints : Type 0

@@ -2,7 +2,6 @@
 use Rattle.std.specs.Prelude.{◌≡◌, ℕ, ◌<◌, ◌≤◌, true, false, slice_get, Option, Some, None}
 use Rattle.dl_entry.specs.declared.Input.{Input}
 use Rattle.dl_entry.specs.declared.Request.{Request}
-use Rattle.dl_entry.specs.Numbers.{most_threads}
 use Rattle.spec_isa.specs.declared.thread.Parts.{Parts}
 use Rattle.spec_log.specs.Log.{IsInput, AreFewBytes}
 use Rattle.spec_kernel.specs.Devices.{Devices}
@@ -10,7 +9,7 @@ use Rattle.spec_kernel.specs.Needs.{need}
 use Rattle.spec_kernel.specs.Answers.{taken, dma_bytes}
 use Rattle.spec_engine.specs.declared.answers.How.{How}
 use Rattle.spec_engine.specs.Flights.{at}
-use Rattle.spec_protocol.specs.machine.Spheres.{Sphere}
+use Rattle.spec_protocol.specs.machine.Spheres.{Sphere, most_in}
 use Rattle.spec_protocol.specs.machine.Asking.{is_short}
 use Rattle.spec_protocol.specs.machine.Placing.{replays}
 use Rattle.spec_protocol.specs.machine.World.{Occupant, World, moment, sphere_at}
@@ -31,7 +30,7 @@ IsInputIf (Some r) = IsInput r
 -- of a sphere at a moment: its threads have the numbers of a log's actors, what the devices answer to a thread's next step is
 -- one of its inputs, and what they give a DMA are its bytes
 pub record FitsLog (now : ℕ) (d : Devices) (p : Sphere) : Type 0 where
-  pub threads : (k : ℕ) (t : Parts) → slice_get p.threads k ≡ Some t → k < most_threads
+  pub threads : (k : ℕ) (t : Parts) → slice_get p.threads k ≡ Some t → k < most_in p.role
   pub inputs : (k : ℕ) (t : Parts)
       → slice_get p.threads k ≡ Some t
       → IsInputIf (taken (need t p.memory) d now).input

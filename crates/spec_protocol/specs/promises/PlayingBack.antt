@@ -1,7 +1,7 @@
 -- What is promised of recorded logs: that they play back what was recorded.
 use Rattle.std.specs.Prelude.{◌≡◌, ℕ, List, slice_get, Some}
 use Rattle.spec_log.specs.declared.LogParts.{LogParts}
-use Rattle.spec_play.specs.Plays.{play, FitsImage}
+use Rattle.spec_play.specs.Plays.{FitsImage}
 use Rattle.spec_protocol.specs.declared.event.Event.{Event}
 use Rattle.spec_protocol.specs.machine.Spheres.{Recording, Record, Sphere}
 use Rattle.spec_protocol.specs.machine.Machine.{last_played, RecordSetup, SphereSetup, Setup}

@@ -3,7 +3,7 @@ use Rattle.std.specs.Prelude.{◌≡◌, ℕ, ◌+◌, ◌%◌, ◌^◌, ◌<◌
 use Rattle.std.specs.Prelude.{slice_get, slice_index, slice_index_or, All, Option, Some, None}
 use Rattle.dl_entry.specs.declared.Actor.{Actor}
 use Rattle.dl_entry.specs.declared.Request.{Request}
-use Rattle.dl_entry.specs.Numbers.{most_bytes, least_chunk, most_chunk, most_threads}
+use Rattle.dl_entry.specs.Numbers.{most_bytes, least_chunk, most_chunk}
 use Rattle.spec_isa.specs.declared.thread.Parts.{Parts}
 use Rattle.spec_isa.specs.Words.{Stored, IsBytes}
 use Rattle.spec_isa.specs.Threads.{IsThread}
@@ -11,6 +11,7 @@ use Rattle.spec_log.specs.declared.ModeName.{ModeName}
 use Rattle.spec_log.specs.declared.Interrupt.{Interrupt}
 use Rattle.spec_log.specs.declared.LogParts.{LogParts}
 use Rattle.spec_log.specs.Log.{IsLog}
+use Rattle.spec_log.specs.Versions.{IsVersion, IsStandard, new_threads}
 use Rattle.spec_log.specs.Size.{is_thread}
 use Rattle.spec_kernel.specs.Devices.{Devices}
 use Rattle.spec_kernel.specs.Interrupts.{is_live}
@@ -21,9 +22,9 @@ use Rattle.spec_engine.specs.Signatures.{is_size}
 use Rattle.spec_engine.specs.Flights.{Flight, AreInside, at}
 use Rattle.spec_engine.specs.Chunks.{Chunk}
 use Rattle.spec_protocol.specs.declared.event.Event.{Event}
-use Rattle.spec_protocol.specs.machine.Spheres.{Cursor, Role, Plain, Record, Replay, Sphere, is_over, actor_of, whole_limit}
+use Rattle.spec_protocol.specs.machine.Spheres.{Cursor, Role, Plain, Record, Replay, Sphere, is_over, actor_of, whole_limit, most_in}
 use Rattle.spec_protocol.specs.machine.World.{Occupant, World, moment, sphere_at}
-use Rattle.spec_protocol.specs.machine.Machine.{RoleSetup, IsPlain, IsRecorded, IsReplayed, SphereSetup, Setup, happens}
+use Rattle.spec_protocol.specs.machine.Machine.{RecordSetup, RoleSetup, IsPlain, IsRecorded, IsReplayed, SphereSetup, Setup, happens}
 use Rattle.spec_protocol.specs.promises.Promises.{AreSizesKept, after}
 use Rattle.spec_protocol.specs.promises.Invariants.{IsGood}
 
@@ -33,25 +34,29 @@ use Rattle.spec_protocol.specs.promises.Invariants.{IsGood}
 abbrev pub AreFew : ℕ → Type 0
 AreFew n = (1 ≤ n) × (n ≤ 8)
 
--- a standard chunk has 16 to 4,096 instructions
+-- a standard chunk has 16 to 65,536 instructions
 abbrev pub IsChunkSize : ℕ → Type 0
 IsChunkSize s = (least_chunk ≤ s) × (s ≤ most_chunk)
 
+-- there is such a version of logs, and standard chunks of s instructions fit it
+abbrev pub IsRecordable : (s : ℕ) → RecordSetup → Type 0
+IsRecordable s asked = IsVersion asked.version (new_threads asked.version) × IsStandard asked.version s
+
 -- what is replayed is a log
-abbrev pub IsRole : RoleSetup → Type 0
-IsRole IsPlain = Unit {0}
-IsRole (IsRecorded asked) = Unit {0}
-IsRole (IsReplayed asked) = IsLog asked.log
+abbrev pub IsRole : (s : ℕ) → RoleSetup → Type 0
+IsRole s IsPlain = Unit {0}
+IsRole s (IsRecorded asked) = IsRecordable s asked
+IsRole s (IsReplayed asked) = IsLog asked.log
 
 -- memory is 1 to 4,096 pages of 4,096 bytes, and the entry is the address of a word in it
-pub record IsImage (image : SphereSetup) : Type 0 where
+pub record IsImage (s : ℕ) (image : SphereSetup) : Type 0 where
   pub least : 4096 ≤ length image.memory
   pub most : length image.memory ≤ 2 ^ 24
   pub pages : length image.memory % 4096 ≡ 0
   pub bytes : IsBytes image.memory
   pub aligned : image.entry % 4 ≡ 0
   pub inside : image.entry < length image.memory
-  pub role : IsRole image.role
+  pub role : IsRole s image.role
 
 pub record IsWithinLimits (s : Setup) : Type 0 where
   pub cores : AreFew s.cores
@@ -64,7 +69,7 @@ pub record IsWithinLimits (s : Setup) : Type 0 where
   pub most_buffer : s.numbers.capacity ≤ 4096
   pub signature : is_size s.numbers.bits ≡ true
   pub input : All (λ byte. byte < 2 ^ 8) s.input
-  pub images : (i : ℕ) (image : SphereSetup) → slice_get s.spheres i ≡ Some image → IsImage image
+  pub images : (i : ℕ) (image : SphereSetup) → slice_get s.spheres i ≡ Some image → IsImage s.numbers.s image
 
 -- ---- words
 
@@ -196,8 +201,9 @@ pub record AreFresh (threads : List Parts) (is : List Interrupt) : Type 0 where
       → interrupt_at is k t.commits ≡ None
   pub absent : (k i : ℕ) → slice_get threads k ≡ None → interrupt_at is k i ≡ None
 
--- a recording has as many commits as its sphere, and the plan's standard size
+-- a recording has a version of logs, as many commits as its sphere, and the plan's standard size
 pub record IsSoundLog (s commits : ℕ) (threads : List Parts) (log : LogParts) : Type 0 where
+  pub version : IsVersion log.version log.threads
   pub size : log.s ≡ s
   pub count : log.count ≡ commits
   pub interrupts : AreFresh threads log.interrupts
@@ -221,7 +227,7 @@ pub record IsSoundSphere (s : ℕ) (image : SphereSetup) (events : ℕ) (p : Sph
   pub bytes : IsBytes p.memory
   pub request : IsSoundIf (length image.memory) p.progress.request
   pub some : 1 ≤ length p.threads
-  pub few : length p.threads ≤ most_threads
+  pub few : length p.threads ≤ most_in p.role
   pub threads : (k : ℕ) (t : Parts)
       → slice_get p.threads k ≡ Some t
       → IsSoundThread (position p.progress) t

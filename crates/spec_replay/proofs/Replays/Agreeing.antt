@@ -7,7 +7,7 @@ use Rattle.spec_isa.specs.Runs.{run}
 use Rattle.spec_log.specs.declared.LogParts.{LogParts}
 use Rattle.spec_play.specs.Progress.{position}
 use Rattle.spec_play.specs.Turns.{TurnOrEnd, Turn, TurnOfDma, Ended}
-use Rattle.spec_play.specs.Plays.{Played, opened, plays}
+use Rattle.spec_play.specs.Plays.{Played, plays}
 use Rattle.spec_protocol.specs.machine.Spheres.{Cursor, Sphere, is_over}
 use Rattle.spec_replay.specs.Following.{IsWhole, IsMovedOn, StandsAt}
 use Rattle.spec_replay.specs.Promises.{SameState, ends_between, Agree, ReplaysAgree}

@@ -2,10 +2,9 @@
 use Rattle.std.proofs.Common.{◌≡◌, ℕ, ◌<◌, inl, inr, List, [], ◌∷◌, Option, Some, refl, sym, ap, ◌∙◌, subst}
 use Rattle.std.specs.Prelude.{slice_get}
 use Rattle.std.proofs.lemmas.Bool.{cases_eq}
-use Rattle.spec_isa.specs.Threads.{started}
 use Rattle.spec_log.specs.declared.LogParts.{LogParts}
 use Rattle.spec_play.specs.Progress.{no_progress, nothing_used}
-use Rattle.spec_play.specs.Plays.{Played, opened}
+use Rattle.spec_play.specs.Plays.{Played}
 use Rattle.spec_protocol.specs.machine.Spheres.{Cursor, Sphere}
 use Rattle.spec_protocol.specs.machine.Commits.{turned}
 use Rattle.spec_protocol.specs.machine.World.{Numbers, Move}

@@ -2,7 +2,6 @@
 use Rattle.std.proofs.Common.{◌≡◌, ℕ, suc, Bool, true, false, eqb, cond, List, length, Option, Some, None, refl, sym, ap, ◌∙◌, arith}
 use Rattle.std.specs.Prelude.{slice_get, nat_lt}
 use Rattle.std.proofs.lemmas.Bool.{true≢false}
-use Rattle.dl_entry.specs.Numbers.{most_threads}
 use Rattle.dl_entry.specs.declared.Actor.{Actor}
 use Rattle.dl_entry.specs.declared.Commit.{Commit}
 use Rattle.dl_entry.specs.declared.End.{End}
@@ -68,7 +67,7 @@ serial_why_within (Some z) = either WhyWithin (eqb z 0) None (Some (Why.SizeOfSe
 served_within : (log : LogParts) (p : Progress) (k : ℕ) (ts : List Parts) (t : Parts) (m : List ℕ) (o : Option TakenRecord) → FailsWithin (served_verdict log p k ts t m o)
 served_within log p k ts t m None = refl
 served_within log p k ts t m (Some g) =
-    let e : Effect = serial_effect k (serve most_threads k ts p.request t m g.input) in interrupted_within (interrupt_at log.interrupts k e.thread.commits) e g.used
+    let e : Effect = serial_effect k (serve log.threads k ts p.request t m g.input) in interrupted_within (interrupt_at log.interrupts k e.thread.commits) e g.used
 
 serial_within : (log : LogParts) (p : Progress) (u : Used) (k : ℕ) (ts : List Parts) (t : Parts) (m : List ℕ) → FailsWithin (serial_verdict log p u k ts t m)
 unfolding serial_verdict

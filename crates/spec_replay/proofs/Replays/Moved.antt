@@ -15,7 +15,7 @@ use Rattle.spec_play.specs.Verdicts.{LogVerdict, serial_verdict}
 use Rattle.spec_play.specs.Transfers.{DmaVerdict, dma_verdict}
 use Rattle.spec_play.specs.Plays.{Played, plays}
 use Rattle.spec_engine.specs.declared.answers.How.{How}
-use Rattle.spec_protocol.specs.machine.Spheres.{turn_in, turn_against, Cursor, Role, Replay, Sphere, is_over, is_stopped, head_in, head_of, is_in_pieces}
+use Rattle.spec_protocol.specs.machine.Spheres.{turn_in, turn_against, Cursor, Role, Replay, Sphere, is_over, is_stopped, is_in_pieces}
 use Rattle.spec_protocol.specs.machine.Commits.{MovedSphere, is_piece, replayed_chunk, by_verdict, chunk_in, chunk_moved, serial_in, serial_moved, dma_by_verdict, dma_in, dma_moved}
 use Rattle.spec_protocol.specs.machine.World.{Numbers, MoveKind, OfChunk, OfSerial, OfDma, OfRaise}
 use Rattle.spec_protocol.specs.machine.Asking.{is_short}

@@ -375,10 +375,10 @@ fn waits_for_flights_and_room(rt: HostRuntime) {
 }
 
 #[test]
-fn keeps_fifteen_threads(rt: HostRuntime) {
+fn keeps_sixty_three_threads(rt: HostRuntime) {
     let mut threads = Threads::start(8);
     let other = thread(1, 2);
-    for n in 1..15u8 {
+    for n in 1..63u8 {
         assert!(rt; threads.len() == n);
         assert!(rt; threads.add(&other));
     }
@@ -387,8 +387,8 @@ fn keeps_fifteen_threads(rt: HostRuntime) {
     assert!(rt; threads.get(0).is_some_and(|t| t.pc() == 0));
     assert!(rt;
         threads
-            .get(14)
+            .get(62)
             .is_some_and(|t| t.status() == ThreadStatus::Live)
     );
-    assert!(rt; threads.get(15).is_none());
+    assert!(rt; threads.get(63).is_none());
 }

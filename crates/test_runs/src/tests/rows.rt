@@ -2142,7 +2142,7 @@ const DMA: Case = Case {
             "a.txt",
             b"c 0 0 3\n\
               c 1 0 0\n\
-              c 2 15 0\n\
+              c 2 63 0\n\
               c 3 0 2\n\
               l 00000104 00004241\n\
               c 4 0 0\n\
@@ -2158,7 +2158,7 @@ const DMA: Case = Case {
             "r.txt",
             b"g 4 0 0 chunk 3\n\
               g 6 0 0 serial 0\n\
-              g 7 0 15 dma 0\n\
+              g 7 0 63 dma 0\n\
               g 17 0 0 chunk 2\n\
               g 19 0 0 serial 0\n\
               r Ran 6\n\
@@ -2214,7 +2214,7 @@ const DMA_REPLAYED: Case = Case {
             "b.txt",
             b"c 0 0 3\n\
               c 1 0 0\n\
-              c 2 15 0\n\
+              c 2 63 0\n\
               c 3 0 2\n\
               l 00000104 00004241\n\
               c 4 0 0\n\
@@ -2230,7 +2230,7 @@ const DMA_REPLAYED: Case = Case {
             "r.txt",
             b"g 4 0 0 chunk 3\n\
               g 6 0 0 serial 0\n\
-              g 7 0 15 dma 0\n\
+              g 7 0 63 dma 0\n\
               g 15 0 0 chunk 2\n\
               g 17 0 0 serial 0\n\
               r Ran 5\n\

@@ -3,7 +3,7 @@ ghost use Rattle.std.specs.Prelude.{◌<◌, length};
 ghost use Rattle.spec_isa.specs.Threads.{IsThread};
 
 use dl_dev::Devices;
-use dl_entry::{Bytes, Input, MOST_THREADS, OutOfMemory, Request};
+use dl_entry::{Bytes, Input, MOST_THREADS, OutOfMemory, PLAIN_THREADS, Request};
 use dl_kernel::{Injected, inject, outside_call, sphere_call};
 use dl_mem::Memory;
 use dl_thread::{Parts, Thread, ThreadStatus, Threads};
@@ -92,7 +92,7 @@ fn called(caller: &Parts, count: u8, outstanding: Option<Request>, size: u32) ->
 {
     let mut threads = threads(caller, count);
     let mut request = outstanding;
-    sphere_call(&mut threads, 0, &mut request, size, MOST_THREADS);
+    sphere_call(&mut threads, 0, &mut request, size, PLAIN_THREADS);
     after(&threads)
 }
 
@@ -133,6 +133,15 @@ const RESULTS: &[([u32; 4], u8, Option<Request>, u32)] = &[
 ];
 
 #[test]
+fn spawn_is_refused_at_the_number_of_threads(rt: HostRuntime) {
+    for (count, result) in [(15, 15), (62, 62), (63, REFUSED)] {
+        let mut threads = threads(&caller(4, [1, 0x20, 0, 0]), count);
+        sphere_call(&mut threads, 0, &mut None, 8192, MOST_THREADS);
+        assert!(rt; after(&threads).x[10] == result, "{count} threads");
+    }
+}
+
+#[test]
 fn an_exit_keeps_its_code(rt: HostRuntime) {
     let parts = called(&caller(4, [0, 7, 0, 0]), 2, None, 4096);
     assert!(rt; parts.status == ThreadStatus::Ended(7));
@@ -142,7 +151,7 @@ fn an_exit_keeps_its_code(rt: HostRuntime) {
 #[test]
 fn a_spawned_thread_has_its_argument(rt: HostRuntime) {
     let mut threads = threads(&caller(4, [1, 0x20, 0x100, 9]), 2);
-    sphere_call(&mut threads, 0, &mut None, 4096, MOST_THREADS);
+    sphere_call(&mut threads, 0, &mut None, 4096, PLAIN_THREADS);
     assert!(rt; has_begun(threads.get(2), 0x20, 0x100, 9));
 }
 
@@ -172,7 +181,7 @@ fn a_handler_returns_where_it_came(rt: HostRuntime) {
 fn a_dma_of_more_than_4096_bytes_is_cut(rt: HostRuntime) {
     let mut threads = threads(&caller(4, [8, 0, 5000, 0]), 2);
     let mut request = None;
-    sphere_call(&mut threads, 0, &mut request, 8192, MOST_THREADS);
+    sphere_call(&mut threads, 0, &mut request, 8192, PLAIN_THREADS);
     assert!(rt; request == Some(Request { buf: 0, len: 4096 }));
 }
 

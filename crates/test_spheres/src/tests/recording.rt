@@ -1,6 +1,6 @@
 //! The bytes of logs that were recorded.
 ghost use Rattle.std.specs.Prelude.{◌≡◌, ◌+◌, ◌<◌, Contains, IfOk, IfSome, OnOk};
-ghost use Rattle.dl_entry.specs.Numbers.{most_threads};
+ghost use Rattle.dl_entry.specs.Numbers.{plain_threads};
 ghost use Rattle.spec_log.specs.Log.{IsActor, IsInput, AreFewBytes, input_kinds};
 ghost use Rattle.dl_record.specs.Recording.{CanCommit};
 
@@ -55,13 +55,13 @@ struct Row {
 fn recorded<M: Noting>(rt: &impl Abort, alloc: Global, row: &Row) -> Result<Vec<u8>, Fail> {
     assert!(rt; 16 <= row.s && row.s <= 4096);
     assert!(rt; row.steps.len() < 100);
-    let mut recorder = Recorder::<M>::new(alloc, row.s)?;
+    let mut recorder = Recorder::<M>::new(alloc, 1, row.s)?;
     for step in row.steps {
         recorder.reserve()?;
         note(rt, alloc, &mut recorder, step, row.s)?;
     }
     if let Some((thread, index, value)) = row.interrupt {
-        assert!(rt; thread < 15);
+        assert!(rt; thread < recorder.threads());
         recorder.interrupt(thread, index, value)?;
     }
     Ok(write_log(alloc, &recorder.finish()?)?)
@@ -76,6 +76,8 @@ fn note<M: Noting>(
 ) -> Result<(), Fail>
     requires s { recorder.old.kept.s ≡ s }
     requires few { recorder.old.kept.count < 100 }
+    requires version { recorder.old.version ≡ 1 }
+    ensures version { recorder.new.version ≡ 1 }
     ensures s { OnOk result (recorder.new.kept.s ≡ s) }
     ensures count { OnOk result (recorder.new.kept.count ≡ recorder.old.kept.count + 1) }
     ensures interrupts { OnOk result (recorder.new.interrupts ≡ recorder.old.interrupts) }
@@ -96,9 +98,10 @@ fn note_commit<M: Noting>(
     input: Option<&Input>,
     dma: Option<&[u8]>,
 ) -> Result<(), OutOfMemory>
-    requires commit { CanCommit recorder.old.kept commit.now early }
+    requires commit { CanCommit recorder.old.version recorder.old.kept commit.now early }
     requires input { IfSome input (λ i. IsInput i.now) }
     requires dma { IfSome dma (λ bytes. AreFewBytes bytes.now) }
+    ensures version { recorder.new.version ≡ recorder.old.version }
     ensures s { OnOk result (recorder.new.kept.s ≡ recorder.old.kept.s) }
     ensures count { OnOk result (recorder.new.kept.count ≡ recorder.old.kept.count + 1) }
     ensures interrupts { OnOk result (recorder.new.interrupts ≡ recorder.old.interrupts) }
@@ -108,7 +111,7 @@ fn note_commit<M: Noting>(
 }
 
 fn commit(alloc: Global, code: u8, size: u32) -> Commit
-    ensures actor { IsActor most_threads result.actor }
+    ensures actor { IsActor plain_threads result.actor }
     ensures size { result.size ≡ size }
 {
     let actor = if code < 15 {

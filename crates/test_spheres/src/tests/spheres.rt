@@ -1,6 +1,7 @@
 //! Spheres in each of their roles.
-ghost use Rattle.std.specs.Prelude.{◌≡◌, IfOk, length};
-ghost use Rattle.spec_protocol.specs.promises.Sound.{IsChunkSize};
+ghost use Rattle.std.specs.Prelude.{◌≡◌, ℕ, IfOk, length};
+ghost use Rattle.spec_log.specs.Versions.{IsStandard};
+ghost use Rattle.dl_sphere.specs.Setups.{IsRecordableIf, role_setup};
 
 mod beginnings;
 mod moves;
@@ -19,7 +20,7 @@ enum Begins {
 }
 
 fn begin(alloc: Global, file: &[u8], begins: Begins, s: u32) -> Result<Sphere, Fail>
-    requires { IsChunkSize s }
+    requires { IsStandard 1 s }
     ensures { IfOk result (λ p. length p.sphere.threads ≡ 1) }
 {
     let setup = SphereSetup {
@@ -29,10 +30,12 @@ fn begin(alloc: Global, file: &[u8], begins: Begins, s: u32) -> Result<Sphere, F
     Ok(Sphere::new(alloc, &setup, s)?)
 }
 
-fn role(alloc: Global, begins: Begins) -> Result<Role, Fail> {
+fn role(alloc: Global, begins: Begins) -> Result<Role, Fail>
+    ensures { IfOk result (λ role. (s : ℕ) → IsStandard 1 s → IsRecordableIf s (role_setup role)) }
+{
     match begins {
         Begins::Plain => Ok(Role::Plain),
-        Begins::Recorded(mode) => Ok(Role::Record(mode)),
+        Begins::Recorded(mode) => Ok(Role::Record { version: 1, mode }),
         Begins::Replayed(bytes) => Ok(Role::Replay(read_log(alloc, bytes)?)),
     }
 }

@@ -1,8 +1,9 @@
 //! Worked logs, walked on their images.
-use dl_entry::{End, Why};
+use dl_entry::{Actor, End, Why};
 use dl_logfmt::read_log;
 use dl_mem::Memory;
-use dl_serial::{Commit, WalkEnd, Walked, walk};
+use dl_query::{When, watch, when, who};
+use dl_serial::{Commit, Store, WalkEnd, Walked, walk};
 use dl_thread::Thread;
 use std::alloc::Global;
 use std::test::Fail;
@@ -53,7 +54,22 @@ fn a_transfer_is_stored_and_loaded(rt: HostRuntime) -> Result<(), Fail> {
     assert!(rt; has_stored(&walked.memory));
     assert!(rt; has_loaded(walked.threads.get(0)));
     assert!(rt; walked.request.is_none());
+    let stores = [at_dma(256, 2), at_dma(260, 0x4241)];
+    assert!(rt; walked.stores.as_slice() == stores.as_slice());
+    assert!(rt; watch(rt.alloc(), &walked, 256)?.len() == 1);
+    assert!(rt; who(&walked, 260, 5).is_some());
+    assert!(rt; when(&walked, 0, 264, 0) == When::None);
     Ok(())
+}
+
+// A store of the DMA, which is commit 2.
+fn at_dma(address: u32, value: u32) -> Store {
+    Store {
+        commit: 2,
+        actor: Actor::Dma,
+        address,
+        value,
+    }
 }
 
 fn has_stored(memory: &Memory) -> bool {

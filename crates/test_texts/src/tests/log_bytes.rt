@@ -37,7 +37,7 @@ pub fn malformed(number: u8, offset: u64) -> LogError {
 }
 
 /// The bytes with others from an offset on, or after their end.
-fn overwritten(alloc: Global, bytes: &[u8], at: usize, wrong: &[u8]) -> Result<Vec<u8>, Fail> {
+pub fn overwritten(alloc: Global, bytes: &[u8], at: usize, wrong: &[u8]) -> Result<Vec<u8>, Fail> {
     let mut out = Vec::new(alloc);
     out.extend_from_slice(bytes.get(..at).unwrap_or(bytes))?;
     out.extend_from_slice(wrong)?;
@@ -144,7 +144,8 @@ const FULL: &[u8] = b"\x44\x4C\x52\x4E\x01\x01\x00\x00\x00\x10\x00\x00\x03\x00\x
 /// A log, the offset at which bytes are wrong, those bytes, and the number and the offset of the fault.
 const WRONG: &[(&[u8], usize, &[u8], u8, u64)] = &[
     (FULL, 0, b"\x45", 2, 0),
-    (FULL, 4, b"\x02", 3, 4),
+    (FULL, 4, b"\x00", 3, 4),
+    (FULL, 4, b"\x03", 3, 4),
     (FULL, 5, b"\x03", 4, 5),
     (FULL, 7, b"\x01", 5, 6),
     (FULL, 8, b"\x0F\x00", 5, 8),

@@ -63,7 +63,7 @@ const FULL: &[u8] = b"\x44\x4C\x52\x4E\x01\x01\x00\x00\x00\x10\x00\x00\x03\x00\x
 /// Bytes with the number and the offset of their fault: another version, a header that claims too many commits,
 /// and a byte after the log.
 const WRONG: &[(&[u8], u8, u64)] = &[
-    (b"\x44\x4C\x52\x4E\x02", 3, 4),
+    (b"\x44\x4C\x52\x4E\x03", 3, 4),
     (
         b"\x44\x4C\x52\x4E\x01\x00\x00\x00\x64\x00\x00\x00\x01\x00\x00\x01",
         5,

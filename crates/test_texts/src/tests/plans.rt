@@ -44,6 +44,7 @@ const OTHER: &str = "cores = 8\n\
       memory = 8192\n\
       role = \"record\"\n\
       mode = \"picolog\"\n\
+      version = 2\n\
       log = \"b.log\"\n\
       [[sphere]]\n\
       image = \"b.elf\"\n\
@@ -85,7 +86,7 @@ fn reads_each_key(rt: HostRuntime) -> Result<(), Fail> {
 const PLAN_SHOWN: &str = concat!(
     "Plan { sizes: Sizes { cores: 1, chunk: 100, buffer: 16, window: 2, depth: 1, signature: 64, seed: 0 }, schedule: Script(\"s.txt\"), ",
     "input: None, console: None, report: Some(\"r.txt\"), spheres: [",
-    "Sphere { image: \"a.elf\", memory: 4096, role: Record { mode: OrderSize, log: \"a.log\" }, account: Some(\"a.txt\") }",
+    "Sphere { image: \"a.elf\", memory: 4096, role: Record { mode: OrderSize, version: 1, log: \"a.log\" }, account: Some(\"a.txt\") }",
     "] }"
 );
 
@@ -93,7 +94,7 @@ const OTHER_SHOWN: &str = concat!(
     "Plan { sizes: Sizes { cores: 8, chunk: 64, buffer: 8, window: 1, depth: 2, signature: 128, seed: 9 }, schedule: Seeded { events: 20000 }, ",
     "input: Some(\"i.bin\"), console: Some(\"c.bin\"), report: None, spheres: [",
     "Sphere { image: \"a.elf\", memory: 4096, role: Plain, account: None }, ",
-    "Sphere { image: \"b.elf\", memory: 8192, role: Record { mode: Picolog, log: \"b.log\" }, account: None }, ",
+    "Sphere { image: \"b.elf\", memory: 8192, role: Record { mode: Picolog, version: 2, log: \"b.log\" }, account: None }, ",
     "Sphere { image: \"b.elf\", memory: 16777216, role: Replay { log: \"a.log\" }, account: Some(\"c.txt\") }",
     "] }"
 );
@@ -122,6 +123,7 @@ const SPELLINGS: &[(&str, &str)] = &[
     ("cores = 1\n", "\u{FEFF}cores = 1\n"),
     ("buffer", "seed = 0\nbuffer"),
     ("window", "depth = 1\nwindow"),
+    ("account", "version = 1\naccount"),
     ("\"s.txt\"", "'s.txt'"),
     ("\"s.txt\"", "\"\"\"s.txt\"\"\""),
     ("\"s.txt\"", "'''\ns.txt'''"),
@@ -172,6 +174,7 @@ const LIMITS: &[(&str, &str)] = &[
     ),
     ("order-size", "order-only"),
     ("order-size", "picolog"),
+    ("account", "version = 2\naccount"),
     ("cores", "input = \"s.txt\"\nconsole = \"c.bin\"\ncores"),
 ];
 
@@ -189,6 +192,7 @@ const NO_DOCUMENT_OR_OTHER_KEYS: &[(&str, &str, u8)] = &[
     ("cores = 1", "mode = \"order-size\"\ncores = 1", 2),
     ("account", "more", 2),
     ("account", "depth = 2\naccount", 2),
+    ("cores", "version = 2\ncores", 2),
     ("\"a.txt\"\n", "\"a.txt\"\ncores = 1\n", 2),
     (
         SPHERE,
@@ -213,6 +217,8 @@ const MISSING_KEYS_AND_OTHER_KINDS: &[(&str, &str, u8)] = &[
     ("cores", "depth = 2.0\ncores", 3),
     ("cores", "events = true\ncores", 3),
     ("cores", "input = 1979-05-27\ncores", 3),
+    ("account", "version = \"2\"\naccount", 3),
+    ("account", "version = 2.0\naccount", 3),
     ("4096", "\"4096\"", 3),
     ("\"record\"", "\"Record\"", 3),
     ("\"order-size\"", "\"order\"", 3),
@@ -240,6 +246,7 @@ const OUTSIDE_LIMITS: &[(&str, &str, u8)] = &[
     ("cores = 1", "cores = 0", 4),
     ("cores = 1", "cores = 9", 4),
     ("chunk = 100", "chunk = 15", 4),
+    ("chunk = 100", "chunk = 65537", 4),
     ("buffer = 16", "buffer = 0", 4),
     ("window = 2", "window = 9", 4),
     ("window = 2", "window = -2", 4),
@@ -252,6 +259,14 @@ const OUTSIDE_LIMITS: &[(&str, &str, u8)] = &[
     ("script = \"s.txt\"", "events = 16777217", 4),
     ("memory = 4096", "memory = 4097", 4),
     ("memory = 4096", "memory = 16781312", 4),
+    ("account", "version = 0\naccount", 4),
+    ("account", "version = 3\naccount", 4),
+    ("account", "version = -1\naccount", 4),
+    (
+        "role = \"record\"\nmode = \"order-size\"\nlog = \"a.log\"\n",
+        "role = \"plain\"\nversion = 3\n",
+        4,
+    ),
     (SPHERE, "", 4),
     (SPHERE, "sphere = []", 4),
 ];
@@ -281,6 +296,16 @@ const LACKING: &[(&str, &str, u8)] = &[
     (
         "role = \"record\"\nmode = \"order-size\"\nlog = \"a.log\"",
         "role = \"plain\"\nmode = \"picolog\"",
+        6,
+    ),
+    (
+        "role = \"record\"\nmode = \"order-size\"\nlog = \"a.log\"\n",
+        "role = \"plain\"\nversion = 1\n",
+        6,
+    ),
+    (
+        "role = \"record\"\nmode = \"order-size\"",
+        "role = \"replay\"\nversion = 1",
         6,
     ),
 ];
@@ -338,6 +363,43 @@ const CONFLICTS: &[(&str, &str, u8)] = &[
 ];
 
 #[test]
+fn a_chunk_is_no_longer_than_a_recorded_log_can_have(rt: HostRuntime) -> Result<(), Fail> {
+    let alloc = rt.alloc();
+    for (chunk, role, rule) in CHUNKS {
+        let text = format!(in alloc; "cores = 1\nchunk = {chunk}\n{REST}{role}")?;
+        let refused = match read_plan(alloc, "p.toml", text.as_bytes()) {
+            Ok(_) => 0,
+            Err(PlanError::Refused(rule)) => rule,
+            Err(PlanError::OutOfMemory) => 255,
+        };
+        assert!(rt; refused == *rule, "{chunk} {role}");
+    }
+    Ok(())
+}
+
+/// The keys of a plan but `cores` and `chunk`, and those of a sphere but that of its role.
+const REST: &str =
+    "buffer = 1\nwindow = 1\nsignature = 64\nevents = 0\n[[sphere]]\nimage = \"a.elf\"\nmemory = 4096\n";
+
+/// A chunk, a role, and the rule that they break, or 0.
+const CHUNKS: &[(u32, &str, u8)] = &[
+    (4096, RECORDED, 0),
+    (4097, RECORDED, 8),
+    (4097, RECORDED_1, 8),
+    (65536, RECORDED_1, 8),
+    (65536, RECORDED_2, 0),
+    (65537, RECORDED_2, 4),
+    (65536, "role = \"plain\"", 0),
+    (65536, "role = \"replay\"\nlog = \"a.log\"", 0),
+];
+
+const RECORDED: &str = "role = \"record\"\nmode = \"picolog\"\nlog = \"a.log\"";
+
+const RECORDED_1: &str = "role = \"record\"\nmode = \"picolog\"\nversion = 1\nlog = \"a.log\"";
+
+const RECORDED_2: &str = "role = \"record\"\nmode = \"picolog\"\nversion = 2\nlog = \"a.log\"";
+
+#[test]
 fn refuses_by_the_first_of_two_rules(rt: HostRuntime) -> Result<(), Fail> {
     are_refused(&rt, rt.alloc(), TWO_RULES)
 }
@@ -357,6 +419,16 @@ const TWO_RULES: &[(&str, &str, u8)] = &[
         "mode = \"order-size\"\nlog = \"a.log\"\n",
         "log = \"\"\n",
         6,
+    ),
+    (
+        "role = \"record\"\nmode = \"order-size\"",
+        "role = \"replay\"\nversion = 3",
+        4,
+    ),
+    (
+        "chunk = 100\nbuffer = 16\nwindow = 2\nsignature = 64\nscript = \"s.txt\"\nreport = \"r.txt\"",
+        "chunk = 5000\nbuffer = 16\nwindow = 2\nsignature = 64\nscript = \"s.txt\"\nreport = \"a.log\"",
+        7,
     ),
 ];
 

@@ -195,7 +195,7 @@ const ROWS: &[Row] = &[
 const DMA: &[u8] = b"\
     g 4 0 0 chunk 3\n\
     g 6 0 0 serial 0\n\
-    g 7 0 15 dma 0\n\
+    g 7 0 63 dma 0\n\
     g 17 0 0 chunk 2\n\
     g 19 0 0 serial 0\n\
     r Ran 6\n\

@@ -1,5 +1,5 @@
 //! Which words mean a command, and which command.
-use dl_words::{Command, OutOfMemory, Pair, read_words};
+use dl_words::{Command, OutOfMemory, Pair, Query, Question, read_words};
 use std::alloc::Global;
 use std::process::Abort;
 
@@ -28,6 +28,14 @@ const NONE: &[&[&str]] = &[
     &["walk", "a", "16781312", "l"],
     &["walk", "a", "04096", "l"],
     &["walk", "a", "+4096", "l"],
+    &["watch", "a", "4096", "l"],
+    &["watch", "a", "4096", "l", "2"],
+    &["watch", "a", "4096", "l", "4096"],
+    &["who", "a", "4096", "l", "256"],
+    &["who", "a", "4096", "l", "256", "16777217"],
+    &["when", "a", "4096", "l", "256", "4294967296"],
+    &["migrate", "a.log"],
+    &["migrate", "a.log", "b.log", "c.log"],
     &["make", "4294967296", "x"],
     &["make", "00", "x"],
     &["make", "1_0", "x"],
@@ -66,6 +74,14 @@ fn words_mean_their_command_or_none(rt: HostRuntime) {
     };
     let walk = &["walk", "a.elf", "16777216", "a.log"];
     mean(&rt, alloc, walk, Command::Walk(pair));
+    let watch = &["watch", "a.elf", "16777216", "a.log", "16777212"];
+    mean(&rt, alloc, watch, asked(pair, 16_777_212, Question::Watch));
+    let who = &["who", "a.elf", "16777216", "a.log", "0", "16777216"];
+    let before = 16_777_216;
+    mean(&rt, alloc, who, asked(pair, 0, Question::Who { before }));
+    let when = &["when", "a.elf", "16777216", "a.log", "4", "4294967295"];
+    let value = 4_294_967_295;
+    mean(&rt, alloc, when, asked(pair, 4, Question::When { value }));
     let number = 4_294_967_295;
     let name = "x.elf";
     mean(
@@ -91,9 +107,19 @@ fn words_mean_their_command_or_none(rt: HostRuntime) {
         &["asm", "a.s", "x.elf"],
         Command::Asm { source, name },
     );
+    let migrate = &["migrate", "a.log", "x.elf"];
+    mean(&rt, alloc, migrate, Command::Migrate { log, name });
     for words in NONE {
         assert!(rt; read(rt.alloc(), words) == Ok(None));
     }
+}
+
+fn asked(pair: Pair<'static>, address: u32, question: Question) -> Command<'static> {
+    Command::Query(Query {
+        pair,
+        address,
+        question,
+    })
 }
 
 fn mean(rt: &impl Abort, alloc: Global, words: &'static [&'static str], command: Command<'static>) {

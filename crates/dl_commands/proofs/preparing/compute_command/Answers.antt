@@ -1,5 +1,5 @@
 use Rattle.std.proofs.Common.{◌≡◌, ◌∙◌, ℕ, ap, refl, sym}
-use Rattle.dl_words.specs.Commands.{CommandValues, Run, Inspect, Walk, Make, Drill, Asm, command_view}
+use Rattle.dl_words.specs.Commands.{CommandValues, Run, Inspect, Walk, Query, Make, Drill, Asm, Migrate, command_view}
 use Rattle.spec_program.specs.commands.Drill.{finish}
 use Rattle.dl_commands.proofs.preparing.compute_command.Goals as goal
 
@@ -12,17 +12,25 @@ returns-in-Inspect-clause-halt g c = rw c.in-Inspect.is c.inspect.ensures.halt
 pub returns-in-Walk-clause-halt : goal.returns-in-Walk-clause-halt
 returns-in-Walk-clause-halt g c = rw c.in-Walk.is c.walk_log.ensures.halt
 
+pub returns-in-Query-clause-halt : goal.returns-in-Query-clause-halt
+returns-in-Query-clause-halt g c = rw c.in-Query.is c.answer_query.ensures.halt
+
 pub returns-in-Asm-clause-halt : goal.returns-in-Asm-clause-halt
 returns-in-Asm-clause-halt g c = rw c.in-Asm.is c.assemble_source.ensures.halt
+
+pub returns-in-Migrate-clause-halt : goal.returns-in-Migrate-clause-halt
+returns-in-Migrate-clause-halt g c = rw c.in-Migrate.is c.migrate.ensures.halt
 
 -- the number of a drill
 abbrev drilled : CommandValues → ℕ
 drilled (Run plan) = 0
 drilled (Inspect log) = 0
 drilled (Walk pair) = 0
+drilled (Query asked) = 0
 drilled (Make number name) = 0
 drilled (Drill number) = number
 drilled (Asm source name) = 0
+drilled (Migrate log name) = 0
 
 pub returns-in_ok-drill_number-in-Drill-clause-drill : goal.returns-in_ok-drill_number-in-Drill-clause-drill
 returns-in_ok-drill_number-in-Drill-clause-drill g c =

@@ -1,7 +1,9 @@
-use Rattle.std.proofs.Common.{◌∙◌, [], ◌∷◌, ap, refl, rules, arith}
+use Rattle.std.proofs.Common.{◌∙◌, List, [], ◌∷◌, All, sym, subst, ap, refl, rules, arith}
 use Rattle.spec_log.specs.declared.LogParts.{LogParts}
-use Rattle.spec_protocol.specs.machine.Machine.{IsReplayed}
+use Rattle.spec_protocol.specs.machine.Machine.{IsReplayed, SphereSetup}
 use Rattle.spec_program.specs.Drills.{drill_sphere}
+use Rattle.dl_sphere.specs.Setups.{IsRecordableIf}
+use Rattle.dl_drill.proofs.Recording.{one_recordable}
 use Rattle.dl_drill.proofs.setup.replaying_setup.Goals as goal
 
 pub returns-clause-value : goal.returns-clause-value
@@ -19,4 +21,5 @@ returns-clause-within c =
       signature = refl;
       depth = omega arith;
       most_depth = omega arith;
+      recorded = subst (λ (xs : List SphereSetup). All (λ image. IsRecordableIf 64 image.role) xs) (sym c.in_ok-spheres.ensures.value) (one_recordable 64 _ tt);
     }

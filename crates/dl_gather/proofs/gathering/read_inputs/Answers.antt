@@ -1,4 +1,5 @@
-use Rattle.std.proofs.Common.{List, ◌++◌, map, flat_map, option_to_list, ap, sym, ◌∙◌, subst}
+use Rattle.std.proofs.Common.{List, ◌++◌, map, flat_map, option_to_list, ap, sym, ◌∙◌, subst, length}
+use Rattle.std.proofs.lemmas.List.{length-map}
 use Rattle.dl_files.specs.Seen.{Seen}
 use Rattle.dl_plan.specs.declared.Sphere.{Sphere}
 use Rattle.dl_plan.specs.Files.{input_names}
@@ -6,9 +7,10 @@ use Rattle.dl_plan.specs.Values.{plan_view, sphere_view}
 use Rattle.spec_program.specs.Files.{plan_read, schedule_read, input_read, spheres_read}
 use Rattle.spec_program.proofs.Turns.{next_before, next_behind}
 use Rattle.dl_gather.specs.Halts.{Unread}
-use Rattle.dl_gather.specs.Inputs.{schedule_view}
+use Rattle.dl_gather.specs.Inputs.{ArePlansRecordable, schedule_view, sphere_view as sphere_inputs}
 use Rattle.dl_gather.specs.Reads.{read_for_schedule, read_for_sphere}
 use Rattle.dl_gather.proofs.Named.{named_by_parts, unread_by_parts}
+use Rattle.dl_gather.proofs.Recordable.{plan_recordable}
 use Rattle.dl_gather.proofs.Stopping.{err_then, halt_carried, ok_then, unread_in, schedule_there, input_there}
 use Rattle.dl_gather.proofs.gathering.read_inputs.Goals as goal
 
@@ -71,3 +73,19 @@ returns-in_err-spheres-clause-halt g c =
     })
     (subst (λ (s : Seen). Unread (flat_map read_for_sphere p.spheres) (λ m. spheres_read m p.spheres) s new halt) same
     (subst (λ (ss : List Sphere). Unread (flat_map read_for_sphere (map sphere_view ss)) (λ m. spheres_read m (map sphere_view ss)) (g.F.Files.seen c.read_input.new.files) new halt) c.deref.ensures.value c.in_err-spheres.ensures.halt))))
+
+pub returns-clause-limits : goal.returns-clause-limits
+returns-clause-limits g c =
+    let p = plan_view c.args.plan.now in
+    record {
+      schedule = c.in_ok-schedule.ensures.few;
+      count =
+          length-map c.in_ok-spheres.spheres.items sphere_inputs
+          ∙ c.in_ok-spheres.ensures.count
+          ∙ ap (λ (ss : List Sphere). length ss) c.deref.ensures.value
+          ∙ sym (length-map c.args.plan.now.spheres.items sphere_view);
+      memories = c.in_ok-spheres.ensures.memories;
+      recordable =
+          c.in_ok-spheres.ensures.recordable p.sizes.chunk
+          (subst (λ (ss : List Sphere). ArePlansRecordable p.sizes.chunk (map sphere_view ss)) (sym c.deref.ensures.value) (plan_recordable p c.requires));
+    }

@@ -1,4 +1,4 @@
-use Rattle.std.proofs.Common.{◌≡◌, ℕ, List, [], ◌++◌, take, ap, subst, arith}
+use Rattle.std.proofs.Common.{◌≡◌, ℕ, List, [], ◌++◌, take, subst, arith}
 use Rattle.dl_files.specs.Contents.{with_file}
 use Rattle.dl_files.specs.Seen.{IsWritten}
 use Rattle.dl_logio.specs.Files.{LogStops}

@@ -14,5 +14,6 @@ returns-clause-limits c =
       sizes = c.in-Some.ensures.limits;
       schedule = c.in_ok-schedule.ensures.limits;
       spheres = (omega (arith, same, few, ap (λ x. length (map entry_view x)) c.deref.ensures.value), omega (arith, same, few, ap (λ x. length (map entry_view x)) c.deref.ensures.value));
-      memories = c.in_ok-spheres.ensures.limits;
+      memories = c.in_ok-spheres.ensures.memories;
+      roles = c.in_ok-spheres.ensures.roles;
     }

@@ -8,5 +8,5 @@ loop-number-preserved c =
     let ts = c.args.threads.now in
     let i = c.loop-number.number in
     let h : i < length ts = omega arith in
-    let l : length ts ≤ 15 = omega arith in
-    rw (c.from.ensures, c.loop-number.invariant, c.commits_at.ensures) (row-next commits_at 15 ts i h l)
+    let l : length ts ≤ 63 = omega arith in
+    rw (c.from.ensures, c.loop-number.invariant, c.commits_at.ensures) (row-next commits_at 63 ts i h l)

@@ -1,12 +1,13 @@
-use Rattle.std.proofs.Common.{◌≡◌, ℕ, ◌+◌, List, subst, Option, Some, None, option_map, option_copied, ap, sym, ◌∙◌, arith}
+use Rattle.std.proofs.Common.{◌≡◌, ℕ, ◌+◌, List, length, subst, Option, Some, None, option_map, option_copied, ap, sym, ◌∙◌, arith}
 use Rattle.dl_entry.specs.declared.actor.Actor.{Actor}
 use Rattle.dl_entry.specs.declared.end.Why.{Why}
 use Rattle.spec_isa.specs.declared.thread.Parts.{Parts}
 use Rattle.spec_log.specs.Size.{size_in}
-use Rattle.spec_kernel.specs.Serving.{StepResult}
+use Rattle.spec_kernel.specs.Serving.{StepResult, serve}
 use Rattle.spec_play.specs.Effects.{serial_effect}
 use Rattle.spec_play.specs.Verdicts.{TakenRecord, serial_why}
 use Rattle.spec_protocol.proofs.Moves.Threads.{AreNew, KeepsCommits, serve-keeps}
+use Rattle.dl_kernel.proofs.Rows.{room-more}
 use Rattle.dl_kernel.specs.StepResults.{result_in}
 use Rattle.dl_replay.specs.Seen.{used_seen}
 use Rattle.dl_replay.specs.Judging.{given_by}
@@ -34,7 +35,7 @@ same t e keeps = ap (λ (v : StepResult). v.thread.commits) e ∙ keeps.commits
 pub counted-requires : goal.counted-requires
 counted-requires g c =
     let s = c.args.step.now in
-    let keeps = serve-keeps s.number s.threads.now s.request s.thread s.memory.now (option_copied c.in-Some-given.given.input) in
+    let keeps = serve-keeps c.threads.result s.number s.threads.now s.request s.thread s.memory.now (option_copied c.in-Some-given.given.input) in
     omega (arith, same s.thread c.in_ok-left.ensures.served keeps, c.requires.commits)
 
 pub returns-in-Ok-clause-verdict : goal.returns-in-Ok-clause-verdict
@@ -44,20 +45,25 @@ returns-in-Ok-clause-verdict g c p q =
     let why : none ≡ serial_why (size_in c.args.log.now (Actor.Thread s.number) s.thread.commits) = cc in
     let left = result_in c.in_ok-left.left in
     step-is c.args.log.now p (used_seen c.args.used) s.number s.threads.now s.thread s.memory.now s.request (given_by c.in-Some-given.given) left _ q why
-    (c.in-Some-given.ensures.value) c.in_ok-left.ensures.served
+    (c.in-Some-given.ensures.value)
+    (c.in_ok-left.ensures.served ∙ ap (λ (n : ℕ). serve n s.number s.threads.now s.request s.thread s.memory.now (option_copied c.in-Some-given.given.input)) c.threads.ensures.value)
     (c.in-Ok.ensures.verdict (serial_effect s.number left) (sym c.counted.ensures))
 
 pub returns-in-Ok-clause-commits : goal.returns-in-Ok-clause-commits
 returns-in-Ok-clause-commits g c =
     let s = c.args.step.now in
-    let keeps = serve-keeps s.number s.threads.now s.request s.thread s.memory.now (option_copied c.in-Some-given.given.input) in
+    let keeps = serve-keeps c.threads.result s.number s.threads.now s.request s.thread s.memory.now (option_copied c.in-Some-given.given.input) in
     c.in-Ok.ensures.commits ∙ ap (λ (t : Parts). t.commits) c.counted.ensures ∙ ap (λ (n : ℕ). n + 1) (same s.thread c.in_ok-left.ensures.served keeps)
 
 pub returns-in-Ok-clause-spawned : goal.returns-in-Ok-clause-spawned
 returns-in-Ok-clause-spawned g c =
     let s = c.args.step.now in
-    let keeps = serve-keeps s.number s.threads.now s.request s.thread s.memory.now (option_copied c.in-Some-given.given.input) in
+    let keeps = serve-keeps c.threads.result s.number s.threads.now s.request s.thread s.memory.now (option_copied c.in-Some-given.given.input) in
     subst (λ (ts : List Parts). AreNew ts) (sym (ap (λ (v : StepResult). v.spawned) c.in_ok-left.ensures.served)) keeps.fresh
+
+pub returns-in-Ok-clause-room : goal.returns-in-Ok-clause-room
+returns-in-Ok-clause-room g c =
+    room-more c.in_ok-left.left.spawned (length c.args.step.now.threads.now) c.threads.result 63 c.threads.ensures.few c.in_ok-left.ensures.room
 
 pub returns-in-Err-clause-verdict : goal.returns-in-Err-clause-verdict
 returns-in-Err-clause-verdict g c p q =
@@ -66,5 +72,6 @@ returns-in-Err-clause-verdict g c p q =
     let why : none ≡ serial_why (size_in c.args.log.now (Actor.Thread s.number) s.thread.commits) = cc in
     let left = result_in c.in_ok-left.left in
     step-is c.args.log.now p (used_seen c.args.used) s.number s.threads.now s.thread s.memory.now s.request (given_by c.in-Some-given.given) left _ q why
-    (c.in-Some-given.ensures.value) c.in_ok-left.ensures.served
+    (c.in-Some-given.ensures.value)
+    (c.in_ok-left.ensures.served ∙ ap (λ (n : ℕ). serve n s.number s.threads.now s.request s.thread s.memory.now (option_copied c.in-Some-given.given.input)) c.threads.ensures.value)
     (c.in-Err.ensures.verdict (serial_effect s.number left) (sym c.counted.ensures))

@@ -15,7 +15,7 @@ returns-clause-at g c s h =
     let same = ap (λ p. p.commits) c.state.ensures ∙ c.requires.same t there in
     record {
       size = h.size;
-      threads = subst (λ n. n ≤ 15) (sym (ap length c.set.ensures ∙ length-set ts k end)) h.threads;
+      threads = subst (λ n. n ≤ 63) (sym (ap length c.set.ensures ∙ length-set ts k end)) h.threads;
       kept = record {
         is_log = subst (λ (x : Replaying). IsLog x.log) (sym is) h.kept.is_log;
         agrees = record {

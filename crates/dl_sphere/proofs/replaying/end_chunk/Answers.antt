@@ -75,7 +75,7 @@ returns-in-Went-clause-at c s h =
     λ cs loads. IsSphere s (sphere_with past.state.memory us cs (Some k) q (Replay (cursor_of new loads))) (Replaying new loads)
     in
     subst (λ cs. at cs c.clear.new.self.items) (sym commits) (subst (at (past.commits.items ++ c.args.commit ∷ [])) (sym c.clear.ensures.items)
-    (stands_granted x r0 replay.loads.items new us q k v c.args.commit s (subst (λ l. l ≤ 15) c.len.ensures.value c.len.ensures.few) w h))
+    (stands_granted x r0 replay.loads.items new us q k v c.args.commit s (subst (λ l. l ≤ 63) c.len.ensures.value c.len.ensures.few) w h))
 
 pub returns-in-Diverged-clause-moved : goal.returns-in-Diverged-clause-moved
 returns-in-Diverged-clause-moved c r d thread n whole =

@@ -1,6 +1,6 @@
-use Rattle.std.proofs.Common.{◌≡◌, ◌≤◌, ◌∙◌, false, length, None, sym, ap, subst}
-use Rattle.std.specs.Prelude.{IfSome}
-use Rattle.dl_entry.specs.Numbers.{most_threads}
+use Rattle.std.proofs.Common.{◌≡◌, ◌<◌, ◌≤◌, ◌∙◌, false, length, None, sym, ap, subst}
+use Rattle.std.specs.Prelude.{IfSome, OnSome}
+use Rattle.dl_kernel.proofs.Rows.{room-more}
 use Rattle.dl_entry.specs.declared.Commit.{Commit}
 use Rattle.spec_kernel.specs.Devices.{Devices}
 use Rattle.spec_kernel.specs.Needs.{need}
@@ -10,7 +10,8 @@ use Rattle.spec_log.specs.Log.{IsInput}
 use Rattle.spec_play.specs.Effects.{serial_commit}
 use Rattle.dl_kernel.specs.StepResults.{result_in}
 use Rattle.dl_kernel.specs.Outside.{devices_left}
-use Rattle.dl_sphere.specs.Roles.{with_noted}
+use Rattle.spec_protocol.specs.machine.Spheres.{most_in}
+use Rattle.dl_sphere.specs.Roles.{role_in, with_noted}
 use Rattle.dl_sphere.proofs.Live.Devices.{record_taken, devices_taken, input_taken, if_copied, few_bytes}
 use Rattle.dl_sphere.proofs.stepping.live_step.Goals as goal
 
@@ -39,8 +40,9 @@ returns-clause-thread c =
     let n = need s.thread s.memory.now in
     let g = taken n d c.args.moment in
     let is = c.as_ref.ensures.value ∙ c.in_ok-input.ensures.left ∙ record_taken c.args.moment d n in
-    let served : result_in c.in_ok-served.served ≡ serve most_threads s.number s.threads.now s.request s.thread s.memory.now g.input =
-    c.in_ok-served.ensures.served ∙ ap (λ o. serve most_threads s.number s.threads.now s.request s.thread s.memory.now o) is
+    let served : result_in c.in_ok-served.served ≡ serve (most_in (role_in c.args.part.now)) s.number s.threads.now s.request s.thread s.memory.now g.input =
+    c.in_ok-served.ensures.served
+    ∙ (λ i. serve (c.threads_allowed.ensures.value i) s.number s.threads.now s.request s.thread s.memory.now (is i))
     in
     ap (λ (v : StepResult). v.thread) served
 
@@ -51,10 +53,20 @@ returns-clause-spawned c =
     let n = need s.thread s.memory.now in
     let g = taken n d c.args.moment in
     let is = c.as_ref.ensures.value ∙ c.in_ok-input.ensures.left ∙ record_taken c.args.moment d n in
-    let served : result_in c.in_ok-served.served ≡ serve most_threads s.number s.threads.now s.request s.thread s.memory.now g.input =
-    c.in_ok-served.ensures.served ∙ ap (λ o. serve most_threads s.number s.threads.now s.request s.thread s.memory.now o) is
+    let served : result_in c.in_ok-served.served ≡ serve (most_in (role_in c.args.part.now)) s.number s.threads.now s.request s.thread s.memory.now g.input =
+    c.in_ok-served.ensures.served
+    ∙ (λ i. serve (c.threads_allowed.ensures.value i) s.number s.threads.now s.request s.thread s.memory.now (is i))
     in
     ap (λ (v : StepResult). v.spawned) served
+
+pub returns-clause-room : goal.returns-clause-room
+returns-clause-room c =
+    let s = c.args.step.now in
+    subst (λ n. OnSome c.in_ok-served.served.spawned (length s.threads.now < n)) c.threads_allowed.ensures.value c.in_ok-served.ensures.room
+
+pub returns-clause-places : goal.returns-clause-places
+returns-clause-places c =
+    room-more c.in_ok-served.served.spawned (length c.args.step.now.threads.now) c.threads_allowed.result 63 c.threads_allowed.ensures.few c.in_ok-served.ensures.room
 
 pub returns-clause-request : goal.returns-clause-request
 returns-clause-request c =
@@ -63,8 +75,9 @@ returns-clause-request c =
     let n = need s.thread s.memory.now in
     let g = taken n d c.args.moment in
     let is = c.as_ref.ensures.value ∙ c.in_ok-input.ensures.left ∙ record_taken c.args.moment d n in
-    let served : result_in c.in_ok-served.served ≡ serve most_threads s.number s.threads.now s.request s.thread s.memory.now g.input =
-    c.in_ok-served.ensures.served ∙ ap (λ o. serve most_threads s.number s.threads.now s.request s.thread s.memory.now o) is
+    let served : result_in c.in_ok-served.served ≡ serve (most_in (role_in c.args.part.now)) s.number s.threads.now s.request s.thread s.memory.now g.input =
+    c.in_ok-served.ensures.served
+    ∙ (λ i. serve (c.threads_allowed.ensures.value i) s.number s.threads.now s.request s.thread s.memory.now (is i))
     in
     ap (λ (v : StepResult). v.request) served
 
@@ -75,8 +88,9 @@ returns-clause-words c =
     let n = need s.thread s.memory.now in
     let g = taken n d c.args.moment in
     let is = c.as_ref.ensures.value ∙ c.in_ok-input.ensures.left ∙ record_taken c.args.moment d n in
-    let served : result_in c.in_ok-served.served ≡ serve most_threads s.number s.threads.now s.request s.thread s.memory.now g.input =
-    c.in_ok-served.ensures.served ∙ ap (λ o. serve most_threads s.number s.threads.now s.request s.thread s.memory.now o) is
+    let served : result_in c.in_ok-served.served ≡ serve (most_in (role_in c.args.part.now)) s.number s.threads.now s.request s.thread s.memory.now g.input =
+    c.in_ok-served.ensures.served
+    ∙ (λ i. serve (c.threads_allowed.ensures.value i) s.number s.threads.now s.request s.thread s.memory.now (is i))
     in
     ap (λ (v : StepResult). v.words) served
 
@@ -87,8 +101,9 @@ returns-clause-commit c =
     let n = need s.thread s.memory.now in
     let g = taken n d c.args.moment in
     let is = c.as_ref.ensures.value ∙ c.in_ok-input.ensures.left ∙ record_taken c.args.moment d n in
-    let served : result_in c.in_ok-served.served ≡ serve most_threads s.number s.threads.now s.request s.thread s.memory.now g.input =
-    c.in_ok-served.ensures.served ∙ ap (λ o. serve most_threads s.number s.threads.now s.request s.thread s.memory.now o) is
+    let served : result_in c.in_ok-served.served ≡ serve (most_in (role_in c.args.part.now)) s.number s.threads.now s.request s.thread s.memory.now g.input =
+    c.in_ok-served.ensures.served
+    ∙ (λ i. serve (c.threads_allowed.ensures.value i) s.number s.threads.now s.request s.thread s.memory.now (is i))
     in
     c.serial_commit-commit.ensures ∙ ap (λ (v : StepResult). serial_commit s.number v.loads v.outputs) served
 
@@ -99,8 +114,9 @@ returns-clause-noted c =
     let n = need s.thread s.memory.now in
     let g = taken n d c.args.moment in
     let is = c.as_ref.ensures.value ∙ c.in_ok-input.ensures.left ∙ record_taken c.args.moment d n in
-    let served : result_in c.in_ok-served.served ≡ serve most_threads s.number s.threads.now s.request s.thread s.memory.now g.input =
-    c.in_ok-served.ensures.served ∙ ap (λ o. serve most_threads s.number s.threads.now s.request s.thread s.memory.now o) is
+    let served : result_in c.in_ok-served.served ≡ serve (most_in (role_in c.args.part.now)) s.number s.threads.now s.request s.thread s.memory.now g.input =
+    c.in_ok-served.ensures.served
+    ∙ (λ i. serve (c.threads_allowed.ensures.value i) s.number s.threads.now s.request s.thread s.memory.now (is i))
     in
     let commit = c.serial_commit-commit.ensures ∙ ap (λ (v : StepResult). serial_commit s.number v.loads v.outputs) served in
     let input = c.as_ref-2.ensures.value ∙ c.in_ok-input.ensures.left ∙ record_taken c.args.moment d n in
@@ -113,10 +129,11 @@ returns-clause-devices c =
     let n = need s.thread s.memory.now in
     let g = taken n d c.args.moment in
     let is = c.as_ref.ensures.value ∙ c.in_ok-input.ensures.left ∙ record_taken c.args.moment d n in
-    let served : result_in c.in_ok-served.served ≡ serve most_threads s.number s.threads.now s.request s.thread s.memory.now g.input =
-    c.in_ok-served.ensures.served ∙ ap (λ o. serve most_threads s.number s.threads.now s.request s.thread s.memory.now o) is
+    let served : result_in c.in_ok-served.served ≡ serve (most_in (role_in c.args.part.now)) s.number s.threads.now s.request s.thread s.memory.now g.input =
+    c.in_ok-served.ensures.served
+    ∙ (λ i. serve (c.threads_allowed.ensures.value i) s.number s.threads.now s.request s.thread s.memory.now (is i))
     in
     c.in_ok-outside_take.ensures.devices c.args.moment
     ∙ ap (λ (x : Commit). console_written s.thread s.memory.now x.outputs (devices_left c.args.moment d n)) c.serial_commit-commit.ensures
     ∙ ap (λ (v : StepResult). console_written s.thread s.memory.now v.outputs (devices_left c.args.moment d n)) served
-    ∙ ap (λ (e : Devices). console_written s.thread s.memory.now (serve most_threads s.number s.threads.now s.request s.thread s.memory.now g.input).outputs e) (devices_taken c.args.moment d n)
+    ∙ ap (λ (e : Devices). console_written s.thread s.memory.now (serve (most_in (role_in c.args.part.now)) s.number s.threads.now s.request s.thread s.memory.now g.input).outputs e) (devices_taken c.args.moment d n)

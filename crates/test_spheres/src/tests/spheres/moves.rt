@@ -105,7 +105,9 @@ fn run(alloc: Global, sphere: &Sphere) -> Result<Chunk<PlainSet>, Fail> {
     let thread = first(sphere);
     let flights = Flights::new(alloc, 1, 1)?;
     let mut chunk = Chunk::new(alloc, 4096, 1, 64)?;
-    chunk.begin(0, &thread, sphere.limit(0, false), sphere.halves());
+    let limit = sphere.limit(0, false);
+    let limit = if limit > 4096 { 4096 } else { limit };
+    chunk.begin(0, &thread, limit, sphere.halves());
     for _ in 0..4 {
         if chunk.closed().is_none() {
             chunk.step(sphere.memory(), &flights, 0);

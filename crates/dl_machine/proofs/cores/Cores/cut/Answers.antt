@@ -10,20 +10,20 @@ use Rattle.dl_machine.proofs.cores.Cores.cut.Goals as goal
 pub invariant_of-self : goal.invariant_of-self
 invariant_of-self g c =
     let within : c.args.core < length c.self.inside.row.items = grind (arith, common_steps) in
-    cores_set _ _ _ _ _ _ _ _ c.self.invariant within c.index_mut-core.ensures.value c.cut.ensures.core
+    cores_set _ _ _ _ _ _ _ _ _ c.self.invariant within c.index_mut-core.ensures.value c.cut.ensures.core
 
 pub returns-clause-core : goal.returns-clause-core
 returns-clause-core g c =
     let within : c.args.core < length c.self.inside.row.items = grind (arith, common_steps) in
     let f : Core → Option Occupant = λ r. option_map (λ h. with_pair h (pair_cut (pair_in r h)).pair) r.held in
-    row_left _ _ _ _ _ _ _ f _ c.self.invariant c.self.view_is within c.index_mut-core.ensures.value c.cut.ensures.core
+    row_left _ _ _ _ _ _ _ _ f _ c.self.invariant c.self.view_is within c.index_mut-core.ensures.value c.cut.ensures.core
 
 pub cut-requires : goal.cut-requires
 cut-requires g c =
     let within : c.args.core < length c.self.inside.row.items = grind (arith, common_steps) in
-    subst (λ (r : Core). IsSome r.held) (sym (core_at _ _ _ _ _ _ _ c.self.invariant c.self.view_is within c.index_mut-core.ensures.value)) c.requires.held
+    subst (λ (r : Core). IsSome r.held) (sym (core_at _ _ _ _ _ _ _ _ c.self.invariant c.self.view_is within c.index_mut-core.ensures.value)) c.requires.held
 
 pub returns-clause-reply : goal.returns-clause-reply
 returns-clause-reply g c =
     let within : c.args.core < length c.self.inside.row.items = grind (arith, common_steps) in
-    c.cut.ensures.reply ∙ ap (λ (r : Core). option_map (λ h. (pair_cut (pair_in r h)).reply) r.held) (core_at _ _ _ _ _ _ _ c.self.invariant c.self.view_is within c.index_mut-core.ensures.value)
+    c.cut.ensures.reply ∙ ap (λ (r : Core). option_map (λ h. (pair_cut (pair_in r h)).reply) r.held) (core_at _ _ _ _ _ _ _ _ c.self.invariant c.self.view_is within c.index_mut-core.ensures.value)

@@ -10,7 +10,7 @@ use Rattle.dl_sphere.specs.SizedSpheres.{SizedSphere}
 use Rattle.dl_sphere.specs.Moving.{CanCommit, came}
 use Rattle.dl_machine.specs.Rows.{nth_sphere}
 use Rattle.dl_machine.proofs.Commits.AsClosed.{how_of, how_is, can_commit_so, if_ok}
-use Rattle.dl_machine.proofs.Rows.Spheres.{row_says, said_of_row, others_left}
+use Rattle.dl_machine.proofs.Rows.Spheres.{row_says, said_of_row, others_left, spheres_set}
 use Rattle.dl_machine.proofs.spheres.Spheres.commit_chunk.Goals as goal
 use Rattle.spec_play.specs.Progress.{position}
 
@@ -19,7 +19,7 @@ commit_chunk-requires g c =
     let within : c.args.i < length c.self.inside.row.items = grind (arith, common_steps) in
     let ch = c.args.chunk.now.chunk in
     let said : (P : SizedSphere → Type 0) → P (record { s = c.args.self.now.s; sphere = nth_sphere c.args.i c.args.self.now }) → P c.index_mut-sphere.result.now =
-    λ P. row_says P _ _ _ _ _ c.self.invariant c.self.view_is within c.index_mut-sphere.ensures.value
+    λ P. row_says P _ _ _ _ _ _ c.self.invariant c.self.view_is within c.index_mut-sphere.ensures.value
     in
     λ κs below. (
       search (rules, below),
@@ -40,11 +40,16 @@ returns-clause-ok g c =
     let P : SizedSphere → Sphere → Type 0 = λ o q. IfOk c.commit_chunk.result (λ m. (d : Devices) → (how : How) → ch.closed ≡ Some how → so o q how m d) in
     let o = c.index_mut-sphere.result.now in
     let q = c.commit_chunk.new.self.sphere in
-    said_of_row P _ _ _ _ _ _ c.self.invariant c.self.view_is within c.index_mut-sphere.ensures.value
+    said_of_row P _ _ _ _ _ _ _ c.self.invariant c.self.view_is within c.index_mut-sphere.ensures.value
     (if_ok c.commit_chunk.result (λ m. (d : Devices) → so o q (how_of ch.closed) m d) (λ m. (d : Devices) → (how : How) → ch.closed ≡ Some how → so o q how m d)
     (λ m known d how is. subst (λ (h : How). so o q h m d) (how_is ch.closed how is) (known d)) c.commit_chunk.ensures.ok)
 
 pub returns-clause-others : goal.returns-clause-others
 returns-clause-others g c =
     let within : c.args.i < length c.self.inside.row.items = grind (arith, common_steps) in
-    others_left _ _ _ _ _ c.self.view_is within
+    others_left _ _ _ _ _ _ c.self.view_is within
+
+pub invariant_of-self : goal.invariant_of-self
+invariant_of-self g c =
+    let within : c.args.i < length c.self.inside.row.items = grind (arith, common_steps) in
+    spheres_set _ _ _ _ _ _ c.self.invariant within c.index_mut-sphere.ensures.value c.commit_chunk.ensures.standard c.commit_chunk.ensures.size

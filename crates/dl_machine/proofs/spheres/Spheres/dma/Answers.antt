@@ -4,21 +4,26 @@ use Rattle.spec_protocol.specs.machine.Commits.{dma_moved}
 use Rattle.spec_protocol.specs.machine.Spheres.{Sphere}
 use Rattle.dl_sphere.specs.SizedSpheres.{SizedSphere}
 use Rattle.dl_sphere.specs.Moving.{IsTurnOfDma, came}
-use Rattle.dl_machine.proofs.Rows.Spheres.{row_says, said_of_row, others_left}
+use Rattle.dl_machine.proofs.Rows.Spheres.{row_says, said_of_row, others_left, spheres_set}
 use Rattle.dl_machine.proofs.spheres.Spheres.dma.Goals as goal
 
 pub dma-requires-clause-turn : goal.dma-requires-clause-turn
 dma-requires-clause-turn c =
     let within : c.args.i < length c.self.inside.row.items = grind (arith, common_steps) in
-    row_says (λ (p : SizedSphere). IsTurnOfDma p.sphere.role) _ _ _ _ _ c.self.invariant c.self.view_is within c.index_mut-sphere.ensures.value c.requires.turn
+    row_says (λ (p : SizedSphere). IsTurnOfDma p.sphere.role) _ _ _ _ _ _ c.self.invariant c.self.view_is within c.index_mut-sphere.ensures.value c.requires.turn
 
 pub returns-clause-ok : goal.returns-clause-ok
 returns-clause-ok c =
     let within : c.args.i < length c.self.inside.row.items = grind (arith, common_steps) in
     let P : SizedSphere → Sphere → Type 0 = λ o q. IfOk c.dma.result (λ m. dma_moved c.args.devices.now o.sphere ≡ Some (came m q c.dma.new.devices)) in
-    said_of_row P _ _ _ _ _ _ c.self.invariant c.self.view_is within c.index_mut-sphere.ensures.value c.dma.ensures.ok
+    said_of_row P _ _ _ _ _ _ _ c.self.invariant c.self.view_is within c.index_mut-sphere.ensures.value c.dma.ensures.ok
 
 pub returns-clause-others : goal.returns-clause-others
 returns-clause-others c =
     let within : c.args.i < length c.self.inside.row.items = grind (arith, common_steps) in
-    others_left _ _ _ _ _ c.self.view_is within
+    others_left _ _ _ _ _ _ c.self.view_is within
+
+pub invariant_of-self : goal.invariant_of-self
+invariant_of-self c =
+    let within : c.args.i < length c.self.inside.row.items = grind (arith, common_steps) in
+    spheres_set _ _ _ _ _ _ c.self.invariant within c.index_mut-sphere.ensures.value c.dma.ensures.standard c.dma.ensures.size

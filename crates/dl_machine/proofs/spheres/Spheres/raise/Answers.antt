@@ -5,16 +5,21 @@ use Rattle.spec_isa.specs.declared.thread.Parts.{Parts}
 use Rattle.spec_protocol.specs.machine.Commits.{raised}
 use Rattle.spec_protocol.specs.machine.Spheres.{Sphere}
 use Rattle.dl_sphere.specs.SizedSpheres.{SizedSphere}
-use Rattle.dl_machine.proofs.Rows.Spheres.{said_of_row, others_left}
+use Rattle.dl_machine.proofs.Rows.Spheres.{said_of_row, others_left, spheres_set}
 use Rattle.dl_machine.proofs.spheres.Spheres.raise.Goals as goal
 
 pub returns-clause-ok : goal.returns-clause-ok
 returns-clause-ok c =
     let within : c.args.i < length c.self.inside.row.items = grind (arith, common_steps) in
     let P : SizedSphere → Sphere → Type 0 = λ o q. OnOk c.raise.result ((t : Parts) → slice_get o.sphere.threads c.args.thread ≡ Some t → q ≡ raised c.args.thread c.args.value t o.sphere) in
-    said_of_row P _ _ _ _ _ _ c.self.invariant c.self.view_is within c.index_mut-sphere.ensures.value c.raise.ensures.ok
+    said_of_row P _ _ _ _ _ _ _ c.self.invariant c.self.view_is within c.index_mut-sphere.ensures.value c.raise.ensures.ok
 
 pub returns-clause-others : goal.returns-clause-others
 returns-clause-others c =
     let within : c.args.i < length c.self.inside.row.items = grind (arith, common_steps) in
-    others_left _ _ _ _ _ c.self.view_is within
+    others_left _ _ _ _ _ _ c.self.view_is within
+
+pub invariant_of-self : goal.invariant_of-self
+invariant_of-self c =
+    let within : c.args.i < length c.self.inside.row.items = grind (arith, common_steps) in
+    spheres_set _ _ _ _ _ _ c.self.invariant within c.index_mut-sphere.ensures.value c.raise.ensures.standard c.raise.ensures.size

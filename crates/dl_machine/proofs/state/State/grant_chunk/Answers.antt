@@ -5,7 +5,7 @@ use Rattle.dl_entry.specs.declared.CommitKind.{CommitKind}
 use Rattle.dl_entry.specs.declared.Point.{Point}
 use Rattle.spec_engine.specs.Flights.{at}
 use Rattle.spec_protocol.specs.declared.reply.Reply.{Reply}
-use Rattle.spec_protocol.specs.machine.Spheres.{turn_against, Sphere, head_of, is_stopped}
+use Rattle.spec_protocol.specs.machine.Spheres.{turn_against, Sphere, is_stopped}
 use Rattle.spec_protocol.specs.machine.Commits.{MovedSphere}
 use Rattle.spec_protocol.specs.machine.World.{EventOutcome, Occupant, World, sphere_at, with_core}
 use Rattle.spec_protocol.specs.machine.Flying.{younger_of}

@@ -1,6 +1,7 @@
 use Rattle.std.proofs.Common.{◌<◌, ◌^◌, length, map, ap, inl, inr, ◌∙◌}
 use Rattle.std.proofs.lemmas.List.{length-map}
 use Rattle.std.proofs.lemmas.Result.{on_ok_weaker}
+use Rattle.spec_log.specs.Versions.{new_threads}
 use Rattle.dl_input.specs.Tracked.{interrupt_of, insert_tracked, new_tracked}
 use Rattle.dl_input.proofs.TrackedLists.{insert-map}
 use Rattle.dl_record.specs.Recording.{Recording, interrupt}
@@ -16,12 +17,13 @@ pub invariant_of-self : goal.invariant_of-self
 invariant_of-self g c =
     let entries = c.self.inside.interrupts.entries in
     let new = new_tracked c.args.thread c.args.index c.args.value in
+    let within : c.args.thread < new_threads c.self.inside.version = rw (ap (λ (r : Recording). r.version) c.self.view_is) c.requires.thread in
     let i = c.self.invariant in (
       elim (either c.note.result c.note.ensures.ok c.note.ensures.err) [
         | inl e ↦ let few : length (insert_tracked new entries) < 2 ^ 32 = rw e at c.note.ensures.few in
             rw (e, insert-map new entries)
-            (IsRecording-interrupt g.M.Mode.mode (g.M.Mode.logged c.self.inside.log).kept (map interrupt_of entries) c.self.inside.inputs.inputs c.self.inside.dmas.dmas
-            (interrupt c.args.thread c.args.index c.args.value) i.0 (c.requires.thread, c.ranges.index.fits, c.ranges.value.fits)
+            (IsRecording-interrupt c.self.inside.version g.M.Mode.mode (g.M.Mode.logged c.self.inside.log).kept (map interrupt_of entries) c.self.inside.inputs.inputs c.self.inside.dmas.dmas
+            (interrupt c.args.thread c.args.index c.args.value) i.0 (within, c.ranges.index.fits, c.ranges.value.fits)
             (rw (← insert-map new entries, length-map (insert_tracked new entries) interrupt_of) few))
         | inr e ↦ rw e i.0
       ],

@@ -12,9 +12,9 @@ returns g c =
     let i = c.args.position in
     let order = (g.M.Mode.logged l.log).kept.order in
     let dma : c.is_some-dma.result ≡ is_dma_at l.dmas.dmas i = c.is_some-dma.ensures ∙ dma-is i l.dmas.dmas (λ b. b.now) c.at.result c.at.ensures in
-    let live : take 15 c.args.live.now ≡ c.args.live.now = take_all 15 c.args.live.now c.requires in
+    let live : take 63 c.args.live.now ≡ c.args.live.now = take_all 63 c.args.live.now c.requires in
     rw (← c.self.view_is)
     (c.head.ensures
-    ∙ ap (λ (b : Bool). kept_head g.M.Mode.mode order i b c.args.last (take 15 c.args.live.now)) dma
+    ∙ ap (λ (b : Bool). kept_head g.M.Mode.mode order i b c.args.last (take 63 c.args.live.now)) dma
     ∙ ap (λ (lives : List Bool). kept_head g.M.Mode.mode order i (is_dma_at l.dmas.dmas i) c.args.last lives) live
-    ∙ head-is g.M.Mode.mode (g.M.Mode.logged l.log).kept (map interrupt_of l.interrupts.entries) l.inputs.inputs l.dmas.dmas i c.args.last c.args.live.now)
+    ∙ head-is l.version l.threads g.M.Mode.mode (g.M.Mode.logged l.log).kept (map interrupt_of l.interrupts.entries) l.inputs.inputs l.dmas.dmas i c.args.last c.args.live.now)

@@ -8,4 +8,4 @@ returns g c =
     let l = c.self.inside in
     rw (← c.self.view_is)
     (c.size.ensures
-    ∙ size-is g.M.Mode.mode (g.M.Mode.logged l.log).kept (map interrupt_of l.interrupts.entries) l.inputs.inputs l.dmas.dmas c.args.actor c.args.index)
+    ∙ size-is l.version l.threads g.M.Mode.mode (g.M.Mode.logged l.log).kept (map interrupt_of l.interrupts.entries) l.inputs.inputs l.dmas.dmas c.args.actor c.args.index)

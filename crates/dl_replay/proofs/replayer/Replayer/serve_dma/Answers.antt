@@ -21,7 +21,7 @@ returns-in-Ok-clause-judged g c p a q =
     let verdict = subst (λ (x : Replaying). transfer_verdict (Ok words) ≡ dma_verdict x.log p x.used) c.self.view_is said in
     let place = c.self.inside.place in
     let used = record (used_seen place.used) { dmas = place.used.dmas + 1 } in
-    let went : c.advance.new.self ≡ advanced r.log (r.done + 1) place.last used ts = c.advance.ensures.replay in
+    let went : c.advance.new.self ≡ advanced r.log (r.done + 1) r.last used ts = c.advance.ensures in
     let moved = advanced-same r (replaying c.self.inside.log place c.self.inside.turn c.self.inside.total c.self.inside.commits) c.advance.new.self ts c.self.view_is went in
     dma-goes r p c.args.request.now nothing_served c.advance.new.self Verdict.Went ts (served_stored (Ok words)) words _ a verdict refl moved refl
 

@@ -13,7 +13,7 @@ returns-in-Plain c es over =
 pub returns-in-Record : goal.returns-in-Record
 returns-in-Record c es over =
     ap SphereLine.Record c.commits-in-Record.ensures
-    ∙ line-recorded es c.args.self.now c.args.sphere (record { mode = c.in-Record.field-0 }) over c.requires
+    ∙ line-recorded es c.args.self.now c.args.sphere (record { version = c.in-Record.version; mode = c.in-Record.mode }) over c.requires
     (sym c.role.ensures.value ∙ ap role_setup c.in-Record.is)
 
 pub returns-in-Replay : goal.returns-in-Replay
@@ -31,5 +31,5 @@ commits-requires-clause-live c =
 pub commits-requires-in-Record-clause-live : goal.commits-requires-in-Record-clause-live
 commits-requires-in-Record-clause-live c =
     let over = c.role.ensures.over in
-    not-replayed over.0 c.args.self.now c.args.sphere (IsRecorded (record { mode = c.in-Record.field-0 })) over.1 c.requires
+    not-replayed over.0 c.args.self.now c.args.sphere (IsRecorded (record { version = c.in-Record.version; mode = c.in-Record.mode })) over.1 c.requires
     (sym c.role.ensures.value ∙ ap role_setup c.in-Record.is) refl

@@ -15,7 +15,7 @@ returns-in-Replay c es over =
 
 pub returns-in_ok-recording-in-Record : goal.returns-in_ok-recording-in-Record
 returns-in_ok-recording-in-Record c es over =
-    let asked : RecordSetup = record { mode = c.in-Record.field-0 } in
+    let asked : RecordSetup = record { version = c.in-Record.version; mode = c.in-Record.mode } in
     let is = sym c.role.ensures.value ∙ ap role_setup c.in-Record.is in
     let log = c.in_ok-recording-in-Record in
     log-is c.args.self.now.setup es c.args.sphere asked log.field-0 is (log.ensures es asked over is)

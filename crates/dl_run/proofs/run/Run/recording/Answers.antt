@@ -1,7 +1,6 @@
 use Rattle.std.proofs.Common.{◌∙◌, ◌≡◌, List, ap, refl, sym, subst}
 use Rattle.std.specs.Prelude.{IsSome, Some}
 use Rattle.std.proofs.lemmas.Result.{IfOk-weaker}
-use Rattle.spec_log.specs.declared.ModeName.{ModeName}
 use Rattle.spec_protocol.specs.declared.event.Event.{Event}
 use Rattle.spec_protocol.specs.machine.Machine.{RecordSetup, IsRecorded}
 use Rattle.spec_protocol.specs.promises.Sound.{image_at}
@@ -24,7 +23,7 @@ returns c =
     let i = c.args.sphere in
     IfOk-weaker c.log.result
     (λ log. log_in c.sphere.result.now.sphere.role ≡ Some log)
-    (λ log. (es : List Event) (asked : RecordSetup) → IsOver es r → (image_at r.setup i).role ≡ IsRecorded asked → log ≡ log_of_points r.setup es i asked.mode)
+    (λ log. (es : List Event) (asked : RecordSetup) → IsOver es r → (image_at r.setup i).role ≡ IsRecorded asked → log ≡ log_of_points r.setup es i asked)
     (λ log e es asked over is.
     log-of_points es r i asked log over c.requires.inside is
     (ap (λ (q : Sphere). log_in q.role) (sym c.sphere.ensures.value) ∙ e))

@@ -4,6 +4,7 @@ use Rattle.spec_kernel.specs.Devices.{Devices}
 use Rattle.spec_play.specs.Progress.{position}
 use Rattle.std.proofs.lemmas.Option.{slice_get_within}
 use Rattle.spec_isa.specs.declared.thread.Parts.{Parts}
+use Rattle.spec_log.specs.declared.LogParts.{LogParts}
 use Rattle.dl_entry.specs.declared.Commit.{Commit}
 use Rattle.spec_play.specs.Effects.{chunk_commit, counted}
 use Rattle.spec_protocol.specs.machine.Asking.{is_short}
@@ -12,10 +13,12 @@ use Rattle.spec_protocol.specs.machine.Spheres.{Sphere}
 use Rattle.dl_sphere.specs.declared.part.Part.{Part}
 use Rattle.dl_sphere.specs.Moving.{came, CanCommit}
 use Rattle.spec_protocol.proofs.Logs.Growing.{pushed_length}
-use Rattle.dl_sphere.specs.Roles.{keeping_of, role_in, role_of, with_noted, IsSphere}
+use Rattle.dl_sphere.specs.Roles.{Keeping, keeping_of, role_in, role_of, with_noted, IsSphere}
 use Rattle.dl_sphere.specs.Inside.{replayed_at, sphere_at, sphere_in, sphere_with}
 use Rattle.dl_sphere.specs.SizedSpheres.{SizedSphere}
 use Rattle.dl_sphere.proofs.Live.Moved.{chunk_is_moved}
+use Rattle.dl_sphere.specs.Setups.{standard_in}
+use Rattle.dl_sphere.proofs.Standing.Sizes.{noted_size}
 use Rattle.dl_sphere.proofs.Standing.Moves.{Commits, commits_stand}
 use Rattle.dl_sphere.proofs.Replays.Limits.{replayed, stands_replayed, live_part}
 use Rattle.dl_sphere.proofs.sphere.Sphere.commit_chunk.Goals as goal
@@ -53,7 +56,8 @@ invariant_of-self-2 g c =
     }
     in
     subst (IsSphere a.s q) (sym c.in_ok-note.ensures.noted)
-    (commits_stand (sphere_in a) q k t u [] commit d a.s c.is_short.result None (keeping_of a.part) (live_part a.part c.in_default.not-Replayed) h)
+    (commits_stand (sphere_in a) q k t u [] commit d a.s c.is_short.result None (keeping_of a.part) (live_part a.part c.in_default.not-Replayed)
+    (λ few. let n : length c.set.new.self ≡ length a.past.state.threads = ap length c.set.ensures ∙ length-set a.past.state.threads k u in omega arith) h)
 
 pub returns-clause-ok : goal.returns-clause-ok
 returns-clause-ok g c d =
@@ -134,3 +138,17 @@ returns-in-Replayed-clause-ok g c =
     ∙ ap (λ (x : Part). was (is_short a.s how ch.limit) d (sphere_at a.past (role_in x))) (sym c.in-Replayed.is)
     ∙ ap (λ (x : SizedSphere). was (is_short x.s how ch.limit) d x.sphere) c.self.view_is)
     c.commit_part.ensures.moved
+
+pub returns-clause-size : goal.returns-clause-size
+returns-clause-size g c =
+    let a = c.self.inside in
+    ap (λ (x : Keeping). standard_in a.s (role_of x)) c.in_ok-note.ensures.noted
+    ∙ noted_size a.s c.in_ok-commit.commit c.is_short.result None None (keeping_of a.part)
+    ∙ ap (λ (v : SizedSphere). standard_in v.s v.sphere.role) c.self.view_is
+
+pub returns-in-Replayed-clause-size : goal.returns-in-Replayed-clause-size
+returns-in-Replayed-clause-size g c =
+    let a = c.self.inside in
+    ap (λ (l : LogParts). l.s) c.commit_part.ensures.log
+    ∙ sym (ap (λ (x : Part). standard_in a.s (role_in x)) c.in-Replayed.is)
+    ∙ ap (λ (v : SizedSphere). standard_in v.s v.sphere.role) c.self.view_is

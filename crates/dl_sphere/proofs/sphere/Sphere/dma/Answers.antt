@@ -1,7 +1,8 @@
-use Rattle.std.proofs.Common.{◌≡◌, ◌∷◌, ◌++◌, [], length, Option, Some, None, refl, sym, ap, ◌∙◌, subst, arith, suc}
+use Rattle.std.proofs.Common.{◌≡◌, ◌∷◌, ◌++◌, [], false, length, Option, Some, None, refl, sym, ap, ◌∙◌, subst, arith, suc}
 use Rattle.std.specs.Prelude.{IsSome}
 use Rattle.std.proofs.lemmas.Bool.{true≢false}
 use Rattle.dl_entry.specs.declared.Request.{Request}
+use Rattle.spec_log.specs.declared.LogParts.{LogParts}
 use Rattle.spec_kernel.specs.Answers.{dma_bytes}
 use Rattle.spec_play.specs.Effects.{dma_commit}
 use Rattle.spec_protocol.specs.machine.Commits.{Granted, MovedSphere, dma_moved}
@@ -9,9 +10,11 @@ use Rattle.spec_protocol.specs.machine.Spheres.{Sphere}
 use Rattle.spec_protocol.proofs.Logs.Growing.{pushed_length}
 use Rattle.dl_sphere.specs.declared.part.Part.{Part}
 use Rattle.dl_sphere.specs.Inside.{sphere_in, sphere_with}
-use Rattle.dl_sphere.specs.Roles.{keeping_of, role_in, role_of, IsKeepingOf, IsLive, IsSphere}
+use Rattle.dl_sphere.specs.Roles.{Keeping, keeping_of, role_in, role_of, IsKeepingOf, IsLive, IsSphere}
 use Rattle.dl_sphere.specs.Moving.{IsTurnOfDma}
 use Rattle.dl_sphere.specs.SizedSpheres.{SizedSphere}
+use Rattle.dl_sphere.specs.Setups.{standard_in}
+use Rattle.dl_sphere.proofs.Standing.Sizes.{noted_size}
 use Rattle.dl_sphere.proofs.Standing.Moves.{transferred_stand}
 use Rattle.dl_sphere.proofs.Replays.Limits.{replayed, stands_replayed, live_part}
 use Rattle.dl_sphere.proofs.Live.Moved.{none_moved, dma_is_moved}
@@ -62,6 +65,10 @@ returns c =
             devices = sym e.devices i;
           }));
       standard = ap (λ (v : SizedSphere). v.s) c.self.view_is;
+      size =
+          ap (λ (x : Keeping). standard_in a.s (role_of x)) e.noted
+          ∙ noted_size a.s dma_commit false None (Some (dma_bytes d request)) (keeping_of a.part)
+          ∙ ap (λ (v : SizedSphere). standard_in v.s v.sphere.role) c.self.view_is;
       err = tt;
       devices = tt;
     }
@@ -83,3 +90,10 @@ pub invariant_of-self : goal.invariant_of-self
 invariant_of-self c =
     let a = c.self.inside in
     c.serve_dma.ensures.at a.s (stands_replayed a c.in-Replayed.replay c.in-Replayed.is c.self.invariant)
+
+pub returns-in-Replayed-clause-size : goal.returns-in-Replayed-clause-size
+returns-in-Replayed-clause-size c =
+    let a = c.self.inside in
+    ap (λ (l : LogParts). l.s) c.serve_dma.ensures.log
+    ∙ sym (ap (λ (x : Part). standard_in a.s (role_in x)) c.in-Replayed.is)
+    ∙ ap (λ (v : SizedSphere). standard_in v.s v.sphere.role) c.self.view_is

@@ -5,7 +5,8 @@ use Rattle.dl_replay.specs.Replaying.{cursor_of}
 use Rattle.dl_sphere.specs.declared.part.Part.{Part}
 use Rattle.dl_sphere.specs.Roles.{role_in}
 use Rattle.dl_sphere.specs.SizedSpheres.{SizedSphere}
-use Rattle.dl_sphere.proofs.Replays.Limits.{replayed, replay-least, replay-most}
+use Rattle.dl_sphere.specs.Setups.{standard_in}
+use Rattle.dl_sphere.proofs.Replays.Limits.{replayed, replay-least}
 use Rattle.dl_sphere.proofs.sphere.Sphere.limit.Goals as goal
 
 pub returns-in-Replayed-clause-value : goal.returns-in-Replayed-clause-value
@@ -27,8 +28,5 @@ returns-in-Replayed-clause-least c =
 
 pub returns-in-Replayed-clause-most : goal.returns-in-Replayed-clause-most
 returns-in-Replayed-clause-most c =
-    let a = c.self.inside in
-    let k = c.args.thread in
-    let r = c.in-Replayed.replay in
-    let kept = replayed a r c.in-Replayed.is c.self.invariant in
-    subst (λ n. n ≤ 4096) (sym (c.limit.ensures.value a.s r.loads.items)) (replay-most c.args.after a.s (cursor_of r.player r.loads.items) k (slice_index r.player.commits k) kept.is_log)
+    subst (λ (v : SizedSphere). c.limit.result ≤ standard_in v.s v.sphere.role) c.self.view_is
+    (subst (λ (part : Part). c.limit.result ≤ standard_in c.self.inside.s (role_in part)) (sym c.in-Replayed.is) c.limit.ensures.most)

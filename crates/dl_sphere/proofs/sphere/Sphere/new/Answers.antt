@@ -18,7 +18,7 @@ invariant_of-result c =
       kept = c.in_ok-part.ensures.kept setup.entry;
     }
     in
-    start_standing c.args.s setup m c.start.result c.new-2.result.items x c.requires c.in_ok-part.ensures.role h
+    start_standing c.args.s setup m c.start.result c.new-2.result.items x c.requires.size c.in_ok-part.ensures.role h
 
 pub returns-clause-made : goal.returns-clause-made
 returns-clause-made c =

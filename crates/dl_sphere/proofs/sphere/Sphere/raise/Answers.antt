@@ -5,15 +5,17 @@ use Rattle.spec_kernel.specs.Interrupts.{interrupted}
 use Rattle.spec_protocol.specs.machine.Spheres.{Sphere, Role}
 use Rattle.spec_protocol.specs.machine.Commits.{raised, role_raised}
 use Rattle.spec_protocol.specs.machine.Placing.{replays}
-use Rattle.dl_sphere.specs.Roles.{keeping_of, role_in, role_of, with_raised, CanRaise, IsLive, IsSphere}
+use Rattle.dl_sphere.specs.Roles.{Keeping, keeping_of, role_in, role_of, with_raised, CanRaise, IsLive, IsSphere}
 use Rattle.dl_sphere.specs.Inside.{sphere_in, sphere_with}
 use Rattle.dl_sphere.specs.SizedSpheres.{SizedSphere}
+use Rattle.dl_sphere.specs.Setups.{standard_in}
+use Rattle.dl_sphere.proofs.Standing.Sizes.{raised_size}
 use Rattle.dl_sphere.proofs.Standing.Moves.{can_raise, raised_stand, raised_role}
 use Rattle.dl_sphere.proofs.Replays.Limits.{live_role}
 use Rattle.dl_sphere.proofs.sphere.Sphere.raise.Goals as goal
 
-pub note_interrupt-requires-clause-fresh : goal.note_interrupt-requires-clause-fresh
-note_interrupt-requires-clause-fresh c =
+pub note_interrupt-requires : goal.note_interrupt-requires
+note_interrupt-requires c =
     let a = c.self.inside in
     let k = c.args.thread in
     let t = c.thread_at-found.result in
@@ -56,3 +58,10 @@ returns-clause-ok c =
     ∙ raised_role k t.commits v (keeping_of a.part)
     in
     ap (λ us. made us (role_in c.note_interrupt.new.part)) threads ∙ ap (made (set a.past.state.threads k (interrupted v t))) role ∙ ap (λ (s : SizedSphere). raised k v t s.sphere) c.self.view_is
+
+pub returns-clause-size : goal.returns-clause-size
+returns-clause-size c =
+    let a = c.self.inside in
+    ap (λ (x : Keeping). standard_in a.s (role_of x)) c.in_ok-note_interrupt.ensures.noted
+    ∙ raised_size a.s _ _ _ (keeping_of a.part)
+    ∙ ap (λ (v : SizedSphere). standard_in v.s v.sphere.role) c.self.view_is

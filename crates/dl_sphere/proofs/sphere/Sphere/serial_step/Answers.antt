@@ -1,10 +1,10 @@
 use Rattle.std.proofs.Common.{◌≡◌, ◌<◌, ◌^◌, ◌+◌, ◌≤◌, false, [], ◌∷◌, ◌++◌, List, length, Option, Some, None, refl, sym, ap, ◌∙◌, subst, set, arith, suc}
 use Rattle.std.specs.Prelude.{slice_get}
 use Rattle.std.proofs.lemmas.Option.{slice_get_within}
-use Rattle.dl_entry.specs.Numbers.{most_threads}
 use Rattle.dl_entry.specs.declared.Commit.{Commit}
 use Rattle.dl_entry.specs.declared.Request.{Request}
 use Rattle.spec_isa.specs.declared.thread.Parts.{Parts}
+use Rattle.spec_log.specs.declared.LogParts.{LogParts}
 use Rattle.spec_isa.specs.Words.{Stored}
 use Rattle.spec_kernel.specs.Devices.{Devices}
 use Rattle.spec_kernel.specs.Needs.{need}
@@ -12,16 +12,18 @@ use Rattle.spec_kernel.specs.Answers.{taken}
 use Rattle.spec_kernel.specs.Serving.{serve}
 use Rattle.spec_play.specs.Effects.{counted, serial_commit}
 use Rattle.spec_play.specs.Progress.{position}
-use Rattle.spec_protocol.specs.machine.Spheres.{Sphere, Role}
+use Rattle.spec_protocol.specs.machine.Spheres.{Sphere, Role, most_in}
 use Rattle.dl_sphere.specs.declared.part.Part.{Part}
 use Rattle.spec_protocol.specs.machine.Commits.{Granted, MovedSphere, serial_moved}
 use Rattle.spec_protocol.proofs.Logs.Growing.{commits_if, pushed_length}
 use Rattle.spec_protocol.proofs.Moves.Threads.{serve-keeps}
 use Rattle.dl_kernel.specs.Calls.{spawned_list}
-use Rattle.dl_sphere.specs.Roles.{keeping_of, role_in, role_of, with_noted, IsSphere}
+use Rattle.dl_sphere.specs.Roles.{Keeping, keeping_of, role_in, role_of, with_noted, IsSphere}
 use Rattle.dl_sphere.specs.Inside.{sphere_in, sphere_with}
 use Rattle.dl_sphere.specs.Moving.{IsTurnOf}
 use Rattle.dl_sphere.specs.SizedSpheres.{SizedSphere}
+use Rattle.dl_sphere.specs.Setups.{standard_in}
+use Rattle.dl_sphere.proofs.Standing.Sizes.{noted_size}
 use Rattle.dl_sphere.proofs.Standing.Moves.{Commits, commits_stand, threads_few}
 use Rattle.dl_sphere.proofs.Replays.Limits.{few_live, live_part, replayed, stands_replayed}
 use Rattle.dl_sphere.proofs.Live.Moved.{step_is_moved}
@@ -33,7 +35,7 @@ counted-after-requires c =
     let k = c.args.thread in
     let t = c.thread_at.result in
     let g = taken (need t a.past.state.memory) c.args.devices.now c.args.moment in
-    let keeps = serve-keeps k a.past.state.threads a.past.state.request t a.past.state.memory g.input in
+    let keeps = serve-keeps (most_in (role_in a.part)) k a.past.state.threads a.past.state.request t a.past.state.memory g.input in
     let same : c.in_ok-left.left.thread.commits ≡ t.commits = ap (λ (v : Parts). v.commits) c.in_ok-left.ensures.thread ∙ keeps.commits in
     let most : t.commits ≤ 0 + length a.past.commits.items = subst (λ n. n ≤ 0 + length a.past.commits.items) (ap commits_if c.thread_at.ensures.thread) ((few_live a.s (sphere_in a) (keeping_of a.part) (live_part a.part c.in_default.not-Replayed) c.self.invariant.kept).few k) in
     let few : 0 + length a.past.commits.items < 2 ^ 24 =
@@ -47,8 +49,8 @@ invariant_of-self-2 c =
     let k = c.args.thread in
     let t = c.thread_at.result in
     let g = taken (need t a.past.state.memory) c.args.devices.now c.args.moment in
-    let v = serve most_threads k a.past.state.threads a.past.state.request t a.past.state.memory g.input in
-    let keeps = serve-keeps k a.past.state.threads a.past.state.request t a.past.state.memory g.input in
+    let v = serve (most_in (role_in a.part)) k a.past.state.threads a.past.state.request t a.past.state.memory g.input in
+    let keeps = serve-keeps (most_in (role_in a.part)) k a.past.state.threads a.past.state.request t a.past.state.memory g.input in
     let u = c.counted-after.result in
     let left = c.in_ok-left.left in
     let commit : Commit = serial_commit k v.loads v.outputs in
@@ -61,7 +63,7 @@ invariant_of-self-2 c =
       start = c.thread_at.ensures.thread;
       within = let inside = slice_get_within a.past.state.threads k t c.thread_at.ensures.thread in let few = c.thread_at.ensures.few in omega arith;
       threads = threads;
-      few = threads_few a.past.state.threads k u left.spawned c.settle.new.threads c.settle.ensures c.in_ok-left.ensures.room h.threads;
+      few = threads_few 63 a.past.state.threads k u left.spawned c.settle.new.threads c.settle.ensures c.in_ok-left.ensures.places h.threads;
       commits =
           ap (λ (x : Parts). x.commits) c.counted-after.ensures
           ∙ ap (λ (x : Parts). x.commits + 1) c.in_ok-left.ensures.thread
@@ -74,7 +76,8 @@ invariant_of-self-2 c =
     }
     in
     subst (IsSphere a.s q) (sym c.in_ok-left.ensures.noted)
-    (commits_stand (sphere_in a) q k t u v.spawned commit d a.s false g.input (keeping_of a.part) (live_part a.part c.in_default.not-Replayed) h)
+    (commits_stand (sphere_in a) q k t u v.spawned commit d a.s false g.input (keeping_of a.part) (live_part a.part c.in_default.not-Replayed)
+    (threads_few (most_in (role_in a.part)) a.past.state.threads k u left.spawned c.settle.new.threads c.settle.ensures c.in_ok-left.ensures.room) h)
 
 pub returns-clause-ok : goal.returns-clause-ok
 returns-clause-ok c =
@@ -89,7 +92,7 @@ returns-clause-ok c =
     in
     let same : x ≡ t = (let e : Some x ≡ Some t = sym start ∙ is in cc) in
     let g = taken (need x a.past.state.memory) d moment in
-    let v = serve most_threads k a.past.state.threads a.past.state.request x a.past.state.memory g.input in
+    let v = serve (most_in (role_in a.part)) k a.past.state.threads a.past.state.request x a.past.state.memory g.input in
     let commit : Commit = serial_commit k v.loads v.outputs in
     let left = c.in_ok-left.left in
     let l = c.in_ok-left.ensures in
@@ -129,3 +132,21 @@ pub invariant_of-self : goal.invariant_of-self
 invariant_of-self c =
     let a = c.self.inside in
     c.serve_step.ensures.at a.s (stands_replayed a c.in-Replayed.replay c.in-Replayed.is c.self.invariant)
+
+pub returns-clause-size : goal.returns-clause-size
+returns-clause-size c =
+    let a = c.self.inside in
+    let k = c.args.thread in
+    let t = c.thread_at.result in
+    let g = taken (need t a.past.state.memory) c.args.devices.now c.args.moment in
+    let v = serve (most_in (role_in a.part)) k a.past.state.threads a.past.state.request t a.past.state.memory g.input in
+    ap (λ (x : Keeping). standard_in a.s (role_of x)) c.in_ok-left.ensures.noted
+    ∙ noted_size a.s (serial_commit k v.loads v.outputs) false g.input None (keeping_of a.part)
+    ∙ ap (λ (v : SizedSphere). standard_in v.s v.sphere.role) c.self.view_is
+
+pub returns-in-Replayed-clause-size : goal.returns-in-Replayed-clause-size
+returns-in-Replayed-clause-size c =
+    let a = c.self.inside in
+    ap (λ (l : LogParts). l.s) c.serve_step.ensures.log
+    ∙ sym (ap (λ (x : Part). standard_in a.s (role_in x)) c.in-Replayed.is)
+    ∙ ap (λ (v : SizedSphere). standard_in v.s v.sphere.role) c.self.view_is

@@ -27,7 +27,7 @@ free n i e is =
 pub invariant_of-result : goal.invariant_of-result
 invariant_of-result c =
     let bits : ℕ = c.ilog2-bits.result in
-    let few : 2 ^ bits < 2 ^ 15 = omega (arith, c.ilog2-bits.ensures.power_le) in
+    let few : 2 ^ bits < 2 ^ 19 = omega (arith, c.ilog2-bits.ensures.power_le) in
     let many : 2 * c.args.room < 2 * 2 ^ bits = omega (arith, c.ilog2-bits.ensures.next_power_gt) in
     let some : 1 ≤ bits = positive_bits bits (omega arith) in
     let room : vec_capacity c.in_ok-with_capacity.field-0 ≡ c.args.room = c.in_ok-with_capacity.ensures.exact in

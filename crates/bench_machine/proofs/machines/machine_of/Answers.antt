@@ -1,0 +1,20 @@
+use Rattle.std.proofs.Common.{◌≡◌, List, [], ◌∷◌, ◌++◌, All, map, inl, refl, sym, subst, arith}
+use Rattle.std.proofs.lemmas.List.{map-append}
+use Rattle.std.proofs.lemmas.List.Elements.{All-push}
+use Rattle.spec_protocol.specs.machine.Machine as protocol
+use Rattle.dl_sphere.specs.declared.setup.SphereSetup.{SphereSetup}
+use Rattle.dl_sphere.specs.Setups.{IsRecordableIf, role_setup, setup_of}
+use Rattle.bench_machine.proofs.machines.machine_of.Goals as goal
+
+abbrev is_recordable : protocol.SphereSetup → Type 0
+is_recordable image = IsRecordableIf 101 image.role
+
+pushed : (xs ys : List SphereSetup) (x : SphereSetup) → ys ≡ xs ++ x ∷ [] → IsRecordableIf 101 (role_setup x.role) →
+    All is_recordable (map setup_of xs) → All is_recordable (map setup_of ys)
+pushed xs ys x more is all =
+    subst (λ (zs : List SphereSetup). All is_recordable (map setup_of zs)) (sym more)
+    (subst (λ (zs : List protocol.SphereSetup). All is_recordable zs) (sym (map-append setup_of xs (x ∷ [])))
+    (All-push is_recordable (map setup_of xs) (setup_of x) all is))
+
+pub loop-preserved : goal.loop-preserved
+loop-preserved c = pushed c.loop.spheres _ _ c.in_ok-push.ensures.ok (inl (refl, refl), (omega arith, omega arith)) c.loop.invariant

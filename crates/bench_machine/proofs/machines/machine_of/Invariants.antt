@@ -1,0 +1,6 @@
+use Rattle.std.proofs.Common.{All, map}
+use Rattle.dl_sphere.specs.Setups.{IsRecordableIf, setup_of}
+use Rattle.bench_machine.proofs.machines.machine_of.Given as goal
+
+abbrev pub invariant-loop : goal.invariant-loop
+invariant-loop l = All (λ image. IsRecordableIf 101 image.role) (map setup_of l.spheres)

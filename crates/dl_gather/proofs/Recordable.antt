@@ -1,0 +1,93 @@
+-- The logs of recorded spheres can have the plan's chunks: as planned, as read, and as set up.
+use Rattle.std.proofs.Common.{◌≡◌, ℕ, zero, suc, ◌<◌, ◌≤◌, ◌⊎◌, inl, inr, List, [], ◌∷◌, ◌++◌, length, map, get_or, Result, Ok, All, refl, sym, subst, arith}
+use Rattle.std.proofs.lemmas.List.Elements.{All-nil, All-cons}
+use Rattle.dl_elf.specs.Images.{Image}
+use Rattle.dl_plan.specs.declared.Sphere.{Sphere}
+use Rattle.dl_plan.specs.Limits.{longest_chunk}
+use Rattle.dl_plan.specs.Values.{RoleValues, Plain, Record, Replay, SphereValues, PlanValues, IsPlan, IsRole, AreRoles, CanHave, CanAllHave, sphere_view as planned}
+use Rattle.dl_sphere.specs.Setups.{IsRecordableIf}
+use Rattle.spec_log.specs.declared.LogParts.{LogParts}
+use Rattle.spec_log.specs.declared.ModeName.{ModeName}
+use Rattle.spec_log.specs.declared.fault.Fault.{Fault}
+use Rattle.spec_program.specs.Built.{bad_log, mode_named, record_setup, role_of, sphere_of, spheres_of}
+use Rattle.spec_program.specs.Files.{RoleRead, PlainRead, RecordRead, ReplayRead, SphereRead}
+use Rattle.spec_program.specs.Stages.{Refused, refusing, ◌>>◌}
+use Rattle.spec_program.proofs.Made.{then_ok}
+use Rattle.spec_protocol.specs.machine.Machine.{RoleSetup, IsPlain, IsRecorded, IsReplayed, SphereSetup}
+use Rattle.spec_protocol.specs.promises.Sound.{IsRecordable}
+use Rattle.dl_gather.specs.declared.inputs.SphereInputs.{SphereInputs}
+use Rattle.dl_gather.specs.Inputs.{IsPlanRecordable, IsReadRecordable, ArePlansRecordable, AreReadRecordable, sphere_view}
+use Rattle.dl_gather.proofs.Memories.{all_at, all_pushed}
+
+-- ---- as planned
+
+one_or_two : (version : ℕ) → 1 ≤ version → version ≤ 2 → (version ≡ 1) ⊎ (version ≡ 2)
+one_or_two zero least most = absurd (omega arith)
+one_or_two (suc zero) least most = inl refl
+one_or_two (suc (suc zero)) least most = inr refl
+one_or_two (suc (suc (suc version))) least most = absurd (omega arith)
+
+by_version : (s version : ℕ) (mode : ModeName) → (version ≡ 1) ⊎ (version ≡ 2) → 16 ≤ s → s ≤ longest_chunk version → IsRecordable s (record { version = version; mode = mode })
+by_version s version mode (inl one) least most =
+    subst (λ (v : ℕ). s ≤ longest_chunk v → IsRecordable s (record { version = v; mode = mode })) (sym one) (λ m. (inl (refl, refl), (least, m))) most
+by_version s version mode (inr two) least most =
+    subst (λ (v : ℕ). s ≤ longest_chunk v → IsRecordable s (record { version = v; mode = mode })) (sym two) (λ m. (inr (refl, inr refl), (least, m))) most
+
+role_planned : (s : ℕ) (role : RoleValues) → 16 ≤ s → IsRole role → CanHave s role → IsPlanRecordable s role
+role_planned s Plain least is can = tt
+role_planned s (Record values) least is can = by_version s values.version (mode_named values.mode) (one_or_two values.version is.0 is.1) least can
+role_planned s (Replay values) least is can = tt
+
+roles_planned : (s : ℕ) (spheres : List SphereValues) → 16 ≤ s → AreRoles spheres → CanAllHave s spheres → ArePlansRecordable s spheres
+roles_planned s [] least are can = tt
+roles_planned s (x ∷ xs) least are can = (role_planned s x.role least are.0 can.0, roles_planned s xs least are.1 can.1)
+
+-- so it is of each sphere of a plan
+pub plan_recordable : (p : PlanValues) → IsPlan p → ArePlansRecordable p.sizes.chunk p.spheres
+plan_recordable p is = roles_planned p.sizes.chunk p.spheres is.numbers.sizes.chunk.0 is.numbers.roles is.chunk
+
+-- ---- as read
+
+-- where so it is of all planned spheres, it is so of sphere i
+pub planned_recordable : (s : ℕ) (spheres : List Sphere) (i : ℕ) (d : Sphere) → ArePlansRecordable s (map planned spheres) → i < length spheres → IsPlanRecordable s (planned (get_or spheres i d)).role
+planned_recordable s spheres i d are h = all_at (λ (x : SphereValues). IsPlanRecordable s x.role) planned spheres i d are h
+
+-- with one sphere more of which it is so, it is so of all
+pub more_recordable : (s : ℕ) (inputs : List SphereInputs) (x : SphereInputs) → AreReadRecordable s (map sphere_view inputs) → IsReadRecordable s (sphere_view x).role → AreReadRecordable s (map sphere_view (inputs ++ x ∷ []))
+more_recordable s inputs x are is = all_pushed (λ (y : SphereRead). IsReadRecordable s y.role) sphere_view inputs x are is
+
+-- ---- as set up
+
+same_role : (x y : RoleSetup) → ◌≡◌ {A = Result RoleSetup Refused} (Ok x) (Ok y) → x ≡ y
+same_role x y e = cc
+
+same_sphere : (x y : SphereSetup) → ◌≡◌ {A = Result SphereSetup Refused} (Ok x) (Ok y) → x ≡ y
+same_sphere x y e = cc
+
+same_spheres : (xs ys : List SphereSetup) → ◌≡◌ {A = Result (List SphereSetup) Refused} (Ok xs) (Ok ys) → xs ≡ ys
+same_spheres xs ys e = cc
+
+log_set_up : (s i : ℕ) (read : Result LogParts Fault) (role : RoleSetup) → (refusing (bad_log i) read >> λ log. Ok (IsReplayed (record { log = log }))) ≡ Ok role → IsRecordableIf s role
+log_set_up s i read role e =
+    let log = then_ok (refusing (bad_log i) read) _ role e in
+    subst (IsRecordableIf s) (same_role _ role log.2) tt
+
+role_set_up : (s i : ℕ) (read : RoleRead) (role : RoleSetup) → IsReadRecordable s read → role_of i read ≡ Ok role → IsRecordableIf s role
+role_set_up s i PlainRead role is e = subst (IsRecordableIf s) (same_role IsPlain role e) tt
+role_set_up s i (RecordRead inputs) role is e = subst (IsRecordableIf s) (same_role (IsRecorded (record_setup inputs)) role e) is
+role_set_up s i (ReplayRead inputs) role is e = log_set_up s i inputs.log role e
+
+-- so it is of the spheres that are set up
+pub set_up_recordable : (s i : ℕ) (read : List SphereRead) (images : List Image) (spheres : List SphereSetup) → AreReadRecordable s read → spheres_of i read images ≡ Ok spheres → All (λ (x : SphereSetup). IsRecordableIf s x.role) spheres
+set_up_recordable s i [] images spheres are e =
+    subst (All (λ (x : SphereSetup). IsRecordableIf s x.role)) (same_spheres [] spheres e) (All-nil (λ (x : SphereSetup). IsRecordableIf s x.role))
+set_up_recordable s i (x ∷ read) [] spheres are e =
+    subst (All (λ (x : SphereSetup). IsRecordableIf s x.role)) (same_spheres [] spheres e) (All-nil (λ (x : SphereSetup). IsRecordableIf s x.role))
+set_up_recordable s i (x ∷ read) (image ∷ images) spheres are e =
+    let here = then_ok (sphere_of i x image) _ spheres e in
+    let rest = then_ok (spheres_of (suc i) read images) _ spheres here.2 in
+    let role = then_ok (role_of i x.role) _ here.0 here.1 in
+    let made : SphereSetup = record { memory = image.bytes; entry = image.entry; role = role.0 } in
+    let first = subst (λ (y : SphereSetup). IsRecordableIf s y.role) (same_sphere made here.0 role.2) (role_set_up s i x.role role.0 are.0 role.1) in
+    subst (All (λ (y : SphereSetup). IsRecordableIf s y.role)) (same_spheres (here.0 ∷ rest.0) spheres rest.2)
+    (All-cons (λ (y : SphereSetup). IsRecordableIf s y.role) here.0 rest.0 first (set_up_recordable s (suc i) read images rest.0 are.1 rest.1))

@@ -1,0 +1,10 @@
+use Rattle.std.proofs.Common.{map}
+use Rattle.dl_sphere.specs.Setups.{setup_of as sphere_setup}
+use Rattle.dl_gather.specs.Inputs.{sphere_view}
+use Rattle.dl_gather.proofs.Recordable.{set_up_recordable}
+use Rattle.dl_gather.proofs.task.task_of.Goals as goal
+
+pub setup_of-setup-requires-clause-recorded : goal.setup_of-setup-requires-clause-recorded
+setup_of-setup-requires-clause-recorded c =
+    set_up_recordable c.args.plan.now.sizes.chunk 0 (map sphere_view c.args.inputs.spheres.items) c.in_ok-images.images.items (map sphere_setup c.in_ok-spheres.spheres.items)
+    c.requires.inputs.recordable c.in_ok-spheres.ensures.spheres

@@ -1,0 +1,279 @@
+//! Logs of version 2, byte for byte, what is wrong with others, and logs of version 1 made version 2.
+use super::log_bytes::{malformed, overwritten};
+use dl_logfmt::{LogReader, migrate_log, read_log, write_log};
+use std::test::Fail;
+
+#[test]
+fn logs_of_version_2_are_read_and_written_back(rt: HostRuntime) -> Result<(), Fail> {
+    for bytes in LOGS {
+        let log = read_log(rt.alloc(), bytes)?;
+        assert!(rt; write_log(rt.alloc(), &log)?.as_slice() == *bytes);
+    }
+    Ok(())
+}
+
+#[test]
+fn they_are_read_byte_by_byte(rt: HostRuntime) -> Result<(), Fail> {
+    for bytes in LOGS {
+        let mut reader = LogReader::new(rt.alloc());
+        for byte in bytes.chunks(1) {
+            reader.feed(byte)?;
+        }
+        let log = reader.end()?;
+        assert!(rt; write_log(rt.alloc(), &log)?.as_slice() == *bytes);
+    }
+    Ok(())
+}
+
+#[test]
+fn they_end_inside_a_field_where_they_are_cut(rt: HostRuntime) {
+    for bytes in &[EXITS, FULL, SIZED, TURNS] {
+        for length in 0..bytes.len() {
+            let short = Some(malformed(1, length as u64));
+            assert!(rt; read_log(rt.alloc(), &bytes[..length]).err() == short);
+        }
+    }
+}
+
+#[test]
+fn fields_are_good_up_to_their_borders(rt: HostRuntime) -> Result<(), Fail> {
+    for (bytes, at, border) in GOOD {
+        let bytes = overwritten(rt.alloc(), bytes, *at, border)?;
+        let log = read_log(rt.alloc(), &bytes)?;
+        assert!(rt;
+            write_log(rt.alloc(), &log)?.as_slice() == bytes.as_slice(),
+            "{at}"
+        );
+    }
+    Ok(())
+}
+
+#[test]
+fn fields_past_their_borders_are_named(rt: HostRuntime) -> Result<(), Fail> {
+    for (bytes, at, wrong, number, offset) in WRONG {
+        let bytes = overwritten(rt.alloc(), bytes, *at, wrong)?;
+        let error = Some(malformed(*number, *offset));
+        assert!(rt; read_log(rt.alloc(), &bytes).err() == error, "{at}");
+    }
+    Ok(())
+}
+
+#[test]
+fn migrated_logs_keep_their_threads(rt: HostRuntime) -> Result<(), Fail> {
+    for (first, second) in MIGRATED {
+        let log = read_log(rt.alloc(), first)?;
+        let migrated = migrate_log(rt.alloc(), &log)?;
+        assert!(rt; write_log(rt.alloc(), &migrated)?.as_slice() == *second);
+    }
+    Ok(())
+}
+
+/// The header, the order, the sizes, the interrupts, the inputs and the DMAs of each.
+const LOGS: &[&[u8]] = &[
+    EXITS,
+    FULL,
+    SIZED,
+    TURNS,
+    // A thread runs two instructions and exits, with the largest standard chunk.
+    b"\x44\x4C\x52\x4E\x02\x00\x3F\x00\x00\x00\x01\x00\x02\x00\x00\x00\
+      \x02\x00\x00\x00\x00\x00\
+      \x02\x00\x00\x00\x02\x00\x00\x00\x00\x00\x00\x00\
+      \x00\x00\x00\x00\
+      \x00\x00\x00\x00\
+      \x00\x00\x00\x00",
+    // The highest thread, a DMA, and the size of a whole chunk.
+    b"\x44\x4C\x52\x4E\x02\x01\x3F\x00\x00\x00\x01\x00\x04\x00\x00\x00\
+      \x04\x00\x00\x00\x00\x3E\x3F\x00\
+      \x02\x00\x00\x00\x00\x01\x00\x00\x00\x00\x00\x01\x00\x3E\x00\x00\x00\x00\x01\x00\x00\x00\
+      \x01\x00\x00\x00\x3E\x01\x00\x00\x00\x07\x00\x00\x00\
+      \x00\x00\x00\x00\
+      \x01\x00\x00\x00\x02\x00\x00\x00\x01\x00\x41",
+    // Thread 0 begins fifteen others.
+    b"\x44\x4C\x52\x4E\x02\x01\x3F\x00\x64\x00\x00\x00\x20\x00\x00\x00\
+      \x20\x00\x00\x00\x00\x00\x00\x00\x00\x00\x00\x00\x00\x00\x00\x00\x00\x00\x00\x00\x00\x00\x00\x00\
+      \x00\x00\x00\x00\x00\x00\x00\x00\x00\x00\x00\x00\
+      \x00\x00\x00\x00\
+      \x00\x00\x00\x00\
+      \x00\x00\x00\x00\
+      \x00\x00\x00\x00",
+];
+
+/// A thread runs two instructions and exits.
+const EXITS: &[u8] = b"\x44\x4C\x52\x4E\x02\x00\x3F\x00\x64\x00\x00\x00\x02\x00\x00\x00\
+  \x02\x00\x00\x00\x00\x00\
+  \x02\x00\x00\x00\x02\x00\x00\x00\x00\x00\x00\x00\
+  \x00\x00\x00\x00\
+  \x00\x00\x00\x00\
+  \x00\x00\x00\x00";
+
+/// Entries in each section: 63 threads, the largest standard chunk, and the sizes of two chunks.
+const FULL: &[u8] = b"\x44\x4C\x52\x4E\x02\x01\x3F\x00\x00\x00\x01\x00\x03\x00\x00\x00\
+  \x03\x00\x00\x00\x3E\x3F\x00\
+  \x02\x00\x00\x00\x00\x04\x03\x02\x01\x00\x00\x01\x00\x3E\x00\x00\x00\x00\x01\x00\x00\x00\
+  \x02\x00\x00\x00\x03\x07\x00\x00\x00\xFF\xFF\xFF\xFF\x3E\x08\x00\x00\x00\x00\x00\x00\x00\
+  \x02\x00\x00\x00\x03\x02\x00\x00\x00\x02\x00\x93\x08\x11\x00\x00\x00\x00\x00\x00\
+  \x02\x00\x00\x00\x01\x00\x00\x00\x02\x00\x41\xFF\x02\x00\x00\x00\x00\x00";
+
+/// The smallest standard chunk, 15 threads, and a size for each commit.
+const SIZED: &[u8] = b"\x44\x4C\x52\x4E\x02\x00\x0F\x00\x10\x00\x00\x00\x03\x00\x00\x00\
+  \x03\x00\x00\x00\x0E\x3F\x00\
+  \x03\x00\x00\x00\x10\x00\x00\x00\x00\x00\x00\x00\x01\x00\x00\x00\
+  \x00\x00\x00\x00\
+  \x00\x00\x00\x00\
+  \x00\x00\x00\x00";
+
+/// 15 threads that take turns.
+const TURNS: &[u8] = b"\x44\x4C\x52\x4E\x02\x02\x0F\x00\x64\x00\x00\x00\x05\x00\x00\x00\
+  \x00\x00\x00\x00\
+  \x02\x00\x00\x00\x00\x01\x00\x00\x00\x07\x00\x00\x00\x0E\x00\x00\x00\x00\x64\x00\x00\x00\
+  \x01\x00\x00\x00\x0E\x02\x00\x00\x00\x05\x00\x00\x00\
+  \x00\x00\x00\x00\
+  \x00\x00\x00\x00";
+
+/// A log, an offset, and bytes that are good there.
+const GOOD: &[(&[u8], usize, &[u8])] = &[
+    (SIZED, 6, b"\x3F\x00"),
+    (TURNS, 8, b"\x00\x00\x01\x00"),
+    (TURNS, 12, b"\x00\x00\x00\x01"),
+    (TURNS, 12, b"\x00\x00\x00\x00"),
+    (FULL, 20, b"\x3E"),
+    (FULL, 20, b"\x3F"),
+    (SIZED, 20, b"\x0E"),
+    (SIZED, 20, b"\x3F"),
+    (SIZED, 27, b"\x10"),
+    (SIZED, 35, b"\x10"),
+    (FULL, 36, b"\x3E"),
+    (FULL, 32, b"\x00\x00\x01\x00"),
+    (FULL, 32, b"\x01\x00\x00\x00"),
+    (FULL, 36, b"\x00\x05\x03\x02\x01"),
+    (TURNS, 33, b"\x0E"),
+    (TURNS, 38, b"\x64"),
+    (FULL, 49, b"\x3E"),
+    (FULL, 58, b"\x3E"),
+    (FULL, 58, b"\x03\x08"),
+    (TURNS, 46, b"\x0E"),
+    (FULL, 71, b"\x02"),
+    (FULL, 80, b"\x10"),
+    (EXITS, 6, b"\x0F\x00"),
+];
+
+/// A log, the offset at which bytes are wrong, those bytes, and the number and the offset of the fault.
+const WRONG: &[(&[u8], usize, &[u8], u8, u64)] = &[
+    (FULL, 0, b"\x45", 2, 0),
+    (FULL, 4, b"\x00", 3, 4),
+    (FULL, 4, b"\x03", 3, 4),
+    (FULL, 4, b"\xFF", 3, 4),
+    (FULL, 5, b"\x03", 4, 5),
+    (FULL, 6, b"\x3E\x00", 5, 6),
+    (FULL, 6, b"\x40\x00", 5, 6),
+    (FULL, 6, b"\x3F\x01", 5, 6),
+    (FULL, 6, b"\x00\x00", 5, 6),
+    (FULL, 6, b"\x0F\x00", 5, 20),
+    (SIZED, 6, b"\x0E\x00", 5, 6),
+    (SIZED, 6, b"\x10\x00", 5, 6),
+    (SIZED, 6, b"\x0F\x01", 5, 6),
+    (SIZED, 8, b"\x0F\x00", 5, 8),
+    (FULL, 8, b"\x01\x00\x01\x00", 5, 8),
+    (TURNS, 8, b"\x01\x00\x01\x00", 5, 8),
+    (TURNS, 12, b"\x01\x00\x00\x01", 5, 12),
+    (FULL, 16, b"\x02", 5, 16),
+    (FULL, 16, b"\x04", 5, 16),
+    (TURNS, 16, b"\x05", 5, 16),
+    (FULL, 20, b"\x40", 5, 20),
+    (FULL, 22, b"\xFF", 5, 22),
+    (SIZED, 20, b"\x0F", 5, 20),
+    (SIZED, 20, b"\x3E", 5, 20),
+    (SIZED, 20, b"\x40", 5, 20),
+    (SIZED, 23, b"\x02", 5, 23),
+    (SIZED, 23, b"\x04", 5, 23),
+    (SIZED, 27, b"\x11", 5, 27),
+    (SIZED, 27, b"\x10\x00\x01\x00", 5, 27),
+    (SIZED, 35, b"\x11", 5, 35),
+    (FULL, 27, b"\x3E", 6, 36),
+    (FULL, 36, b"\x3F", 5, 36),
+    (FULL, 32, b"\x01\x00\x01\x00", 5, 32),
+    (FULL, 32, b"\x00\x00\x00\x00", 5, 32),
+    (FULL, 36, b"\x00\x04\x03\x02\x01", 6, 36),
+    (TURNS, 20, b"\x01", 1, 63),
+    (TURNS, 33, b"\x0F", 5, 33),
+    (TURNS, 38, b"\x65", 5, 38),
+    (FULL, 58, b"\x3F", 5, 58),
+    (FULL, 58, b"\x03\x07", 6, 58),
+    (TURNS, 46, b"\x0F", 5, 46),
+    (FULL, 71, b"\x01", 5, 71),
+    (FULL, 71, b"\x06", 5, 71),
+    (FULL, 80, b"\x12", 5, 80),
+    (FULL, 76, b"\x01\x10", 5, 76),
+    (FULL, 76, b"\x00\x10", 1, 105),
+    (FULL, 91, b"\x02", 6, 99),
+    (FULL, 99, b"\x01", 6, 99),
+    (FULL, 95, b"\x01\x10", 5, 95),
+    (FULL, 95, b"\x00\x10", 1, 105),
+    (EXITS, 4, b"\x03", 3, 4),
+    (EXITS, 6, b"\x10\x00", 5, 6),
+    (EXITS, 8, b"\x01\x00\x01\x00", 5, 8),
+    (FULL, 105, b"\x00", 7, 105),
+    (SIZED, 51, b"\x00", 7, 51),
+];
+
+/// A log, and the same made version 2.
+const MIGRATED: &[(&[u8], &[u8])] = &[
+    (
+        b"\x44\x4C\x52\x4E\x01\x00\x00\x00\x64\x00\x00\x00\x02\x00\x00\x00\
+          \x02\x00\x00\x00\x00\
+          \x02\x00\x00\x00\x02\x00\x00\x00\
+          \x00\x00\x00\x00\
+          \x00\x00\x00\x00\
+          \x00\x00\x00\x00",
+        b"\x44\x4C\x52\x4E\x02\x00\x0F\x00\x64\x00\x00\x00\x02\x00\x00\x00\
+          \x02\x00\x00\x00\x00\x00\
+          \x02\x00\x00\x00\x02\x00\x00\x00\x00\x00\x00\x00\
+          \x00\x00\x00\x00\
+          \x00\x00\x00\x00\
+          \x00\x00\x00\x00",
+    ),
+    (
+        b"\x44\x4C\x52\x4E\x01\x01\x00\x00\x64\x00\x00\x00\x20\x00\x00\x00\
+          \x20\x00\x00\x00\x00\x00\x00\x00\x00\x00\x00\x00\x00\x00\x00\x00\x00\x00\x00\x00\
+          \x00\x00\x00\x00\
+          \x00\x00\x00\x00\
+          \x00\x00\x00\x00\
+          \x00\x00\x00\x00",
+        b"\x44\x4C\x52\x4E\x02\x01\x0F\x00\x64\x00\x00\x00\x20\x00\x00\x00\
+          \x20\x00\x00\x00\x00\x00\x00\x00\x00\x00\x00\x00\x00\x00\x00\x00\x00\x00\x00\x00\x00\x00\x00\x00\
+          \x00\x00\x00\x00\x00\x00\x00\x00\x00\x00\x00\x00\
+          \x00\x00\x00\x00\
+          \x00\x00\x00\x00\
+          \x00\x00\x00\x00\
+          \x00\x00\x00\x00",
+    ),
+    (
+        b"\x44\x4C\x52\x4E\x02\x00\x3F\x00\x64\x00\x00\x00\x02\x00\x00\x00\
+          \x02\x00\x00\x00\x00\x00\
+          \x02\x00\x00\x00\x02\x00\x00\x00\x00\x00\x00\x00\
+          \x00\x00\x00\x00\
+          \x00\x00\x00\x00\
+          \x00\x00\x00\x00",
+        b"\x44\x4C\x52\x4E\x02\x00\x3F\x00\x64\x00\x00\x00\x02\x00\x00\x00\
+          \x02\x00\x00\x00\x00\x00\
+          \x02\x00\x00\x00\x02\x00\x00\x00\x00\x00\x00\x00\
+          \x00\x00\x00\x00\
+          \x00\x00\x00\x00\
+          \x00\x00\x00\x00",
+    ),
+    // A size of a commit that no thread has is kept.
+    (
+        b"\x44\x4C\x52\x4E\x01\x01\x00\x00\x40\x00\x00\x00\x02\x00\x00\x00\
+          \x02\x00\x00\x00\xF1\
+          \x02\x00\x00\x00\x01\x00\x00\x00\x00\x03\x00\x09\x05\x00\x00\x00\x40\x00\
+          \x01\x00\x00\x00\x01\x00\x00\x00\x00\x08\x00\x00\x00\
+          \x01\x00\x00\x00\x05\x09\x00\x00\x00\x00\x00\
+          \x01\x00\x00\x00\x01\x00\x00\x00\x01\x00\x07",
+        b"\x44\x4C\x52\x4E\x02\x01\x0F\x00\x40\x00\x00\x00\x02\x00\x00\x00\
+          \x02\x00\x00\x00\x01\x3F\
+          \x02\x00\x00\x00\x01\x00\x00\x00\x00\x03\x00\x00\x00\x09\x05\x00\x00\x00\x40\x00\x00\x00\
+          \x01\x00\x00\x00\x01\x00\x00\x00\x00\x08\x00\x00\x00\
+          \x01\x00\x00\x00\x05\x09\x00\x00\x00\x00\x00\
+          \x01\x00\x00\x00\x01\x00\x00\x00\x01\x00\x07",
+    ),
+];
