@@ -1,8 +1,9 @@
 -- The summary: the events, the commits of all spheres, and a line for each sphere.
 use Rattle.std.specs.Prelude.{ℕ, List, [], ◌∷◌, ◌++◌, codes, decimal, sum_by}
 use Rattle.dl_entry.specs.declared.counts.Counts.{Counts}
+use Rattle.dl_entry.specs.declared.end.End.{End}
 use Rattle.dl_entry.specs.declared.end.SphereLine.{SphereLine}
-use Rattle.dl_entry.specs.declared.end.SphereLine.TheVariants.{Record, Plain, Complete, Diverged}
+use Rattle.dl_entry.specs.declared.end.SphereLine.TheVariants.{Record, Plain, Complete, Diverged, Interval}
 use Rattle.dl_account.specs.Lines.{line, numbered}
 use Rattle.dl_account.specs.Replays.{why_fields}
 
@@ -12,6 +13,13 @@ commits_in (Record commits) = commits
 commits_in (Plain commits) = commits
 commits_in (Complete commits) = commits
 commits_in (Diverged index why) = index
+commits_in (Interval commits end) = commits
+
+-- how the replay of an interval ended: complete after so many commits of its log, or diverged
+abbrev pub interval_fields : End → List (List ℕ)
+interval_fields (End.Complete commits) = codes "complete" ∷ decimal commits ∷ []
+interval_fields (End.At commits) = codes "complete" ∷ decimal commits ∷ []
+interval_fields (End.Diverged index why) = codes "diverged" ∷ decimal index ∷ why_fields why
 
 -- what the summary says of a sphere
 abbrev pub sphere_fields : SphereLine → List (List ℕ)
@@ -19,6 +27,7 @@ sphere_fields (Record commits) = codes "record" ∷ decimal commits ∷ []
 sphere_fields (Plain commits) = codes "plain" ∷ decimal commits ∷ []
 sphere_fields (Complete commits) = codes "complete" ∷ decimal commits ∷ []
 sphere_fields (Diverged index why) = codes "diverged" ∷ decimal index ∷ why_fields why
+sphere_fields (Interval commits end) = interval_fields end
 
 -- `s SPHERE record COMMITS`, or whatever its role and end are
 abbrev pub sphere_line : ℕ → SphereLine → List ℕ

@@ -21,18 +21,22 @@ pub enum Why {
     LeftOver,
 }
 
-/// How a replay ended: with all its commits, their number, or diverged at a commit, by its index.
+/// How a replay ended: with all its commits, their number; with those of its interval, the number of commits up to there; or
+/// diverged at a commit, by its index.
 #[derive(Clone, Copy, Debug, PartialEq, Eq)]
 pub enum End {
     Complete(u32),
+    At(u32),
     Diverged(u32, Why),
 }
 
-/// What a summary says of a sphere: its commits, or where and why its replay diverged.
+/// What a summary says of a sphere: its commits, or where and why its replay diverged. Of the replay of an interval it says
+/// how many of its commits are done, and how it ended.
 #[derive(Clone, Copy, Debug, PartialEq, Eq)]
 pub enum SphereLine {
     Record(u32),
     Plain(u32),
     Complete(u32),
     Diverged(u32, Why),
+    Interval(u32, End),
 }

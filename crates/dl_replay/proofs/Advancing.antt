@@ -18,7 +18,8 @@ use Rattle.spec_log.specs.declared.sizes.Sizes.TheVariants.{Each, Short}
 use Rattle.spec_log.specs.declared.log.LogParts.{LogParts}
 use Rattle.spec_play.proofs.Positions.{position-more}
 use Rattle.spec_play.specs.Effects.{Effect, dma_commit, chunk_effect, serial_effect}
-use Rattle.spec_play.specs.Progress.{Progress, position, no_progress, with_effect, with_dma, Used, nothing_used, with_dma_used}
+use Rattle.spec_play.specs.Progress.{Progress, position, no_progress, with_effect, with_dma, nothing_used, with_dma_used}
+use Rattle.spec_play.specs.declared.used.Used.{Used}
 use Rattle.spec_play.specs.Transfers.{DmaVerdict, DmaGoes}
 use Rattle.spec_play.specs.Turns.{TurnOrEnd, now_at, turn_of, at_end, is_size_used, are_sizes_used, has_left_over}
 use Rattle.spec_play.specs.Verdicts.{LogVerdict, Goes}

@@ -12,7 +12,8 @@ use Rattle.spec_log.specs.declared.records.DmaRecord.{DmaRecord}
 use Rattle.spec_kernel.specs.Copies.{dma_words}
 use Rattle.spec_kernel.specs.Serving.{StepResult, serve}
 use Rattle.spec_play.specs.Effects.{chunk_effect, serial_effect}
-use Rattle.spec_play.specs.Progress.{Progress, position, Used}
+use Rattle.spec_play.specs.Progress.{Progress, position}
+use Rattle.spec_play.specs.declared.used.Used.{Used}
 use Rattle.spec_play.specs.Verdicts.{LogVerdict, Fails, TakenRecord, unless, ended, chunk_why, chunk_verdict, serial_why, given, served_verdict, serial_verdict}
 use Rattle.spec_play.specs.Transfers.{DmaGoes, DmaFails, dma_unless, is_for, transferred, dma_verdict}
 

@@ -6,7 +6,8 @@ use Rattle.dl_entry.specs.declared.Why.{Why}
 use Rattle.spec_isa.specs.declared.thread.Parts.{Parts}
 use Rattle.spec_isa.specs.Runs.{Run}
 use Rattle.spec_play.specs.Effects.{Effect}
-use Rattle.spec_play.specs.Progress.{Progress, with_effect, with_dma, Used, with_dma_used}
+use Rattle.spec_play.specs.Progress.{Progress, with_effect, with_dma, with_dma_used}
+use Rattle.spec_play.specs.declared.used.Used.{Used}
 use Rattle.spec_play.specs.Turns.{Ended, now_at}
 use Rattle.spec_play.specs.Verdicts as log
 use Rattle.spec_play.specs.Transfers.{DmaVerdict, DmaGoes, DmaFails}

@@ -6,7 +6,8 @@ use Rattle.spec_isa.specs.declared.thread.Load.{Load}
 use Rattle.spec_isa.specs.Numbers.{row_places}
 use Rattle.spec_isa.specs.Threads.{started}
 use Rattle.spec_log.specs.declared.LogParts.{LogParts}
-use Rattle.spec_play.specs.Progress.{Progress, no_progress, position, Used, nothing_used}
+use Rattle.spec_play.specs.Progress.{Progress, no_progress, position, nothing_used}
+use Rattle.spec_play.specs.declared.used.Used.{Used}
 use Rattle.spec_play.specs.Turns.{TurnOrEnd, Turn, TurnOfDma, Ended, now_at}
 use Rattle.spec_protocol.specs.machine.Spheres.{Cursor}
 

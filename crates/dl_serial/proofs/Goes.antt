@@ -18,7 +18,8 @@ use Rattle.spec_kernel.specs.Records.{fits}
 use Rattle.spec_kernel.specs.Serving.{StepResult, serve}
 use Rattle.spec_kernel.specs.Interrupts.{takes_interrupt, interrupted}
 use Rattle.spec_play.specs.Effects.{Effect, chunk_commit, chunk_effect, serial_commit, serial_effect}
-use Rattle.spec_play.specs.Progress.{Progress, Used, with_input, with_interrupt}
+use Rattle.spec_play.specs.Progress.{Progress, with_input, with_interrupt}
+use Rattle.spec_play.specs.declared.used.Used.{Used}
 use Rattle.spec_play.specs.Transfers.{DmaVerdict, DmaGoes, dma_verdict}
 use Rattle.spec_play.specs.Verdicts.{LogVerdict, Goes, Fails, TakenRecord, given, with_interrupted, interrupt_at, chunk_verdict, unless, served_verdict, serial_verdict}
 use Rattle.spec_protocol.specs.promises.Sound.{IsSoundIf}

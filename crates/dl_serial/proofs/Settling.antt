@@ -16,7 +16,8 @@ use Rattle.spec_log.specs.Log.{IsLog}
 use Rattle.spec_isa.specs.Runs.{Run}
 use Rattle.spec_engine.specs.Flights.{AreInside}
 use Rattle.spec_play.specs.Effects.{Effect, chunk_commit, serial_commit, dma_commit}
-use Rattle.spec_play.specs.Progress.{Progress, position, with_effect, Used, with_dma, with_dma_used}
+use Rattle.spec_play.specs.Progress.{Progress, position, with_effect, with_dma, with_dma_used}
+use Rattle.spec_play.specs.declared.used.Used.{Used}
 use Rattle.spec_play.specs.Plays.{with_threads, settled, dma_settled}
 use Rattle.spec_play.specs.Turns.{TurnOrEnd, Turn, Ended, at_end, has_left_over, next_actor, now_at, turn_of}
 use Rattle.spec_play.proofs.Going.{turn-lives}

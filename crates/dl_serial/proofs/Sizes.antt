@@ -7,7 +7,8 @@ use Rattle.spec_isa.specs.Runs.{run}
 use Rattle.spec_log.specs.declared.LogParts.{LogParts}
 use Rattle.spec_log.specs.Size.{size_in}
 use Rattle.spec_kernel.specs.Needs.{next_kind}
-use Rattle.spec_play.specs.Progress.{Progress, Used}
+use Rattle.spec_play.specs.Progress.{Progress}
+use Rattle.spec_play.specs.declared.used.Used.{Used}
 use Rattle.spec_play.specs.Turns.{TurnOrEnd, Turn, TurnOfDma, Ended}
 use Rattle.spec_play.specs.Verdicts.{chunk_verdict}
 use Rattle.spec_play.specs.Plays.{Played, size_or_standard, thread_verdict}

@@ -1,6 +1,5 @@
 -- What is promised of replays once finishing has ended.
 use Rattle.std.specs.Prelude.{◌≡◌, ℕ, List, ◌++◌, slice_get, Some}
-use Rattle.spec_log.specs.declared.LogParts.{LogParts}
 use Rattle.spec_protocol.specs.declared.event.Event.{Event}
 use Rattle.spec_protocol.specs.machine.Spheres.{Cursor, Replay, Sphere}
 use Rattle.spec_protocol.specs.machine.Machine.{last_played, ReplaySetup, IsReplayed, SphereSetup, Setup}
@@ -9,13 +8,14 @@ use Rattle.spec_protocol.specs.promises.Promises.{after}
 use Rattle.spec_replay.specs.Promises.{IsPlayed}
 use Rattle.spec_finishing.specs.Ending.{CanFinish}
 
--- sphere i, which was set up from the image to replay the log, has done its log's whole play. Its words are in memory: none is in flight
-pub record HasPlayed (image : SphereSetup) (log : LogParts) (s : Setup) (es : List Event) (i : ℕ) : Type 0 where
+-- sphere i, which was set up from the image to be replayed so, has done the whole play that was asked for. Its words are in
+-- memory: none is in flight
+pub record HasPlayed (image : SphereSetup) (asked : ReplaySetup) (s : Setup) (es : List Event) (i : ℕ) : Type 0 where
   pub sphere : Sphere
   pub cursor : Cursor
   pub there : slice_get (after s es).spheres i ≡ Some sphere
   pub role : sphere.role ≡ Replay cursor
-  pub played : IsPlayed (last_played image log) sphere cursor
+  pub played : IsPlayed asked (last_played image asked) sphere cursor
 
 -- whatever the schedule, after the events that finish it
 abbrev pub ReplaysAreFinished : Type 0
@@ -23,4 +23,4 @@ ReplaysAreFinished =
     (image : SphereSetup) (asked : ReplaySetup) (s : Setup) (es finishing : List Event) (i : ℕ)
     → CanFinish s → FinishesAfter s es finishing → slice_get s.spheres i ≡ Some image
     → image.role ≡ IsReplayed asked
-    → HasPlayed image asked.log s (es ++ finishing) i
+    → HasPlayed image asked s (es ++ finishing) i

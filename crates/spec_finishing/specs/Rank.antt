@@ -2,13 +2,13 @@
 use Rattle.std.specs.Prelude.{ℕ, zero, suc, ◌+◌, ◌-◌, ◌*◌, List, [], ◌∷◌, length, Option, Some, None, if◌then◌else◌}
 use Rattle.dl_entry.specs.declared.Actor.{Actor}
 use Rattle.spec_log.specs.declared.LogParts.{LogParts}
-use Rattle.spec_play.specs.Progress.{position}
 use Rattle.spec_play.specs.Plays.{Played}
+use Rattle.spec_play.specs.Intervals.{commits_in}
 use Rattle.spec_engine.specs.Flights.{Flight, at, told_at}
 use Rattle.spec_engine.specs.Chunks.{is_open}
 use Rattle.spec_protocol.specs.machine.Spheres.{Cursor, Role, Plain, Record, Replay, Sphere, is_over}
 use Rattle.spec_protocol.specs.machine.World.{World, Occupant, core_of}
-use Rattle.spec_protocol.specs.machine.Machine.{first_played, SphereSetup, Setup}
+use Rattle.spec_protocol.specs.machine.Machine.{first_played, ReplaySetup, SphereSetup, Setup}
 use Rattle.spec_protocol.specs.machine.Finishing.{SphereTurn, least, standing}
 use Rattle.spec_finishing.specs.Work.{commits_work}
 
@@ -30,15 +30,20 @@ flights_rank cores (slot ∷ slots) = flight_rank cores slot + flights_rank core
 
 -- ---- replays
 
--- the work that a play has left after its first i commits and that many instructions in pieces of the next: all of it
--- minus theirs
-abbrev pub play_left : LogParts → Played → (i total : ℕ) → ℕ
-play_left log y i total = commits_work log y 0 log.count - commits_work log y 0 i - total
+-- the work that n commits of a play have left after the first i of them and that many instructions in pieces of the next:
+-- all of it minus theirs
+abbrev pub play_left : LogParts → Played → (n i total : ℕ) → ℕ
+play_left log y n i total = commits_work log y 0 n - commits_work log y 0 i - total
 
--- what a replay of the image has left after that many commits: nothing if it has stopped
+-- what a sphere is asked to replay, as its cursor keeps it
+abbrev pub asked_of : Cursor → ReplaySetup
+asked_of b = record { log = b.log; interval = b.interval }
+
+-- what a replay of the image has left after it has done that many commits: nothing if it has stopped
 unfoldable pub replay_left : SphereSetup → Cursor → (commits : ℕ) → ℕ
 replay_left image b i =
-    if is_over b.now then 0 else play_left b.log (first_played image b.log) i b.total
+    if is_over b.now then 0
+    else play_left b.log (first_played image (asked_of b)) (commits_in b.log.count b.interval) i b.total
 
 -- how many events there may be for that much work
 unfoldable pub price : (cores work : ℕ) → ℕ
@@ -47,7 +52,7 @@ price cores work = (cores + 6) * work
 abbrev pub role_rank : (cores : ℕ) → SphereSetup → Sphere → Role → ℕ
 role_rank cores image p Plain = 0
 role_rank cores image p (Record recording) = 0
-role_rank cores image p (Replay b) = price cores (replay_left image b (position p.progress))
+role_rank cores image p (Replay b) = price cores (replay_left image b (length p.progress.commits))
 
 -- of the spheres that began as these images
 abbrev pub spheres_rank : (cores : ℕ) → List SphereSetup → List Sphere → ℕ

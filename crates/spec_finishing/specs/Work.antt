@@ -10,6 +10,7 @@ use Rattle.spec_play.specs.Turns.{TurnOrEnd, Turn, TurnOfDma, Ended}
 use Rattle.spec_play.specs.Verdicts.{LogVerdict, Goes, Fails, serial_verdict}
 use Rattle.spec_play.specs.Transfers.{DmaVerdict, DmaGoes, DmaFails, dma_verdict}
 use Rattle.spec_play.specs.Plays.{Played, size_or_standard, plays}
+use Rattle.spec_play.specs.Intervals.{commits_in}
 use Rattle.spec_protocol.specs.machine.Spheres.{Role, Plain, Record, Replay, Sphere}
 use Rattle.spec_protocol.specs.machine.Commits.{MovedSphere, serial_moved, dma_moved}
 use Rattle.spec_protocol.specs.machine.World.{Numbers, MoveKind, OfChunk, OfSerial, OfDma, OfRaise, Move}
@@ -52,11 +53,12 @@ abbrev pub commits_work : LogParts → Played → (i commits : ℕ) → ℕ
 commits_work log y i zero = 0
 commits_work log y i (suc n) = commit_work log (plays log y i) + commits_work log y (suc i) n
 
--- of a replayed sphere: that of its log's play
+-- of a replayed sphere: that of its log's play, of the commits that are replayed
 abbrev pub setup_work : SphereSetup → RoleSetup → ℕ
 setup_work image IsPlain = 0
 setup_work image (IsRecorded asked) = 0
-setup_work image (IsReplayed asked) = commits_work asked.log (first_played image asked.log) 0 asked.log.count
+setup_work image (IsReplayed asked) =
+    commits_work asked.log (first_played image asked) 0 (commits_in asked.log.count asked.interval)
 
 -- of the plays of all spheres that are replayed
 abbrev pub plays_work : List SphereSetup → ℕ

@@ -8,10 +8,10 @@ use Rattle.spec_play.specs.Turns.{TurnOrEnd}
 use Rattle.spec_play.specs.Plays.{Played, opened, plays}
 use Rattle.spec_play.specs.Walks.{walk_end, walked_at}
 use Rattle.spec_play.proofs.Going.{plays-first}
-use Rattle.spec_interval.specs.States.{State, state_of, resumed}
+use Rattle.spec_play.specs.States.{State, state_of, resumed}
 use Rattle.spec_interval.specs.Slices.{Slice, slice_of}
 use Rattle.spec_interval.specs.Promise.{IsResumed, SlicesResume}
-use Rattle.spec_interval.proofs.Resuming.{plays_resume}
+use Rattle.spec_play.proofs.Resuming.{plays_resume}
 
 -- past the first list, of two, the rest is the second's
 drop_over : (xs ys : List Commit) (i : ℕ) → length xs ≤ i → drop i (xs ++ ys) ≡ drop (i - length xs) ys

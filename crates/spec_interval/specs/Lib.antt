@@ -1,4 +1,2 @@
-pub mod States
 pub mod Slices
-pub mod Intervals
 pub mod Promise

@@ -14,7 +14,8 @@ use Rattle.spec_kernel.specs.Needs.{next_kind, need}
 use Rattle.spec_kernel.specs.Interrupts.{takes_interrupt, interrupted}
 use Rattle.spec_kernel.specs.Serving.{serve}
 use Rattle.spec_play.specs.Effects.{Effect, chunk_effect, serial_effect, dma_commit}
-use Rattle.spec_play.specs.Progress.{Progress, thread_of, last_thread, with_effect, with_dma, Used, with_interrupt}
+use Rattle.spec_play.specs.Progress.{Progress, thread_of, last_thread, with_effect, with_dma, with_interrupt}
+use Rattle.spec_play.specs.declared.used.Used.{Used}
 use Rattle.spec_play.specs.Turns.{TurnOrEnd, Turn, TurnOfDma, Ended}
 use Rattle.spec_play.specs.Verdicts.{LogVerdict, Goes, Fails, unless, interrupt_at, with_interrupted, ended, chunk_why, chunk_verdict, TakenRecord, given, serial_why, served_verdict, serial_verdict}
 use Rattle.spec_play.specs.Transfers.{DmaVerdict, DmaGoes, DmaFails, dma_verdict}

@@ -7,3 +7,5 @@ pub mod Walking
 pub mod Lasts
 mod Examples
 mod Records
+pub mod Resuming
+pub mod Within

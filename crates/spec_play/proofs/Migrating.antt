@@ -12,7 +12,8 @@ use Rattle.spec_log.specs.Head.{head_in}
 use Rattle.spec_log.specs.Size.{size_in}
 use Rattle.spec_kernel.specs.Interrupts.{is_live}
 use Rattle.spec_kernel.specs.Needs.{next_kind, need}
-use Rattle.spec_play.specs.Progress.{Progress, position, with_effect, with_dma, Used, with_dma_used}
+use Rattle.spec_play.specs.Progress.{Progress, position, with_effect, with_dma, with_dma_used}
+use Rattle.spec_play.specs.declared.used.Used.{Used}
 use Rattle.spec_play.specs.Turns.{TurnOrEnd, Turn, TurnOfDma, Ended, has_left_over, at_end, turn_of, now_at}
 use Rattle.spec_play.specs.Verdicts.{LogVerdict, Goes, Fails, unless, serial_why, TakenRecord, given, served_verdict, chunk_verdict, serial_verdict}
 use Rattle.spec_play.specs.Transfers.{DmaVerdict, DmaGoes, DmaFails, dma_verdict}

@@ -9,3 +9,6 @@ pub mod Noted
 pub mod Walks
 pub mod Lasts
 pub mod Migration
+pub mod States
+pub mod Resuming
+pub mod Intervals

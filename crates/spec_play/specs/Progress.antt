@@ -4,6 +4,7 @@ use Rattle.std.specs.Option.{option_or}
 use Rattle.dl_entry.specs.declared.Actor.{Actor}
 use Rattle.dl_entry.specs.declared.Commit.{Commit}
 use Rattle.dl_entry.specs.declared.Request.{Request}
+use Rattle.spec_play.specs.declared.used.Used.{Used}
 use Rattle.spec_play.specs.Effects.{Effect, dma_commit}
 
 -- the whole commits that are done, the index of the first of them, the thread that committed last, and the outstanding
@@ -40,11 +41,6 @@ abbrev pub with_dma : Progress → Progress
 with_dma p = record p { commits = p.commits ++ dma_commit ∷ []; request = None }
 
 -- how many input, interrupt and DMA records of a log have been taken
-pub record Used : Type 0 where
-  pub inputs : ℕ
-  pub interrupts : ℕ
-  pub dmas : ℕ
-
 abbrev pub nothing_used : Used
 nothing_used = record { inputs = 0; interrupts = 0; dmas = 0 }
 

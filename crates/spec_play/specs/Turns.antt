@@ -10,7 +10,8 @@ use Rattle.spec_log.specs.declared.Sizes.{Sizes}
 use Rattle.spec_log.specs.declared.LogParts.{LogParts}
 use Rattle.spec_log.specs.Head.{head}
 use Rattle.spec_kernel.specs.Interrupts.{is_live}
-use Rattle.spec_play.specs.Progress.{Progress, position, Used}
+use Rattle.spec_play.specs.Progress.{Progress, position}
+use Rattle.spec_play.specs.declared.used.Used.{Used}
 
 pub data TurnOrEnd : Type 0 where
   Turn : (thread : ℕ) → TurnOrEnd

@@ -13,7 +13,8 @@ use Rattle.spec_kernel.specs.Records.{fits}
 use Rattle.spec_kernel.specs.Interrupts.{takes_interrupt, interrupted}
 use Rattle.spec_kernel.specs.Serving.{serve}
 use Rattle.spec_play.specs.Effects.{Effect, chunk_effect, serial_effect}
-use Rattle.spec_play.specs.Progress.{Progress, Used, with_interrupt, with_input}
+use Rattle.spec_play.specs.Progress.{Progress, with_interrupt, with_input}
+use Rattle.spec_play.specs.declared.used.Used.{Used}
 
 -- what the commit leaves, and how much of the log is used then; or the reason why it fails
 pub data LogVerdict : Type 0 where

@@ -2,8 +2,15 @@
 //! the eight reasons for which a play leaves its log; and when a log fits an image.
 #![tactic(auto)]
 
+mod interval;
 mod promise;
+mod used;
 mod walk_end;
 
-pub use promise::{migration_keeps_plays, plays_keep_lasts, recorders_keep_logs, walks_are_plays};
+pub use interval::Interval;
+pub use promise::{
+    intervals_are_within, migration_keeps_plays, plays_go_on, plays_keep_lasts, plays_resume,
+    recorders_keep_logs, states_are_bounded, walks_are_plays,
+};
+pub use used::Used;
 pub use walk_end::WalkEnd;

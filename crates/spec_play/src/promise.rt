@@ -2,6 +2,8 @@
 ghost use Rattle.spec_play.specs.Lasts.{PlaysKeepLasts};
 ghost use Rattle.spec_play.specs.Migration.{MigrationKeepsPlays};
 ghost use Rattle.spec_play.specs.Noted.{RecordersKeepLogs};
+ghost use Rattle.spec_play.specs.Resuming.{PlaysGoOn, PlaysResume, StatesAreBounded};
+ghost use Rattle.spec_play.specs.Intervals.{IntervalsAreWithin};
 ghost use Rattle.spec_play.specs.Walks.{WalksArePlays};
 
 /// With each commit, record and interrupt that is noted, the log of what a recorder keeps grows as a recording's log does.
@@ -26,4 +28,26 @@ pub fn plays_keep_lasts()
 /// its end. So it fits an image that it fitted before.
 pub fn migration_keeps_plays()
     ensures { MigrationKeepsPlays }
+{}
+
+/// To play on from a play is to play longer.
+pub fn plays_go_on()
+    ensures { PlaysGoOn }
+{}
+
+/// The play from a state of a log's play does what that play does next: after as many commits its state, its turn or end,
+/// and the commits since then are the same.
+pub fn plays_resume()
+    ensures { PlaysResume }
+{}
+
+/// After some number of commits of a log's play, no more commits are done than the log has; no thread has done more than that
+/// number, and no more interrupts were taken.
+pub fn states_are_bounded()
+    ensures { StatesAreBounded }
+{}
+
+/// The interval that a plan asks for is in order and within the log, if the plan names its ends in order.
+pub fn intervals_are_within()
+    ensures { IntervalsAreWithin }
 {}

@@ -10,7 +10,9 @@ use Rattle.spec_kernel.specs.Interrupts.{is_live}
 use Rattle.spec_play.specs.Progress.{position}
 use Rattle.spec_play.specs.Turns.{TurnOrEnd, Turn, TurnOfDma, Ended}
 use Rattle.spec_play.specs.Plays.{Played, play_one}
+use Rattle.spec_play.specs.Intervals.{now_of}
 use Rattle.spec_protocol.specs.machine.Spheres.{Cursor, Replay, Sphere, whole_limit}
+use Rattle.spec_protocol.specs.machine.Machine.{ReplaySetup}
 
 -- ---- the state
 
@@ -49,15 +51,16 @@ pub record EndsWithin (log : LogParts) (y : Played) (b : Cursor) : Type 0 where
 -- ---- both
 
 -- the replayed sphere p, with its current memory, has followed the play as far as y
-pub record Follows (log : LogParts) (y : Played) (p : Sphere) : Type 0 where
+pub record Follows (asked : ReplaySetup) (y : Played) (p : Sphere) : Type 0 where
   pub cursor : Cursor
   pub role : p.role ≡ Replay cursor
-  pub same_log : cursor.log ≡ log
+  pub same_log : cursor.log ≡ asked.log
+  pub same_interval : cursor.interval ≡ asked.interval
   -- the same whole commits, with their loads and outputs, the same request, and the same parts of the log used
   pub progress : p.progress ≡ y.progress
   pub used : cursor.used ≡ y.used
   -- it is the same actor's turn, or both have ended in the same way; or the replay has, within the play's next commit
-  pub now : (cursor.now ≡ y.now) ⊎ EndsWithin log y cursor
+  pub now : (cursor.now ≡ now_of asked.interval asked.log y) ⊎ EndsWithin asked.log y cursor
   -- if the play has ended, so has the replay
-  pub ended : (how : End) → y.now ≡ Ended how → cursor.now ≡ Ended how
-  pub state : StandsAt log y y.now p cursor
+  pub ended : (how : End) → now_of asked.interval asked.log y ≡ Ended how → cursor.now ≡ Ended how
+  pub state : StandsAt asked.log y (now_of asked.interval asked.log y) p cursor

@@ -1,10 +1,11 @@
 -- What is promised of replayed spheres, for every setup within its limits and every list of events.
-use Rattle.std.specs.Prelude.{◌≡◌, ℕ, ◌<◌, Bool, true, false, slice_get, Some, List}
+use Rattle.std.specs.Prelude.{◌≡◌, ℕ, ◌<◌, Bool, true, false, length, slice_get, Some, List}
 use Rattle.dl_entry.specs.declared.End.{End}
 use Rattle.dl_entry.specs.declared.Why.{Why}
 use Rattle.spec_play.specs.Progress.{position}
 use Rattle.spec_play.specs.Turns.{Ended}
 use Rattle.spec_play.specs.Plays.{Played, plays}
+use Rattle.spec_play.specs.Intervals.{now_of}
 use Rattle.spec_protocol.specs.declared.event.Event.{Event}
 use Rattle.spec_protocol.specs.machine.Spheres.{Cursor, Replay, Sphere, is_over}
 use Rattle.spec_protocol.specs.machine.Machine.{last_played, first_played, ReplaySetup, IsReplayed, SphereSetup, Setup}
@@ -25,12 +26,13 @@ pub record IsReplay
   pub standard : 0 < asked.log.s
   pub shown : slice_get (shown_of (after s es)).spheres i ≡ Some p
 
--- it has followed the play of its log on its image as far as the number of its whole commits
+-- it has followed the play of its log on its image, from the first commit that is replayed on, for as many whole commits as
+-- it has done
 abbrev pub ReplaysArePlays : Type 0
 ReplaysArePlays =
     (image : SphereSetup) (asked : ReplaySetup) (s : Setup) (es : List Event) (i : ℕ) (p : Sphere)
     → IsReplay image asked s es i p
-    → Follows asked.log (plays asked.log (first_played image asked.log) (position p.progress)) p
+    → Follows asked (plays asked.log (first_played image asked) (length p.progress.commits)) p
 
 -- ---- a replay that has stopped has done the whole play
 
@@ -48,13 +50,14 @@ is_between Why.LeftOver = true
 -- complete, or diverged between two commits and not within one
 abbrev pub ends_between : End → Bool
 ends_between (End.Complete commits) = true
+ends_between (End.At commits) = true
 ends_between (End.Diverged commits why) = is_between why
 
 -- it has the play's commits, with their loads and outputs, and the play's end; and the play's memory and threads, unless it
 -- has ended within a commit, of which some pieces may be done
-pub record IsPlayed (y : Played) (p : Sphere) (b : Cursor) : Type 0 where
+pub record IsPlayed (asked : ReplaySetup) (y : Played) (p : Sphere) (b : Cursor) : Type 0 where
   pub progress : p.progress ≡ y.progress
-  pub now : b.now ≡ y.now
+  pub now : b.now ≡ now_of asked.interval asked.log y
   pub memory : (how : End) → b.now ≡ Ended how → ends_between how ≡ true → p.memory ≡ y.memory
   pub threads : (how : End) → b.now ≡ Ended how → ends_between how ≡ true → p.threads ≡ y.threads
 
@@ -63,7 +66,7 @@ StoppedArePlayed =
     (image : SphereSetup) (asked : ReplaySetup)
     (s : Setup) (es : List Event) (i : ℕ) (p : Sphere) (b : Cursor)
     → IsReplay image asked s es i p → p.role ≡ Replay b → is_over b.now ≡ true
-    → IsPlayed (last_played image asked.log) p b
+    → IsPlayed asked (last_played image asked) p b
 
 -- ---- all replays of the same log on the same image agree
 

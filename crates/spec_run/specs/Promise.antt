@@ -4,19 +4,22 @@ use Rattle.dl_account.specs.Account.{account_of}
 use Rattle.dl_entry.specs.declared.End.{End}
 use Rattle.spec_log.specs.declared.LogParts.{LogParts}
 use Rattle.spec_play.specs.Progress.{position}
+use Rattle.spec_play.specs.declared.interval.Interval.{Interval}
 use Rattle.spec_play.specs.Plays.{FitsImage}
+use Rattle.spec_play.specs.Intervals.{IsWithin, now_of}
+use Rattle.spec_interval.specs.Slices.{slice}
 use Rattle.spec_protocol.specs.declared.event.Event.{Event}
 use Rattle.spec_protocol.specs.machine.Spheres.{Role, Plain, Record, Replay, Cursor, Sphere}
 use Rattle.spec_protocol.specs.machine.Placing.{replays}
 use Rattle.spec_protocol.specs.machine.World.{sphere_at}
-use Rattle.spec_protocol.specs.machine.Machine.{ReplaySetup, RecordSetup, RoleSetup, IsPlain, IsRecorded, IsReplayed, SphereSetup, Setup}
+use Rattle.spec_protocol.specs.machine.Machine.{ReplaySetup, all_of, RecordSetup, RoleSetup, IsPlain, IsRecorded, IsReplayed, SphereSetup, Setup}
 use Rattle.spec_protocol.specs.machine.Serial.{serial_start, CanDoAll}
 use Rattle.spec_protocol.specs.machine.Logged.{sphere_in}
 use Rattle.spec_protocol.specs.promises.Sound.{IsWithinLimits, image_at}
 use Rattle.spec_protocol.specs.promises.Promises.{IsSetup, after}
 use Rattle.spec_finishing.specs.Ending.{CanFinish, IsAtEnd}
 use Rattle.spec_finishing.specs.Function.{finished}
-use Rattle.spec_run.specs.Runs.{points_of, executed, played, end_of}
+use Rattle.spec_run.specs.Runs.{points_of, executed, played, played_end, end_of}
 use Rattle.spec_run.specs.Texts.{account_as, account_text, console_text, executed_account, log_text, log_of_points, played_account}
 
 -- ---- a sphere
@@ -30,7 +33,7 @@ end_as (Replay b) n = end_of b.now
 -- the account of what a sphere holds
 abbrev pub account_held : Sphere → List ℕ
 account_held p =
-    account_of p.progress.commits p.threads p.progress.request p.memory (end_as p.role (position p.progress))
+    account_of p.progress.first p.progress.commits p.threads p.progress.request p.memory (end_as p.role (position p.progress))
 
 -- a sphere is replayed if it was set up so, and a recording has this log
 abbrev pub HasRole : Setup → (schedule : List Event) → (i : ℕ) → RoleSetup → Role → Type 0
@@ -51,7 +54,7 @@ pub record IsDescribed (s : Setup) (es : List Event) (i : ℕ) (image : SphereSe
   pub played : (asked : ReplaySetup) (b : Cursor)
       → image.role ≡ IsReplayed asked
       → (sphere_at (finished s es) i).role ≡ Replay b
-      → b.now ≡ (played asked.log image).now
+      → b.now ≡ now_of asked.interval asked.log (played asked image)
 
 -- for every setup that can be finished and every schedule
 abbrev pub SpheresAreDescribed : Type 0
@@ -77,7 +80,7 @@ RunsAreDescribed = (s : Setup) (es : List Event) → IsSetup s → IsRunDescribe
 -- a recorded log fits its image, and the account of its play there is the recorded one, byte for byte
 pub record IsReproduced (image : SphereSetup) (log : LogParts) (p : Sphere) : Type 0 where
   pub fits : FitsImage log image.memory image.entry
-  pub account : played_account (played log image) ≡ executed_account p
+  pub account : played_account (played (all_of log) image) (played_end (all_of log) image) ≡ executed_account p
 
 abbrev pub RecordingsAreReproduced : Type 0
 RecordingsAreReproduced =
@@ -87,8 +90,18 @@ RecordingsAreReproduced =
     → image.role ≡ IsRecorded asked
     → IsReproduced image (log_of_points s es i asked) (sphere_in (executed s es) i)
 
--- two runs that agree on a sphere's image, memory size and log write the same account of it, whatever else differs: cores,
--- buffers, windows, signatures, schedules, devices and the other spheres
+-- the account of a replayed interval is the slice of its log's play on its image, from the interval's first commit up to its
+-- last
+abbrev pub IntervalsAreSlices : Type 0
+IntervalsAreSlices =
+    (image : SphereSetup) (log : LogParts) (i : Interval)
+    → IsWithin log.count i
+    → let asked = record { log = log; interval = Some i } in
+    played_account (played asked image) (played_end asked image)
+    ≡ (slice log image.memory image.entry i.first i.last).text
+
+-- two runs that agree on a sphere's image, memory size, log and interval write the same account of it, whatever else differs:
+-- cores, buffers, windows, signatures, schedules, devices and the other spheres
 abbrev pub AccountsAgree : Type 0
 AccountsAgree =
     (s z : Setup) (es fs : List Event) (i j : ℕ) (asked : ReplaySetup)

@@ -4,11 +4,11 @@ use Rattle.std.specs.Prelude.{Bool, true, false, ◌||◌, List, [], ◌∷◌}
 use Rattle.dl_entry.specs.declared.End.{End}
 use Rattle.dl_entry.specs.declared.Point.{Point}
 use Rattle.dl_entry.specs.declared.Counts.{Counts}
-use Rattle.spec_log.specs.declared.LogParts.{LogParts}
 use Rattle.spec_play.specs.Turns.{TurnOrEnd, Turn, TurnOfDma, Ended}
 use Rattle.spec_play.specs.Plays.{Played}
+use Rattle.spec_play.specs.Intervals.{now_of}
 use Rattle.spec_protocol.specs.declared.event.Event.{Event}
-use Rattle.spec_protocol.specs.machine.Machine.{last_played, RoleSetup, IsPlain, IsRecorded, IsReplayed, SphereSetup, Setup}
+use Rattle.spec_protocol.specs.machine.Machine.{last_played, ReplaySetup, RoleSetup, IsPlain, IsRecorded, IsReplayed, SphereSetup, Setup}
 use Rattle.spec_protocol.specs.machine.Serial.{SerialState, serial}
 use Rattle.spec_finishing.specs.Function.{finished}
 
@@ -29,9 +29,9 @@ executed s es = serial s (points_of s es)
 
 -- ---- the logs played
 
--- the play of a log on an image
-abbrev pub played : LogParts → SphereSetup → Played
-played log image = last_played image log
+-- the play of a log on an image, as far as it is replayed
+abbrev pub played : ReplaySetup → SphereSetup → Played
+played asked image = last_played image asked
 
 -- how a whole play ended, as each has
 abbrev pub end_of : TurnOrEnd → End
@@ -39,15 +39,20 @@ end_of (Ended how) = how
 end_of (Turn thread) = End.Complete 0
 end_of TurnOfDma = End.Complete 0
 
+-- how what is replayed ended
+abbrev pub played_end : ReplaySetup → SphereSetup → End
+played_end asked image = end_of (now_of asked.interval asked.log (played asked image))
+
 abbrev pub has_diverged : End → Bool
 has_diverged (End.Complete commits) = false
+has_diverged (End.At commits) = false
 has_diverged (End.Diverged index why) = true
 
--- whether the play of the log that is replayed on the image, if one is, diverges
+-- whether what is replayed on the image, if anything is, diverges
 abbrev pub diverges_as : SphereSetup → RoleSetup → Bool
 diverges_as image IsPlain = false
 diverges_as image (IsRecorded asked) = false
-diverges_as image (IsReplayed asked) = has_diverged (end_of (played asked.log image).now)
+diverges_as image (IsReplayed asked) = has_diverged (played_end asked image)
 
 -- whether that of any of these spheres does
 abbrev pub diverges : List SphereSetup → Bool

@@ -1,6 +1,6 @@
 -- The texts of a run: the log and the account of each sphere, the console, the report and the summary. Every value in them
 -- comes from executing the points whole, one at a time, or from playing a log on its image.
-use Rattle.std.specs.Prelude.{ℕ, suc, List, [], ◌∷◌}
+use Rattle.std.specs.Prelude.{ℕ, suc, List, [], ◌∷◌, length, Option, Some, None}
 use Rattle.dl_account.specs.Account.{account_of}
 use Rattle.dl_account.specs.Report.{report_of}
 use Rattle.dl_account.specs.Summary.{summary_of}
@@ -8,6 +8,7 @@ use Rattle.dl_entry.specs.declared.End.{End}
 use Rattle.dl_entry.specs.declared.SphereLine.{SphereLine}
 use Rattle.spec_log.specs.declared.LogParts.{LogParts}
 use Rattle.spec_log.specs.Bytes.{log_bytes}
+use Rattle.spec_play.specs.declared.interval.Interval.{Interval}
 use Rattle.spec_play.specs.Progress.{position}
 use Rattle.spec_play.specs.Plays.{Played}
 use Rattle.spec_protocol.specs.declared.event.Event.{Event}
@@ -16,7 +17,7 @@ use Rattle.spec_protocol.specs.machine.Machine.{RecordSetup, RoleSetup, IsPlain,
 use Rattle.spec_protocol.specs.machine.Serial.{SerialState, serial_start}
 use Rattle.spec_protocol.specs.machine.Logged.{sphere_in, supplied, logged}
 use Rattle.spec_protocol.specs.promises.Sound.{image_at}
-use Rattle.spec_run.specs.Runs.{points_of, counts_of, executed, played, end_of}
+use Rattle.spec_run.specs.Runs.{points_of, counts_of, executed, played, played_end}
 
 -- ---- logs
 
@@ -38,17 +39,17 @@ log_text s es i = log_as s es i (image_at s i).role
 -- of a sphere that was executed
 abbrev pub executed_account : Sphere → List ℕ
 executed_account p =
-    account_of p.progress.commits p.threads p.progress.request p.memory (End.Complete (position p.progress))
+    account_of p.progress.first p.progress.commits p.threads p.progress.request p.memory (End.Complete (position p.progress))
 
--- of a play
-abbrev pub played_account : Played → List ℕ
-played_account y = account_of y.progress.commits y.threads y.progress.request y.memory (end_of y.now)
+-- of a play that ended so
+abbrev pub played_account : Played → End → List ℕ
+played_account y how = account_of y.progress.first y.progress.commits y.threads y.progress.request y.memory how
 
--- a replayed sphere's account is that of its log's play on its image, and no more is told of it
+-- a replayed sphere's account is that of its log's play on its image, or a slice of it, and no more is told of it
 abbrev pub account_as : SphereSetup → (executed : Sphere) → RoleSetup → List ℕ
 account_as image p IsPlain = executed_account p
 account_as image p (IsRecorded asked) = executed_account p
-account_as image p (IsReplayed asked) = played_account (played asked.log image)
+account_as image p (IsReplayed asked) = played_account (played asked image) (played_end asked image)
 
 unfoldable pub account_text : Setup → (schedule : List Event) → (i : ℕ) → List ℕ
 account_text s es i = let image = image_at s i in account_as image (sphere_in (executed s es) i) image.role
@@ -62,13 +63,19 @@ console_text s es = (executed s es).devices.console
 
 abbrev pub line_of_end : End → SphereLine
 line_of_end (End.Complete commits) = SphereLine.Complete commits
+line_of_end (End.At commits) = SphereLine.Complete commits
 line_of_end (End.Diverged index why) = SphereLine.Diverged index why
 
--- what the summary says of a sphere: its commits, or how its log's play ended
+-- of a replay that ended so: if it was of an interval, with the commits that it did
+abbrev pub replay_line : Option Interval → Played → End → SphereLine
+replay_line None y how = line_of_end how
+replay_line (Some i) y how = SphereLine.Interval (length y.progress.commits) how
+
+-- what the summary says of a sphere: its commits, or how its replay ended
 abbrev pub line_as : SphereSetup → (executed : Sphere) → RoleSetup → SphereLine
 line_as image p IsPlain = SphereLine.Plain (position p.progress)
 line_as image p (IsRecorded asked) = SphereLine.Record (position p.progress)
-line_as image p (IsReplayed asked) = line_of_end (end_of (played asked.log image).now)
+line_as image p (IsReplayed asked) = replay_line asked.interval (played asked image) (played_end asked image)
 
 -- of the spheres from number i on
 abbrev pub lines_from : SerialState → (i : ℕ) → List SphereSetup → List SphereLine

@@ -8,7 +8,8 @@ use Rattle.dl_entry.specs.declared.Commit.{Commit}
 use Rattle.spec_log.specs.declared.LogParts.{LogParts}
 use Rattle.spec_kernel.specs.Interrupts.{interrupted}
 use Rattle.spec_play.specs.Effects.{Effect, counted, chunk_commit}
-use Rattle.spec_play.specs.Progress.{Progress, Used, thread_of, last_thread}
+use Rattle.spec_play.specs.Progress.{Progress, thread_of, last_thread}
+use Rattle.spec_play.specs.declared.used.Used.{Used}
 use Rattle.spec_play.specs.Turns.{Turn, now_at}
 use Rattle.spec_play.specs.Verdicts.{Goes, interrupt_at, chunk_verdict}
 use Rattle.spec_play.specs.Plays.{Played, size_or_standard, play_now}

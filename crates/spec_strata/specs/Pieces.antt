@@ -5,7 +5,7 @@ use Rattle.spec_isa.specs.Words.{Stored, lays}
 use Rattle.spec_isa.specs.Runs.{run, Run}
 use Rattle.spec_log.specs.declared.LogParts.{LogParts}
 use Rattle.spec_play.specs.Effects.{Effect, chunk_commit}
-use Rattle.spec_play.specs.Progress.{Used}
+use Rattle.spec_play.specs.declared.used.Used.{Used}
 use Rattle.spec_play.specs.Verdicts.{Goes, chunk_verdict}
 use Rattle.spec_play.specs.Plays.{Played, with_threads}
 use Rattle.spec_strata.specs.InPlay.{IsStratum, rule_of, IsLike, in_stratum, commits_of}

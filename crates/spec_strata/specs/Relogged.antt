@@ -6,7 +6,7 @@ use Rattle.spec_kernel.specs.Needs.{next_kind}
 use Rattle.dl_entry.specs.declared.Actor.{Actor}
 use Rattle.spec_log.specs.declared.LogParts.{LogParts}
 use Rattle.spec_play.specs.Effects.{Effect}
-use Rattle.spec_play.specs.Progress.{Used}
+use Rattle.spec_play.specs.declared.used.Used.{Used}
 use Rattle.spec_play.specs.Turns.{TurnOrEnd, Turn, TurnOfDma, Ended}
 use Rattle.spec_play.specs.Verdicts.{Goes, serial_why}
 use Rattle.spec_play.specs.Plays.{Played, play_now, thread_verdict}

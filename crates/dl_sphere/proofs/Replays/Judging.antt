@@ -9,7 +9,8 @@ use Rattle.spec_log.specs.declared.LogParts.{LogParts}
 use Rattle.spec_kernel.specs.Interrupts.{takes_interrupt, interrupted}
 use Rattle.spec_play.specs.Effects.{Effect, chunk_commit, chunk_effect, serial_commit, serial_effect}
 use Rattle.spec_kernel.specs.Serving.{serve}
-use Rattle.spec_play.specs.Progress.{Progress, Used, with_interrupt}
+use Rattle.spec_play.specs.Progress.{Progress, with_interrupt}
+use Rattle.spec_play.specs.declared.used.Used.{Used}
 use Rattle.spec_play.specs.Verdicts.{LogVerdict, Goes, Fails, TakenRecord, with_interrupted, interrupt_at, chunk_verdict, unless, served_verdict, serial_verdict}
 
 -- ---- the commit of a verdict

@@ -21,7 +21,8 @@ use Rattle.spec_kernel.specs.Needs.{Need, Write, Read, Random, Clock, MomentWord
 use Rattle.spec_kernel.specs.Calls.{called}
 use Rattle.spec_kernel.specs.Serving.{StepResult, copy_of, outside_called, inside_called, is_outside, device_loaded, device_stored, serve_kind, serve}
 use Rattle.spec_play.specs.Effects.{Effect, serial_effect}
-use Rattle.spec_play.specs.Progress.{Progress, position, Used}
+use Rattle.spec_play.specs.Progress.{Progress, position}
+use Rattle.spec_play.specs.declared.used.Used.{Used}
 use Rattle.spec_play.specs.Turns.{TurnOrEnd, Turn, TurnOfDma, Ended}
 use Rattle.spec_play.specs.Verdicts.{LogVerdict, Goes, Fails, unless, interrupt_at, with_interrupted, TakenRecord, given, serial_why, served_verdict, serial_verdict}
 use Rattle.spec_play.specs.Transfers.{DmaVerdict, DmaGoes, DmaFails, is_for, transferred, dma_unless, dma_verdict}

@@ -21,7 +21,8 @@ use Rattle.spec_log.specs.Size.{is_thread, sizes_of_thread, size_in}
 use Rattle.spec_log.specs.Noting.{Kept, kept_size, limit_by, sizes_used, kept_head, log_of}
 use Rattle.spec_kernel.specs.Interrupts.{takes_interrupt, interrupted}
 use Rattle.spec_play.specs.Effects.{Effect, chunk_effect}
-use Rattle.spec_play.specs.Progress.{Used, with_interrupt}
+use Rattle.spec_play.specs.Progress.{with_interrupt}
+use Rattle.spec_play.specs.declared.used.Used.{Used}
 use Rattle.spec_play.specs.Turns.{is_size_used, are_sizes_used}
 use Rattle.spec_play.specs.Verdicts.{LogVerdict, Goes, Fails, unless, interrupt_at, with_interrupted, ended, chunk_why, chunk_verdict}
 use Rattle.spec_protocol.specs.promises.Judging.{why_of, interrupt_why, ChunksAreJudged, AreCommits, ShortSizesAreUsed, SizesAreUsed, DueAreCounted, LogsAreSeenAlike}

@@ -24,7 +24,8 @@ use Rattle.spec_kernel.specs.Interrupts.{takes_interrupt, interrupted}
 use Rattle.spec_kernel.specs.Serving.{StepResult, copy_of, outside_called, is_outside, inside_called, device_loaded, device_stored, serve_kind, serve, console_written}
 use Rattle.spec_kernel.specs.Calls.{called}
 use Rattle.spec_play.specs.Effects.{Effect, chunk_effect, serial_effect, counted}
-use Rattle.spec_play.specs.Progress.{Progress, Used, with_interrupt}
+use Rattle.spec_play.specs.Progress.{Progress, with_interrupt}
+use Rattle.spec_play.specs.declared.used.Used.{Used}
 use Rattle.spec_play.specs.Turns.{TurnOrEnd, Turn, TurnOfDma, Ended}
 use Rattle.spec_play.specs.Verdicts.{LogVerdict, Goes, Fails, unless, interrupt_at, with_interrupted, chunk_why, chunk_verdict, TakenRecord, given, serial_why, served_verdict, serial_verdict}
 use Rattle.spec_play.specs.Plays.{with_threads}

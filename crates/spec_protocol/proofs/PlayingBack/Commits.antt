@@ -9,7 +9,8 @@ use Rattle.spec_log.specs.declared.Interrupt.{Interrupt}
 use Rattle.spec_log.specs.declared.LogParts.{LogParts}
 use Rattle.spec_kernel.specs.Interrupts.{takes_interrupt, is_live}
 use Rattle.spec_play.specs.Effects.{Effect}
-use Rattle.spec_play.specs.Progress.{Progress, with_effect, Used, position}
+use Rattle.spec_play.specs.Progress.{Progress, with_effect, position}
+use Rattle.spec_play.specs.declared.used.Used.{Used}
 use Rattle.spec_play.specs.Verdicts.{Goes, interrupt_at, with_interrupted}
 use Rattle.spec_play.specs.Plays.{Played, settled, play_thread, play_now, play_one}
 use Rattle.spec_protocol.specs.machine.Spheres.{Sphere}

@@ -17,7 +17,8 @@ use Rattle.spec_kernel.specs.Interrupts.{is_live, has_handler, takes_interrupt, 
 use Rattle.spec_kernel.specs.Needs.{next_kind}
 use Rattle.spec_kernel.specs.Calls.{has_ended}
 use Rattle.spec_play.specs.Effects.{Effect}
-use Rattle.spec_play.specs.Progress.{Progress, position, with_effect, Used, with_interrupt}
+use Rattle.spec_play.specs.Progress.{Progress, position, with_effect, with_interrupt}
+use Rattle.spec_play.specs.declared.used.Used.{Used}
 use Rattle.spec_play.specs.Turns.{Turn, turn_of, turn_of_thread, next_actor, at_end, has_left_over, now_at}
 use Rattle.spec_play.specs.Verdicts.{Goes, Fails, interrupt_at, with_interrupted, ended}
 use Rattle.spec_log.specs.Noting.{order_with}

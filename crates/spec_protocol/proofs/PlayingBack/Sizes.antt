@@ -10,7 +10,8 @@ use Rattle.spec_isa.specs.Runs.{Run}
 use Rattle.spec_log.specs.declared.LogParts.{LogParts}
 use Rattle.spec_log.specs.Size.{size_in}
 use Rattle.spec_play.specs.Effects.{chunk_effect}
-use Rattle.spec_play.specs.Progress.{Progress, Used}
+use Rattle.spec_play.specs.Progress.{Progress}
+use Rattle.spec_play.specs.declared.used.Used.{Used}
 use Rattle.spec_play.specs.Verdicts.{Fails, unless, ended, chunk_why, chunk_verdict, serial_verdict}
 use Rattle.spec_play.specs.Plays.{Played, size_or_standard, thread_verdict}
 use Rattle.spec_protocol.specs.machine.Spheres.{whole_limit}

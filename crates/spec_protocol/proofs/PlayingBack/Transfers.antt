@@ -18,7 +18,8 @@ use Rattle.spec_log.specs.Size.{dma_size}
 use Rattle.spec_kernel.specs.Copies.{dma_words}
 use Rattle.spec_kernel.specs.Interrupts.{is_live, has_handler, takes_interrupt, interrupted}
 use Rattle.spec_play.specs.Effects.{dma_commit}
-use Rattle.spec_play.specs.Progress.{Progress, position, with_dma, Used}
+use Rattle.spec_play.specs.Progress.{Progress, position, with_dma}
+use Rattle.spec_play.specs.declared.used.Used.{Used}
 use Rattle.spec_play.specs.Turns.{TurnOfDma, turn_of, next_actor, at_end, has_left_over, now_at}
 use Rattle.spec_play.specs.Verdicts.{interrupt_at, serial_why}
 use Rattle.spec_log.specs.Noting.{order_with}

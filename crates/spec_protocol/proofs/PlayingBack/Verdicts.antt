@@ -21,7 +21,8 @@ use Rattle.spec_kernel.specs.Needs.{Need, fetched, next_kind, need}
 use Rattle.spec_kernel.specs.Answers.{answer, Taken, taken}
 use Rattle.spec_kernel.specs.Serving.{serve}
 use Rattle.spec_play.specs.Effects.{chunk_effect, serial_effect}
-use Rattle.spec_play.specs.Progress.{Progress, Used}
+use Rattle.spec_play.specs.Progress.{Progress}
+use Rattle.spec_play.specs.declared.used.Used.{Used}
 use Rattle.spec_play.specs.Verdicts.{ended, chunk_why, chunk_verdict, serial_why, given, served_verdict, serial_verdict, unless as unless_why}
 use Rattle.spec_log.specs.Noting.{order_with}
 use Rattle.spec_play.specs.Recording.{input_noted}

@@ -11,7 +11,8 @@ use Rattle.spec_log.specs.declared.LogParts.{LogParts}
 use Rattle.spec_kernel.specs.Devices.{Devices}
 use Rattle.spec_kernel.specs.Interrupts.{takes_interrupt, interrupted}
 use Rattle.spec_play.specs.Effects.{Effect}
-use Rattle.spec_play.specs.Progress.{position, with_effect, Used, with_interrupt}
+use Rattle.spec_play.specs.Progress.{position, with_effect, with_interrupt}
+use Rattle.spec_play.specs.declared.used.Used.{Used}
 use Rattle.spec_play.specs.Turns.{Turn, Ended}
 use Rattle.spec_play.specs.Plays.{with_threads}
 use Rattle.spec_play.specs.Verdicts.{LogVerdict, Goes, Fails, unless, interrupt_at, with_interrupted, ended}

@@ -20,7 +20,8 @@ use Rattle.spec_kernel.specs.Records.{has_no_bytes, went_nowhere, fits_read, fit
 use Rattle.spec_kernel.specs.Interrupts.{lives, is_live}
 use Rattle.spec_kernel.specs.Serving.{serve, console_written}
 use Rattle.spec_play.specs.Effects.{chunk_effect, serial_effect}
-use Rattle.spec_play.specs.Progress.{Progress, position, with_effect, Used, with_input}
+use Rattle.spec_play.specs.Progress.{Progress, position, with_effect, with_input}
+use Rattle.spec_play.specs.declared.used.Used.{Used}
 use Rattle.spec_play.specs.Turns.{Turn}
 use Rattle.spec_play.specs.Plays.{with_threads}
 use Rattle.spec_play.specs.Recording.{noted, input_noted}

@@ -17,7 +17,8 @@ use Rattle.spec_kernel.specs.Copies.{dma_words}
 use Rattle.spec_kernel.specs.Answers.{dma_bytes, dma_taken}
 use Rattle.spec_kernel.specs.Interrupts.{interrupted}
 use Rattle.spec_play.specs.Effects.{dma_commit}
-use Rattle.spec_play.specs.Progress.{Progress, position, with_dma, Used, with_dma_used}
+use Rattle.spec_play.specs.Progress.{Progress, position, with_dma, with_dma_used}
+use Rattle.spec_play.specs.declared.used.Used.{Used}
 use Rattle.spec_play.specs.Turns.{TurnOfDma}
 use Rattle.spec_play.specs.Verdicts.{serial_why}
 use Rattle.spec_play.specs.Transfers.{DmaVerdict, DmaGoes, DmaFails, is_for, transferred, dma_unless, dma_verdict}

@@ -14,8 +14,11 @@ use Rattle.spec_kernel.specs.Answers.{dma_bytes, dma_taken, Taken, taken}
 use Rattle.spec_kernel.specs.Interrupts.{interrupted}
 use Rattle.spec_kernel.specs.Serving.{serve, console_written}
 use Rattle.spec_play.specs.Effects.{Effect, chunk_effect, serial_effect, dma_commit}
-use Rattle.spec_play.specs.Progress.{Progress, position, with_effect, with_dma, Used, with_dma_used}
-use Rattle.spec_play.specs.Turns.{Ended, now_at}
+use Rattle.spec_play.specs.Progress.{Progress, position, with_effect, with_dma, with_dma_used}
+use Rattle.spec_play.specs.declared.used.Used.{Used}
+use Rattle.spec_play.specs.declared.interval.Interval.{Interval}
+use Rattle.spec_play.specs.Turns.{TurnOrEnd, Ended, now_at}
+use Rattle.spec_play.specs.Intervals.{now_in}
 use Rattle.spec_play.specs.Verdicts.{LogVerdict, Goes, Fails, chunk_verdict, serial_verdict}
 use Rattle.spec_play.specs.Transfers.{DmaVerdict, DmaGoes, DmaFails, dma_verdict}
 use Rattle.spec_play.specs.Plays.{with_threads}
@@ -63,16 +66,20 @@ diverged b why devices p =
       devices = devices;
     }
 
--- the cursor after a whole commit that left this progress and these threads
-abbrev pub turned : LogParts → Progress → Used → List Parts → Cursor
-turned log progress used threads =
-    record { log = log; used = used; now = now_at log progress used threads; total = 0; loads = [] }
+-- the cursor after so many whole commits of a log, if in the log's own play it would now be this turn
+abbrev pub between : LogParts → Option Interval → (commits : ℕ) → Used → TurnOrEnd → Cursor
+between log i n used now =
+    record { log = log; interval = i; used = used; now = now_in i log.count n now; total = 0; loads = [] }
+
+-- after a whole commit that left this progress and these threads
+abbrev pub turned : LogParts → Option Interval → Progress → Used → List Parts → Cursor
+turned log i progress used threads = between log i (position progress) used (now_at log progress used threads)
 
 -- as the log says
 abbrev pub by_verdict : Cursor → (thread : ℕ) → LogVerdict → Devices → Sphere → MovedSphere
 by_verdict b k (Fails why) devices p = diverged b why devices p
 by_verdict b k (Goes e u) devices p =
-    granted_as (Replay (turned b.log (with_effect k e p.progress) u (with_threads k e p.threads))) k e devices p
+    granted_as (Replay (turned b.log b.interval (with_effect k e p.progress) u (with_threads k e p.threads))) k e devices p
 
 -- ---- chunks
 
@@ -167,7 +174,7 @@ dma_log log devices p (Some request) =
 abbrev pub dma_by_verdict : Cursor → DmaVerdict → Devices → Sphere → MovedSphere
 dma_by_verdict b (DmaFails why) devices p = diverged b why devices p
 dma_by_verdict b (DmaGoes words) devices p =
-    dma_as (Replay (turned b.log (with_dma p.progress) (with_dma_used b.used) p.threads)) words devices p
+    dma_as (Replay (turned b.log b.interval (with_dma p.progress) (with_dma_used b.used) p.threads)) words devices p
 
 abbrev pub dma_in : Role → Devices → Sphere → Option MovedSphere
 dma_in Plain devices p = live_dma Plain devices p p.progress.request

@@ -8,13 +8,15 @@ use Rattle.spec_isa.specs.Threads.{started}
 use Rattle.spec_log.specs.declared.ModeName.{ModeName}
 use Rattle.spec_log.specs.declared.LogParts.{LogParts}
 use Rattle.spec_kernel.specs.Devices.{devices_of}
-use Rattle.spec_play.specs.Progress.{no_progress, nothing_used}
+use Rattle.spec_play.specs.Progress.{no_progress, position}
 use Rattle.spec_play.specs.Recording.{new_log}
-use Rattle.spec_play.specs.Plays.{Played, opened, plays}
+use Rattle.spec_play.specs.declared.interval.Interval.{Interval}
+use Rattle.spec_play.specs.Plays.{Played, plays}
+use Rattle.spec_play.specs.Intervals.{begun, commits_in}
 use Rattle.spec_protocol.specs.declared.event.Event.{Event}
 use Rattle.spec_protocol.specs.declared.reply.Reply.{Reply}
 use Rattle.spec_protocol.specs.machine.Spheres.{Recording, Role, Plain, Record, Replay, Sphere}
-use Rattle.spec_protocol.specs.machine.Commits.{turned}
+use Rattle.spec_protocol.specs.machine.Commits.{between}
 use Rattle.spec_protocol.specs.machine.World.{Numbers, Occupant, World, held_afresh, EventOutcome, Move}
 use Rattle.spec_protocol.specs.machine.Stepping.{stepping, cutting}
 use Rattle.spec_protocol.specs.machine.Asking.{asking}
@@ -29,9 +31,14 @@ pub record RecordSetup : Type 0 where
   pub version : ℕ
   pub mode : ModeName
 
--- what is replayed
+-- what is replayed: the commits of a log, or those of an interval
 pub record ReplaySetup : Type 0 where
   pub log : LogParts
+  pub interval : Option Interval
+
+-- all commits of a log
+abbrev pub all_of : LogParts → ReplaySetup
+all_of log = record { log = log; interval = None }
 
 -- what a plan says of a sphere: it is plain, or recorded, or replayed
 pub data RoleSetup : Type 0 where
@@ -57,31 +64,45 @@ pub record Setup : Type 0 where
   pub input : List ℕ
   pub spheres : List SphereSetup
 
-abbrev pub role_of : (s : ℕ) → List Parts → RoleSetup → Role
-role_of s threads IsPlain = Plain
-role_of s threads (IsRecorded asked) = Record (new_recording asked s)
-role_of s threads (IsReplayed asked) = Replay (turned asked.log no_progress nothing_used threads)
+-- ---- a replay
+
+-- the play of a log on the image: where what is replayed begins, and where it has ended
+abbrev pub first_played : SphereSetup → ReplaySetup → Played
+first_played image asked = begun asked.log image.memory image.entry asked.interval
+
+abbrev pub last_played : SphereSetup → ReplaySetup → Played
+last_played image asked =
+    plays asked.log (first_played image asked) (commits_in asked.log.count asked.interval)
+
+-- a replayed sphere where its play begins
+abbrev pub replay_at : ReplaySetup → Played → Sphere
+replay_at asked y =
+    record {
+      memory = y.memory;
+      threads = y.threads;
+      progress = y.progress;
+      role = Replay (between asked.log asked.interval (position y.progress) y.used y.now);
+    }
+
+-- ---- a sphere
 
 -- thread 0 alone, at the entry of the image
 abbrev pub first_threads : SphereSetup → List Parts
 first_threads image = started image.entry ∷ []
 
+abbrev pub live_sphere : SphereSetup → Role → Sphere
+live_sphere image role =
+    record { memory = image.memory; threads = first_threads image; progress = no_progress; role = role }
+
+abbrev pub sphere_as : (s : ℕ) → SphereSetup → RoleSetup → Sphere
+sphere_as s image IsPlain = live_sphere image Plain
+sphere_as s image (IsRecorded asked) = live_sphere image (Record (new_recording asked s))
+sphere_as s image (IsReplayed asked) = replay_at asked (first_played image asked)
+
 abbrev pub sphere_of : (s : ℕ) → SphereSetup → Sphere
-sphere_of s image =
-    let threads = first_threads image in
-    record {
-      memory = image.memory;
-      threads = threads;
-      progress = no_progress;
-      role = role_of s threads image.role;
-    }
+sphere_of s image = sphere_as s image image.role
 
--- the play of a log on the image: where it begins, and where it has ended
-abbrev pub first_played : SphereSetup → LogParts → Played
-first_played image log = opened log image.memory image.entry
-
-abbrev pub last_played : SphereSetup → LogParts → Played
-last_played image log = plays log (first_played image log) log.count
+-- ---- the machine
 
 -- so many cores from sphere i on: each holds thread 0 of its own sphere, or is idle where there is none
 abbrev pub first_cores : Numbers → (i : ℕ) → (cores : ℕ) → List Sphere → List (Option Occupant)

@@ -9,12 +9,16 @@ use Rattle.spec_log.specs.declared.LogParts.{LogParts}
 use Rattle.spec_log.specs.Head.{turn}
 use Rattle.spec_log.specs.Size.{size_in}
 use Rattle.spec_kernel.specs.Interrupts.{is_live}
-use Rattle.spec_play.specs.Progress.{Progress, no_progress, Used}
+use Rattle.spec_play.specs.Progress.{Progress, no_progress}
+use Rattle.spec_play.specs.declared.used.Used.{Used}
+use Rattle.spec_play.specs.declared.interval.Interval.{Interval}
 use Rattle.spec_play.specs.Turns.{TurnOrEnd, Turn, TurnOfDma, Ended}
 
--- a replayed sphere's log, how far it is in it, and of the pieces of the present commit the instructions and the loads
+-- a replayed sphere's log, which of its commits are replayed if a plan says so, how far it is in it, and of the pieces of
+-- the present commit the instructions and the loads
 pub record Cursor : Type 0 where
   pub log : LogParts
+  pub interval : Option Interval
   pub used : Used
   pub now : TurnOrEnd
   pub total : ℕ

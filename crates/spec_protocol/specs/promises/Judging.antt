@@ -18,7 +18,8 @@ use Rattle.spec_log.specs.Head.{is_dma_at, head}
 use Rattle.spec_log.specs.Size.{size_in}
 use Rattle.spec_log.specs.Noting.{Kept, kept_size, limit_by, sizes_used, kept_head, log_of}
 use Rattle.spec_kernel.specs.Interrupts.{takes_interrupt}
-use Rattle.spec_play.specs.Progress.{Progress, Used}
+use Rattle.spec_play.specs.Progress.{Progress}
+use Rattle.spec_play.specs.declared.used.Used.{Used}
 use Rattle.spec_play.specs.Turns.{are_sizes_used}
 use Rattle.spec_play.specs.Verdicts.{LogVerdict, Goes, Fails, interrupt_at, chunk_why, chunk_verdict}
 use Rattle.spec_protocol.specs.machine.Spheres.{whole_limit}

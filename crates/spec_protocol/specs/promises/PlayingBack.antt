@@ -4,16 +4,16 @@ use Rattle.spec_log.specs.declared.LogParts.{LogParts}
 use Rattle.spec_play.specs.Plays.{FitsImage}
 use Rattle.spec_protocol.specs.declared.event.Event.{Event}
 use Rattle.spec_protocol.specs.machine.Spheres.{Recording, Record, Sphere}
-use Rattle.spec_protocol.specs.machine.Machine.{last_played, RecordSetup, SphereSetup, Setup}
+use Rattle.spec_protocol.specs.machine.Machine.{all_of, last_played, RecordSetup, SphereSetup, Setup}
 use Rattle.spec_protocol.specs.machine.Shown.{shown_of}
 use Rattle.spec_protocol.specs.promises.Promises.{WillRecord, after}
 
 -- the log fits the image, and its play leaves this memory, these threads, and these commits with this request
 pub record PlaysBack (log : LogParts) (image : SphereSetup) (p : Sphere) : Type 0 where
   pub fit : FitsImage log image.memory image.entry
-  pub memory : (last_played image log).memory ≡ p.memory
-  pub threads : (last_played image log).threads ≡ p.threads
-  pub progress : (last_played image log).progress ≡ p.progress
+  pub memory : (last_played image (all_of log)).memory ≡ p.memory
+  pub threads : (last_played image (all_of log)).threads ≡ p.threads
+  pub progress : (last_played image (all_of log)).progress ≡ p.progress
 
 -- the sphere is p now, with its current memory and its log so far
 abbrev pub LogsPlayBack : Type 0

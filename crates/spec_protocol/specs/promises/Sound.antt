@@ -16,6 +16,7 @@ use Rattle.spec_log.specs.Size.{is_thread}
 use Rattle.spec_kernel.specs.Devices.{Devices}
 use Rattle.spec_kernel.specs.Interrupts.{is_live}
 use Rattle.spec_play.specs.Progress.{position}
+use Rattle.spec_play.specs.Intervals.{IsWithinIf}
 use Rattle.spec_play.specs.Turns.{Turn}
 use Rattle.spec_play.specs.Verdicts.{interrupt_at}
 use Rattle.spec_engine.specs.Signatures.{is_size}
@@ -42,11 +43,11 @@ IsChunkSize s = (least_chunk ≤ s) × (s ≤ most_chunk)
 abbrev pub IsRecordable : (s : ℕ) → RecordSetup → Type 0
 IsRecordable s asked = IsVersion asked.version (new_threads asked.version) × IsStandard asked.version s
 
--- what is replayed is a log
+-- what is replayed is a log, and an interval is within it
 abbrev pub IsRole : (s : ℕ) → RoleSetup → Type 0
 IsRole s IsPlain = Unit {0}
 IsRole s (IsRecorded asked) = IsRecordable s asked
-IsRole s (IsReplayed asked) = IsLog asked.log
+IsRole s (IsReplayed asked) = IsLog asked.log × IsWithinIf asked.log.count asked.interval
 
 -- memory is 1 to 4,096 pages of 4,096 bytes, and the entry is the address of a word in it
 pub record IsImage (s : ℕ) (image : SphereSetup) : Type 0 where
@@ -221,7 +222,7 @@ pub record IsSoundThread (commits : ℕ) (t : Parts) : Type 0 where
   pub few : t.commits ≤ commits
 
 -- a sphere that began as the image, after so many events: its memory has the image's length, it has a thread at
--- least and no more than it may, and no more commits than there were events
+-- least and no more than it may, and it has done no more commits than there were events
 pub record IsSoundSphere (s : ℕ) (image : SphereSetup) (events : ℕ) (p : Sphere) : Type 0 where
   pub size : length p.memory ≡ length image.memory
   pub bytes : IsBytes p.memory
@@ -231,7 +232,7 @@ pub record IsSoundSphere (s : ℕ) (image : SphereSetup) (events : ℕ) (p : Sph
   pub threads : (k : ℕ) (t : Parts)
       → slice_get p.threads k ≡ Some t
       → IsSoundThread (position p.progress) t
-  pub commits : position p.progress ≤ events
+  pub commits : length p.progress.commits ≤ events
   pub role : IsSoundRole s (position p.progress) p.threads p.role
 
 -- ---- a core

@@ -11,7 +11,8 @@ use Rattle.spec_log.specs.declared.LogParts.{LogParts}
 use Rattle.spec_kernel.specs.Devices.{Devices}
 use Rattle.spec_kernel.specs.Needs.{next_kind}
 use Rattle.spec_play.specs.Effects.{Effect, dma_commit}
-use Rattle.spec_play.specs.Progress.{Progress, position, with_effect, with_dma, Used, with_dma_used}
+use Rattle.spec_play.specs.Progress.{Progress, position, with_effect, with_dma, with_dma_used}
+use Rattle.spec_play.specs.declared.used.Used.{Used}
 use Rattle.spec_play.specs.Turns.{TurnOrEnd, Turn, TurnOfDma, Ended, now_at}
 use Rattle.spec_play.specs.Verdicts.{LogVerdict, Goes, Fails}
 use Rattle.spec_play.specs.Transfers.{DmaVerdict, DmaGoes, DmaFails, dma_verdict}

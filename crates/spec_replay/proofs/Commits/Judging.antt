@@ -8,7 +8,8 @@ use Rattle.spec_log.specs.declared.LogParts.{LogParts}
 use Rattle.spec_log.specs.Size.{size_in}
 use Rattle.spec_kernel.specs.Interrupts.{takes_interrupt, interrupted}
 use Rattle.spec_play.specs.Effects.{Effect, chunk_effect}
-use Rattle.spec_play.specs.Progress.{Progress, Used, with_interrupt}
+use Rattle.spec_play.specs.Progress.{Progress, with_interrupt}
+use Rattle.spec_play.specs.declared.used.Used.{Used}
 use Rattle.spec_play.specs.Verdicts.{LogVerdict, Goes, Fails, unless, interrupt_at, with_interrupted, chunk_why, chunk_verdict}
 
 -- ---- verdicts that are alike

@@ -20,7 +20,8 @@ use Rattle.spec_kernel.specs.Interrupts.{is_live, takes_interrupt, interrupted}
 use Rattle.spec_kernel.specs.Needs.{need, next_kind}
 use Rattle.spec_kernel.specs.Serving.{serve}
 use Rattle.spec_play.specs.Effects.{Effect, chunk_effect, serial_effect, dma_commit}
-use Rattle.spec_play.specs.Progress.{Progress, position, Used, with_interrupt}
+use Rattle.spec_play.specs.Progress.{Progress, position, with_interrupt}
+use Rattle.spec_play.specs.declared.used.Used.{Used}
 use Rattle.spec_play.specs.Turns.{TurnOrEnd, Turn, TurnOfDma, Ended, has_left_over, at_end, turn_of_thread, turn_of, next_actor, now_at}
 use Rattle.spec_play.specs.Verdicts.{LogVerdict, Goes, Fails, unless, interrupt_at, with_interrupted, ended, chunk_why, chunk_verdict, serial_why, TakenRecord, given, served_verdict, serial_verdict}
 use Rattle.spec_play.specs.Transfers.{DmaVerdict, DmaGoes, DmaFails, dma_verdict}

@@ -11,7 +11,8 @@ use Rattle.spec_log.specs.Size.{size_in}
 use Rattle.spec_kernel.specs.Needs.{next_kind, need}
 use Rattle.spec_kernel.specs.Serving.{serve}
 use Rattle.spec_play.specs.Effects.{Effect, serial_effect, dma_commit}
-use Rattle.spec_play.specs.Progress.{Progress, position, Used, with_dma_used}
+use Rattle.spec_play.specs.Progress.{Progress, position, with_dma_used}
+use Rattle.spec_play.specs.declared.used.Used.{Used}
 use Rattle.spec_play.specs.Turns.{TurnOrEnd, Turn, TurnOfDma, Ended}
 use Rattle.spec_play.specs.Verdicts.{LogVerdict, Goes, unless, interrupt_at, with_interrupted, serial_why, TakenRecord, given, served_verdict, serial_verdict}
 use Rattle.spec_play.specs.Transfers.{DmaVerdict, DmaGoes, dma_unless, transferred, dma_verdict}

@@ -6,7 +6,8 @@ use Rattle.spec_log.specs.declared.LogParts.{LogParts}
 use Rattle.spec_log.specs.declared.ModeName.{ModeName}
 use Rattle.spec_log.specs.Head.{head, head_in}
 use Rattle.spec_kernel.specs.Interrupts.{is_live}
-use Rattle.spec_play.specs.Progress.{Progress, position, Used}
+use Rattle.spec_play.specs.Progress.{Progress, position}
+use Rattle.spec_play.specs.declared.used.Used.{Used}
 use Rattle.spec_play.specs.Turns.{turn_of, at_end, has_left_over, now_at}
 use Rattle.std.specs.Prelude.{nat_lt, if◌then◌else◌}
 use Rattle.spec_play.specs.Plays.{Played, play_now}

@@ -10,7 +10,8 @@ use Rattle.spec_log.specs.declared.LogParts.{LogParts}
 use Rattle.spec_log.specs.Size.{size_in}
 use Rattle.spec_kernel.specs.Needs.{next_kind}
 use Rattle.spec_play.specs.Effects.{Effect, counted, chunk_effect}
-use Rattle.spec_play.specs.Progress.{Progress, Used}
+use Rattle.spec_play.specs.Progress.{Progress}
+use Rattle.spec_play.specs.declared.used.Used.{Used}
 use Rattle.spec_play.specs.Turns.{Turn}
 use Rattle.spec_play.specs.Verdicts.{Goes, unless, interrupt_at, with_interrupted, chunk_why, chunk_verdict}
 use Rattle.spec_play.specs.Plays.{Played, with_threads, settled, size_or_standard, thread_verdict, play_thread, play_now}

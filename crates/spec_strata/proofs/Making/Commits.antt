@@ -20,7 +20,8 @@ use Rattle.spec_kernel.specs.Answers.{unknown_call, bad_buffer, refused}
 use Rattle.spec_kernel.specs.Calls.{Called, called, gives, with_result, exit, spawned, spawn, set_handler, returned, iret, request_dma, is_dma_buffer, has_ended}
 use Rattle.spec_kernel.specs.Serving.{StepResult, outside_called, inside_called, is_outside, device_loaded, device_stored, serve_kind, serve}
 use Rattle.spec_play.specs.Effects.{Effect, chunk_effect, serial_effect}
-use Rattle.spec_play.specs.Progress.{Progress, Used, with_interrupt}
+use Rattle.spec_play.specs.Progress.{Progress, with_interrupt}
+use Rattle.spec_play.specs.declared.used.Used.{Used}
 use Rattle.spec_play.specs.Turns.{TurnOrEnd, Turn, TurnOfDma, Ended}
 use Rattle.spec_play.specs.Verdicts.{LogVerdict, Goes, Fails, unless, interrupt_at, with_interrupted, ended, chunk_why, chunk_verdict, serial_why, TakenRecord, given, served_verdict, serial_verdict}
 use Rattle.spec_play.specs.Transfers.{DmaGoes}

@@ -7,7 +7,8 @@ use Rattle.dl_entry.specs.declared.End.{End}
 use Rattle.spec_isa.specs.declared.thread.Parts.{Parts}
 use Rattle.spec_log.specs.declared.LogParts.{LogParts}
 use Rattle.spec_log.specs.declared.ModeName.{ModeName}
-use Rattle.spec_play.specs.Progress.{position, Used}
+use Rattle.spec_play.specs.Progress.{position}
+use Rattle.spec_play.specs.declared.used.Used.{Used}
 use Rattle.spec_play.specs.Turns.{Ended, are_sizes_used, has_left_over, at_end}
 use Rattle.spec_play.specs.Plays.{Played, opened, plays, play, FitsImage}
 use Rattle.spec_strata.specs.declared.stratum.Stratum.{Stratum}

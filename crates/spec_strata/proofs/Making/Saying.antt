@@ -22,7 +22,8 @@ use Rattle.spec_log.specs.Log.{IsLog, IsSizes, IsOrder}
 use Rattle.spec_log.specs.Size.{is_thread, sizes_of_thread, thread_size, size_in}
 use Rattle.spec_kernel.specs.Needs.{next_kind, need}
 use Rattle.spec_play.specs.Effects.{Effect, chunk_commit}
-use Rattle.spec_play.specs.Progress.{Progress, Used}
+use Rattle.spec_play.specs.Progress.{Progress}
+use Rattle.spec_play.specs.declared.used.Used.{Used}
 use Rattle.spec_play.specs.Turns.{are_sizes_used, TurnOrEnd, Turn, TurnOfDma, Ended}
 use Rattle.spec_play.specs.Verdicts.{LogVerdict, Goes, unless, chunk_why, chunk_verdict, serial_why, given, served_verdict, serial_verdict}
 use Rattle.spec_play.specs.Plays.{Played, opened, size_or_standard, thread_verdict, play_one, plays, play, FitsImage}

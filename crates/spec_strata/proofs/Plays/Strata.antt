@@ -12,7 +12,7 @@ use Rattle.spec_log.specs.declared.LogParts.{LogParts}
 use Rattle.spec_kernel.specs.Needs.{next_kind}
 use Rattle.dl_entry.specs.declared.Commit.{Commit}
 use Rattle.spec_play.specs.Effects.{Effect, chunk_commit}
-use Rattle.spec_play.specs.Progress.{Used}
+use Rattle.spec_play.specs.declared.used.Used.{Used}
 use Rattle.spec_play.specs.Turns.{Turn}
 use Rattle.spec_play.specs.Verdicts.{Goes, chunk_verdict}
 use Rattle.spec_play.specs.Plays.{Played, settled, size_or_standard, thread_verdict, play_thread, play_now}

@@ -17,7 +17,8 @@ use Rattle.spec_log.specs.declared.ModeName.{ModeName}
 use Rattle.spec_log.specs.Head.{head_in}
 use Rattle.spec_kernel.specs.Interrupts.{is_live, lives}
 use Rattle.spec_play.specs.Effects.{Effect, counted}
-use Rattle.spec_play.specs.Progress.{Progress, position, Used}
+use Rattle.spec_play.specs.Progress.{Progress, position}
+use Rattle.spec_play.specs.declared.used.Used.{Used}
 use Rattle.spec_play.specs.Turns.{Turn, turn_of, turn_of_thread, next_actor, at_end, has_left_over, now_at}
 use Rattle.spec_play.specs.Verdicts.{Goes, interrupt_at}
 use Rattle.spec_play.specs.Plays.{Played, settled, size_or_standard, play_now, play_one}

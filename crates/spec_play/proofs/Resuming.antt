@@ -14,13 +14,14 @@ use Rattle.spec_log.specs.Size.{size_in}
 use Rattle.spec_kernel.specs.Interrupts.{is_live}
 use Rattle.spec_kernel.specs.Needs.{next_kind}
 use Rattle.spec_play.specs.Effects.{dma_commit}
-use Rattle.spec_play.specs.Progress.{Progress, position, Used}
+use Rattle.spec_play.specs.Progress.{Progress, position}
+use Rattle.spec_play.specs.declared.used.Used.{Used}
 use Rattle.spec_play.specs.Turns.{TurnOrEnd, Turn, TurnOfDma, Ended, has_left_over, at_end, turn_of, now_at}
 use Rattle.spec_play.specs.Verdicts.{LogVerdict, Goes, Fails, serial_why, chunk_verdict, serial_verdict}
 use Rattle.spec_play.specs.Transfers.{DmaVerdict, DmaGoes, DmaFails, transferred, dma_unless, dma_verdict}
 use Rattle.spec_play.specs.Plays.{Played, opened, settled, thread_verdict, play_thread, dma_settled, play_now, play_one, plays}
 use Rattle.spec_play.proofs.Going.{plays-first, plays-most}
-use Rattle.spec_interval.specs.States.{state_of, resumed}
+use Rattle.spec_play.specs.States.{state_of, resumed}
 use Rattle.spec_interval.specs.Promise.{PlaysGoOn, HasDone, IsResumed, PlaysResume}
 
 -- to play on from a play is to play longer

@@ -1,7 +1,7 @@
 -- An interval is in order, and within the log.
 use Rattle.std.proofs.Common.{◌≡◌, ℕ, ◌≤◌, Some, None, subst, arith}
 use Rattle.std.specs.Prelude.{min}
-use Rattle.spec_interval.specs.Intervals.{Interval, within}
+use Rattle.spec_play.specs.Intervals.{Interval, within}
 use Rattle.spec_interval.specs.Promise.{IsWithin, IntervalsAreWithin}
 
 same_interval : (a b : Interval) → Some a ≡ Some b → a ≡ b

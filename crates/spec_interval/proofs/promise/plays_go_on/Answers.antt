@@ -1,5 +1,0 @@
-use Rattle.spec_interval.proofs.Resuming.{plays_go_on}
-use Rattle.spec_interval.proofs.promise.plays_go_on.Goals as goal
-
-pub returns : goal.returns
-returns c = plays_go_on

@@ -1,5 +1,0 @@
-use Rattle.spec_interval.proofs.Resuming.{plays_resume}
-use Rattle.spec_interval.proofs.promise.plays_resume.Goals as goal
-
-pub returns : goal.returns
-returns c = plays_resume
