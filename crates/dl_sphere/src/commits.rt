@@ -60,14 +60,6 @@ fn add_entries(entries: &mut Loads, loads: &[dl_thread::Load]) -> Result<(), Out
     Ok(())
 }
 
-// How many there are.
-pub(crate) fn count(commits: &[Commit]) -> u32
-    requires { length commits.now < 2 ^ 24 }
-    ensures { result ≡ length commits.now }
-{
-    commits.len() as u32
-}
-
 // Whether the closed chunk was closed before its standard size.
 pub(crate) fn is_short<G: Sig>(s: u32, chunk: &Chunk<G>) -> bool
     ensures { (how : How) → chunk.now.chunk.closed ≡ Some how → result ≡ is_short s how chunk.now.chunk.limit }

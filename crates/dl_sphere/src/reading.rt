@@ -40,7 +40,10 @@ impl Sphere {
     {
         match &self.part {
             Part::Plain | Part::Recorded(_) => self.s,
-            Part::Replayed(replay) => replay.player.limit(thread, after),
+            Part::Replayed(replay) => {
+                let commits = commits_of(&self.past.state.threads, thread);
+                replay.player.limit(thread, commits, after)
+            }
         }
     }
 
@@ -144,10 +147,23 @@ impl Sphere {
 
     /// The whole commits so far, the first one first.
     pub fn commits(&self) -> &[Commit]
-        ensures value { result.now ≡ self.now.sphere.progress.commits }
-        ensures all { position self.now.sphere.progress ≡ length result.now }
+        ensures { result.now ≡ self.now.sphere.progress.commits }
     {
         &self.past.commits
+    }
+
+    /// The number of the first of them in the log's play, which is 0 unless an interval is replayed.
+    pub fn first(&self) -> u32
+        ensures { result ≡ self.now.sphere.progress.first }
+    {
+        self.past.first
+    }
+
+    /// How many whole commits are done, those before the first one too.
+    pub fn done(&self) -> u32
+        ensures { result ≡ position self.now.sphere.progress }
+    {
+        self.past.state.commits
     }
 
     /// The log of a recording so far.
@@ -187,7 +203,7 @@ impl Sphere {
             Part::Plain | Part::Recorded(_) => {
                 DmaSize::Bytes(live_size(self.past.state.request, input_left))
             }
-            Part::Replayed(replay) => match replay.player.dma_size(self.past.state.request) {
+            Part::Replayed(replay) => match replay.player.dma_size(&self.past.state) {
                 Ok(bytes) => DmaSize::Bytes(bytes),
                 Err(why) => DmaSize::Diverged(why),
             },
@@ -206,7 +222,7 @@ impl Sphere {
         let _ = state.memory.size();
         match &self.part {
             Part::Plain | Part::Recorded(_) => live_words(alloc, state.request, devices),
-            Part::Replayed(replay) => match replay.player.dma_words(state.request, &state.memory)? {
+            Part::Replayed(replay) => match replay.player.dma_words(state)? {
                 Ok(words) => Ok(words),
                 Err(_) => Ok(Buffer::new(alloc, 1)?),
             },
