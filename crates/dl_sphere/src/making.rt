@@ -62,6 +62,7 @@ fn part_of(alloc: Global, role: &Role, s: u32, state: &State) -> Result<Part, Ou
     ghost image: { SphereSetup }
     requires recorded { IsRecordableIf s (role_setup role.now) }
     requires image { IsStartOf image role.now state.now }
+    requires whole { IsRole s (role_setup role.now) → IsImage s image }
     ensures kept { IfOk result (λ part. keeping_of part ≡ keeping_at image s (role_setup role.now)) }
     ensures at { IfOk result (λ part. IsReplayingIf (keeping_of part) state.now) }
     ensures role { IfOk result (λ part. IsRole s (role_setup role.now)) }

@@ -1,11 +1,11 @@
 //! The commits of a sphere that is replayed, each judged by its log.
-ghost use Rattle.std.specs.Prelude.{◌≡◌, Bool, ◌<◌, ◌≤◌, ℕ, Some, IfOk, OnErr, length, slice_get};
+ghost use Rattle.std.specs.Prelude.{◌≡◌, ℕ, Bool, ◌+◌, ◌<◌, ◌≤◌, Some, IfOk, OnErr, OnOk, length, slice_get};
 ghost use Rattle.spec_isa.specs.declared.thread.Parts.{Parts};
 ghost use Rattle.spec_engine.specs.declared.answers.How.{How};
 ghost use Rattle.spec_kernel.specs.Devices.{Devices};
 ghost use Rattle.spec_play.specs.Turns.{Turn, TurnOfDma};
-ghost use Rattle.spec_protocol.specs.machine.Commits.{is_piece, chunk_moved, serial_moved, dma_moved};
-ghost use Rattle.dl_sphere.specs.Inside.{replayed_at, IsAt};
+ghost use Rattle.spec_protocol.specs.machine.Commits.{is_piece, chunk_moved, piece_moved, serial_moved, dma_moved};
+ghost use Rattle.dl_sphere.specs.Inside.{cursor_in, replayed_at, IsAt};
 ghost use Rattle.dl_sphere.specs.Moving.{came, CanCommit};
 
 use crate::commits::{is_piece, joined_commit};
@@ -40,9 +40,7 @@ pub(crate) fn commit_part<G: Sig>(
     let _ = thread_at(&past.state.threads, thread);
     let words = words::copied(past.alloc, chunk.words())?;
     if is_piece(chunk) {
-        replay.loads.extend_from_slice(chunk.loads())?;
-        replay.player.accept_piece(chunk.n());
-        past.state.threads.set(thread, chunk.state());
+        commit_piece(replay, past, thread, chunk)?;
         return Ok(Moved::Piece(words));
     }
     let size = replay.player.pieces() + chunk.n();
@@ -61,6 +59,32 @@ pub(crate) fn commit_part<G: Sig>(
     }
 }
 
+// Commits a piece of the thread's commit.
+fn commit_piece<G: Sig>(
+    replay: &mut Replayed,
+    past: &mut Past,
+    thread: u8,
+    chunk: &Chunk<G>,
+) -> Result<(), OutOfMemory>
+    requires thread { thread < length past.old.state.threads }
+    requires fits { replay.old.player.total + chunk.now.chunk.done.n ≤ replay.old.player.log.s }
+    requires same { (t : Parts) → slice_get past.old.state.threads thread ≡ Some t →
+        chunk.now.chunk.done.thread.commits ≡ t.commits }
+    requires at { IsAt past.old replay.old }
+    ensures moved { OnOk result ((d : Devices) → replayed_at past.new replay.new
+        ≡ (piece_moved (cursor_in past.old replay.old) thread chunk.now.chunk.done d (replayed_at past.old replay.old)).sphere) }
+    ensures at { IsAt past.new replay.new }
+    ensures log { replay.new.player.log ≡ replay.old.player.log }
+    ensures still { OnErr result (replayed_at past.new replay.new ≡ replayed_at past.old replay.old) }
+{
+    // the proof sees here that the thread is one of the sphere
+    let _ = thread_at(&past.state.threads, thread);
+    replay.loads.extend_from_slice(chunk.loads())?;
+    replay.player.accept_piece(chunk.n());
+    past.state.threads.set(thread, chunk.state());
+    Ok(())
+}
+
 // Does the serial step of the thread, unless the replay leaves its log there.
 pub(crate) fn serve_step(
     replay: &mut Replayed,
@@ -77,6 +101,8 @@ pub(crate) fn serve_step(
     ensures log { replay.new.player.log ≡ replay.old.player.log }
     ensures still { OnErr result (replayed_at past.new replay.new ≡ replayed_at past.old replay.old) }
 {
+    // the proof sees here that the thread is one of the sphere
+    let _ = thread_at(&past.state.threads, thread);
     past.commits.reserve(1)?;
     match replay.player.serve_step(thread, &mut past.state)? {
         Ok(left) => {

@@ -60,16 +60,21 @@ module _ (past : Past) (loads : List Load) (d : Devices) where
   IfStores words (DmaGoes stored) = stored ≡ words
   IfStores words (DmaFails why) = Unit {0}
 
-  pub dma_moved : (r : Following) (v : DmaVerdict) (words : List Stored) → IsCounted past → IfStores words v
+  pub dma_goes : (r : Following) (v : DmaVerdict) (words : List Stored) → IsCounted past → IfStores words v
       → made_of dma_commit words (dma_judged r past.state (now_at r).progress v) ≡ dma_by_verdict (cursor_of r past.state.used loads) v d (now_at r)
-  dma_moved r (DmaFails why) words counted of =
+  dma_goes r (DmaFails why) words counted of =
       (λ i. record {
         outcome = Diverged (sym counted i) why;
         sphere = sphere_at past (Replay (record (cursor_of r past.state.used loads) { now = Ended (End.Diverged (sym counted i) why) }));
         words = [];
         devices = d;
       })
-  dma_moved r (DmaGoes stored) words counted of = (λ i. made_of dma_commit (sym of i) (dma_judged r past.state (now_at r).progress (DmaGoes stored)))
+  dma_goes r (DmaGoes stored) words counted of = (λ i. made_of dma_commit (sym of i) (dma_judged r past.state (now_at r).progress (DmaGoes stored)))
+
+  -- the words that a DMA gives are those of its verdict
+  pub dma_stores : (words : List Stored) (v : DmaVerdict) → DmaGoes words ≡ v → IfStores words v
+  dma_stores words (DmaGoes stored) is = (let e : DmaGoes words ≡ DmaGoes stored = is in cc)
+  dma_stores words (DmaFails why) is = tt
 
 -- ---- what is counted
 
