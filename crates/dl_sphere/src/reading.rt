@@ -14,6 +14,7 @@ ghost use Rattle.dl_sphere.specs.Moving.{SaysOutcome};
 ghost use Rattle.dl_sphere.specs.Reading.{end_in, pieces_in, log_in, SaysBytes};
 ghost use Rattle.dl_sphere.specs.Setups.{standard_in};
 
+use crate::commits::commits_of;
 use crate::moved::DmaSize;
 use crate::part::Part;
 use crate::peeking::{live_size, live_words};
@@ -189,7 +190,7 @@ impl Sphere {
         flights.drain(k, &mut self.past.state.memory)
     }
 
-    /// How many bytes a DMA would store behind its count, where so many of the input are left; or why the replay leaves
+    /// How many bytes a DMA would store after its count, where so many of the input are left; or why the replay leaves
     /// its log there.
     #[tactic(auto, unfolding(spec_protocol::specs::machine::Commits::dma_moved))]
     pub fn dma_size(&self, input_left: u32) -> DmaSize

@@ -10,17 +10,17 @@ use Rattle.spec_play.specs.Progress.{position}
 use Rattle.spec_play.specs.declared.used.Used.{Used}
 use Rattle.spec_protocol.specs.promises.Sound.{IsSoundRequest, commits_in, commits_if}
 use Rattle.spec_protocol.specs.machine.Placing.{replays}
-use Rattle.spec_protocol.specs.machine.Spheres.{Cursor, Role, Plain as Live, Record, Replay as IsReplay, Sphere, limit_in, limit_of, limit_after, whole_limit, most_in}
+use Rattle.spec_protocol.specs.machine.Spheres.{Cursor, Replay as IsReplay, Sphere, limit_in, whole_limit}
 use Rattle.spec_protocol.proofs.Sound.Commits.{set-all}
 use Rattle.spec_protocol.proofs.Sound.Limits.{whole-most}
 use Rattle.dl_kernel.specs.declared.past.Past.{Past}
 use Rattle.dl_kernel.specs.declared.state.State.{State}
 use Rattle.dl_replay.specs.Following.{Following}
-use Rattle.dl_replay.specs.Limits.{chunk_limit, chunk_limit_in}
+use Rattle.dl_replay.specs.Limits.{chunk_limit_in}
 use Rattle.dl_replay.specs.Replays.{IsReplaying}
 use Rattle.dl_sphere.specs.Inside.{sphere_in, IsAt}
 use Rattle.dl_sphere.specs.Pasts.{sphere_at}
-use Rattle.dl_sphere.specs.Roles.{role_in, role_of, most_of, keeping_of, Keeping, Plain, Recording, Replaying as Replays, HasFew, IsKeepingOf, IsLive, IsLiveOf, IsSphere}
+use Rattle.dl_sphere.specs.Roles.{role_of, keeping_of, Keeping, Plain, Recording, Replaying as Replays, HasFew, IsKeepingOf, IsLive, IsLiveOf, IsSphere}
 use Rattle.dl_sphere.specs.SizedSpheres.{SizedSphere}
 use Rattle.dl_sphere.specs.declared.part.Part.{Part}
 use Rattle.dl_sphere.specs.declared.part.Replayed.{Replayed}
@@ -52,6 +52,14 @@ moved_on r s k t u there same h =
       left = h.left;
       request = h.request;
     }
+
+commits-within : (r : Following) (s : State) (k : ℕ) (o : Option Parts) → slice_get s.threads k ≡ o → IsReplaying r s → commits_if o ≤ r.log.count
+commits-within r s k None is h = omega arith
+commits-within r s k (Some t) is h = let f = h.bounded.threads k t is in let n = h.bounded.commits in omega (arith, f, n)
+
+-- no thread of a replay has more commits than its log
+pub commits_within : (r : Following) (s : State) (k : ℕ) → IsReplaying r s → commits_in s.threads k ≤ r.log.count
+commits_within r s k h = commits-within r s k (slice_get s.threads k) refl h
 
 -- a part and those before it are no more than a standard chunk
 pub part_fits : (b : Cursor) (k n : ℕ) (t : Parts) → IsLog b.log → b.total < whole_limit b.log k t.commits → n ≤ limit_in (IsReplay b) 0 k t.commits → b.total + n ≤ b.log.s
@@ -110,23 +118,7 @@ few_here a v is live few =
     subst (λ (p : Sphere). position p.progress < 2 ^ 24) (sym is)
     (few (sym (ap (λ (p : Sphere). replays p.role) is) ∙ role_live a.past.state.used (keeping_of a.part) live))
 
--- a chunk of a thread that isn't replayed may run a standard chunk's instructions
-pub live_limit : (after : Bool) (s : ℕ) (role : Role) (k : ℕ) (t : Parts) → replays role ≡ false → chunk_limit after s role k t ≡ s
-unfolding limit_of limit_after
-live_limit false s Live k t live = refl
-live_limit false s (Record recording) k t live = refl
-live_limit false s (IsReplay b) k t live = absurd (true≢false live)
-live_limit true s Live k t live = refl
-live_limit true s (Record recording) k t live = refl
-live_limit true s (IsReplay b) k t live = absurd (true≢false live)
-
 -- ---- any sphere
-
--- a role says how many threads there may be, whatever is used of a log
-pub most_said : (u : Used) (x : Keeping) → most_in (role_of u x) ≡ most_of x
-most_said u Plain = refl
-most_said u (Recording r) = refl
-most_said u (Replays r loads) = refl
 
 -- a request inside a memory is inside the largest
 pub sound-within : (size most : ℕ) (o : Option Request) → size ≤ most → IfSome o (IsSoundRequest size) → IfSome o (IsSoundRequest most)
