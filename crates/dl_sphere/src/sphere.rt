@@ -76,8 +76,9 @@ impl Sphere {
         self.past.commits.reserve(1)?;
         note(&mut self.part, &commit, is_short(self.s, chunk), None)?;
         self.past.commits.push_reserved(commit);
+        let after = counted(chunk.state());
         let state = &mut self.past.state;
-        state.threads.set(thread, &counted(chunk.state()));
+        state.threads.set(thread, &after);
         state.last = Some(thread);
         state.commits += 1;
         Ok(Moved::Granted(words))
