@@ -9,8 +9,9 @@ use Rattle.spec_play.specs.Plays.{Played, opened, plays}
 use Rattle.spec_play.specs.Walks.{walk_end, walked_at}
 use Rattle.spec_play.proofs.Going.{plays-first}
 use Rattle.spec_play.specs.States.{State, state_of, resumed}
+use Rattle.spec_play.specs.Resuming.{IsResumed}
 use Rattle.spec_interval.specs.Slices.{Slice, slice_of}
-use Rattle.spec_interval.specs.Promise.{IsResumed, SlicesResume}
+use Rattle.spec_interval.specs.Promise.{SlicesResume}
 use Rattle.spec_play.proofs.Resuming.{plays_resume}
 
 -- past the first list, of two, the rest is the second's
