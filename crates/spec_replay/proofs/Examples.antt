@@ -34,7 +34,7 @@ use Rattle.spec_protocol.specs.machine.Asking.{grant_chunk, grant_serial, asking
 use Rattle.spec_protocol.specs.machine.Commits.{chunk_moved, serial_moved, dma_moved, raised}
 use Rattle.spec_protocol.specs.machine.Finishing.{next}
 use Rattle.spec_protocol.specs.machine.Flying.{draining, delivering, retiring}
-use Rattle.spec_protocol.specs.machine.Machine.{IsReplayed, world_of, act, happens, world_after}
+use Rattle.spec_protocol.specs.machine.Machine.{IsReplayed, all_of, world_of, act, happens, world_after}
 use Rattle.spec_protocol.specs.machine.Placing.{placing, raising}
 use Rattle.spec_protocol.specs.machine.Serial.{do_point}
 use Rattle.spec_protocol.specs.machine.Shown.{shown}
@@ -59,7 +59,7 @@ replay log =
       numbers = record { s = 100; capacity = 16; bits = 64; depth = 1 };
       seed = 0;
       input = [];
-      spheres = record { memory = code; entry = 0; role = IsReplayed (record { log = log }) } ∷ [];
+      spheres = record { memory = code; entry = 0; role = IsReplayed (all_of log) } ∷ [];
     })
 
 abbrev replies : World → List Event → List Reply
