@@ -112,13 +112,13 @@ full_in (Some i) count n now going over =
 -- ---- its play
 
 -- the play goes on after n of the commits
-record GoesAt (log : LogParts) (i : Option Interval) (y : Played) (n : ℕ) : Type 0 where
-  done : position y.progress ≡ before i + n
-  below : position y.progress < log.count
-  going : is_over y.now ≡ false
+pub record GoesAt (log : LogParts) (i : Option Interval) (y : Played) (n : ℕ) : Type 0 where
+  pub done : position y.progress ≡ before i + n
+  pub below : position y.progress < log.count
+  pub going : is_over y.now ≡ false
 
 -- it has ended, or goes on after n of the commits
-abbrev IsAfter : LogParts → Option Interval → Played → ℕ → Type 0
+abbrev pub IsAfter : LogParts → Option Interval → Played → ℕ → Type 0
 IsAfter log i y n = ((how : End) × (y.now ≡ Ended how)) ⊎ GoesAt log i y n
 
 after_by : (log : LogParts) (i : Option Interval) (y : Played) (n : ℕ) (now : TurnOrEnd) → y.now ≡ now → position y.progress ≡ before i + n → position y.progress < log.count → IsAfter log i y n
