@@ -1,5 +1,5 @@
 -- Answers as text.
-use Rattle.std.specs.Prelude.{ℕ, List, [], ◌∷◌, ◌++◌, codes, decimal, flat_map, Option, Some, None}
+use Rattle.std.specs.Prelude.{ℕ, List, [], ◌∷◌, codes, decimal, flat_map, Option, Some, None}
 use Rattle.dl_account.specs.Lines.{hex_word, line}
 use Rattle.dl_account.specs.Replays.{why_fields}
 use Rattle.dl_entry.specs.Actor.{code}
