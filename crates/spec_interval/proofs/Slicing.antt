@@ -15,7 +15,7 @@ use Rattle.spec_interval.specs.Promise.{SlicesResume}
 use Rattle.spec_play.proofs.Resuming.{plays_resume}
 
 -- past the first list, of two, the rest is the second's
-drop_over : (xs ys : List Commit) (i : ℕ) → length xs ≤ i → drop i (xs ++ ys) ≡ drop (i - length xs) ys
+pub drop_over : (xs ys : List Commit) (i : ℕ) → length xs ≤ i → drop i (xs ++ ys) ≡ drop (i - length xs) ys
 drop_over [] ys i over = let h : i ≡ i - 0 = omega arith in ap (λ (n : ℕ). drop n ys) h
 drop_over (x ∷ xs) ys zero over = absurd (omega (arith, over))
 drop_over (x ∷ xs) ys (suc i) over =

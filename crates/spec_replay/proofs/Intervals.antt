@@ -143,7 +143,7 @@ after_same log i w z n at_ now (inr g) =
     inr (record { done = omega (arith, at_, done); below = omega (arith, at_, below); going = ap is_over now ∙ g.going })
 
 -- with the commits before it done, what is replayed begins as the play from their state
-begun_is : (log : LogParts) (memory : List ℕ) (entry : ℕ) (i : Option Interval) → GoesOn log (plays log (opened log memory entry) (before i)) (before i) → begun log memory entry i ≡ resumed log (state_of (plays log (opened log memory entry) (before i)))
+pub begun_is : (log : LogParts) (memory : List ℕ) (entry : ℕ) (i : Option Interval) → GoesOn log (plays log (opened log memory entry) (before i)) (before i) → begun log memory entry i ≡ resumed log (state_of (plays log (opened log memory entry) (before i)))
 begun_is log memory entry i g =
     let y : Played = plays log (opened log memory entry) (before i) in
     let w : Played = resumed log (state_of y) in
