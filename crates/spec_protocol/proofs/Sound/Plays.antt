@@ -1,11 +1,11 @@
 -- A replay begins in a sound sphere, wherever in the play of its log that is.
-use Rattle.std.proofs.Common.{◌≡◌, ℕ, zero, suc, ◌+◌, ◌/◌, ◌%◌, ◌<◌, ◌≤◌, List, [], ◌∷◌, length, Option, Some, None, refl, sym, ap, ◌∙◌, subst, arith}
+use Rattle.std.proofs.Common.{◌≡◌, ℕ, zero, suc, ◌/◌, ◌%◌, ◌≤◌, List, [], ◌∷◌, length, Option, Some, None, refl, sym, ap, ◌∙◌, subst, arith}
 use Rattle.std.specs.Prelude.{slice_get}
 use Rattle.std.proofs.lemmas.Option.{none-some}
 use Rattle.spec_isa.specs.declared.thread.Parts.{Parts}
 use Rattle.spec_isa.specs.declared.thread.Kind.{Kind}
 use Rattle.spec_isa.specs.Words.{Stored, lay, lays, read, IsBytes}
-use Rattle.spec_isa.specs.Instruction.{InstructionOutcome, Next, Serial, one, unless, value_at, serial_of, loads_of, next_of, load_of, store_of}
+use Rattle.spec_isa.specs.Instruction.{Next, one, unless, value_at, serial_of, loads_of, next_of, load_of, store_of}
 use Rattle.spec_isa.specs.Runs.{Run, followed, run}
 use Rattle.spec_isa.specs.Threads.{IsThread, started}
 use Rattle.spec_isa.proofs.MemoryLaws.{length_lays}
@@ -14,14 +14,12 @@ use Rattle.spec_log.specs.Log.{IsLog}
 use Rattle.spec_kernel.specs.Devices.{Devices, devices_of}
 use Rattle.spec_kernel.specs.Needs.{next_kind}
 use Rattle.spec_play.specs.Progress.{position, no_progress, nothing_used}
-use Rattle.spec_play.specs.declared.used.Used.{Used}
-use Rattle.spec_play.specs.declared.interval.Interval.{Interval}
 use Rattle.spec_play.specs.Turns.{TurnOrEnd, Turn, TurnOfDma, Ended}
 use Rattle.spec_play.specs.Verdicts.{LogVerdict, Goes, Fails}
 use Rattle.spec_play.specs.Transfers.{DmaVerdict, DmaGoes, DmaFails, dma_verdict}
 use Rattle.spec_play.specs.Plays.{Played, opened, settled, size_or_standard, thread_verdict, play_thread, dma_settled, play_now, play_one, plays}
 use Rattle.spec_play.specs.Intervals.{before, without_commits}
-use Rattle.spec_protocol.specs.machine.Spheres.{Cursor, Role, Replay, Sphere}
+use Rattle.spec_protocol.specs.machine.Spheres.{Cursor, Sphere}
 use Rattle.spec_protocol.specs.machine.Commits.{MovedSphere, between}
 use Rattle.spec_protocol.specs.machine.Machine.{ReplaySetup, all_of, SphereSetup, first_played, replay_at}
 use Rattle.spec_protocol.specs.machine.Serial.{laid}
