@@ -21,6 +21,7 @@ use Rattle.spec_kernel.specs.Serving.{serve}
 use Rattle.spec_play.specs.Effects.{Effect, chunk_effect, serial_effect, dma_commit}
 use Rattle.spec_play.specs.Progress.{Progress, position, with_interrupt, with_input}
 use Rattle.spec_play.specs.Spawned.{AreNew}
+use Rattle.spec_play.specs.States.{state_after}
 use Rattle.spec_play.specs.Resuming.{IsBounded, StatesAreBounded}
 use Rattle.spec_play.specs.declared.used.Used.{Used}
 use Rattle.spec_play.specs.Turns.{TurnOrEnd, Turn, TurnOfDma, Ended, now_at}
@@ -189,8 +190,11 @@ plays_bounded : (log : LogParts) (memory : List ℕ) (entry i : ℕ) → IsPlayB
 plays_bounded log memory entry zero = record { commits = omega arith; threads = opened_below memory entry log; interrupts = omega arith }
 plays_bounded log memory entry (suc i) = one_bounded log (plays log (opened log memory entry) i) i (plays-go log memory entry i) (plays_bounded log memory entry i)
 
+-- where a play is after any number of commits, or where it has ended before, it passes none of its bounds
+pub after-bounded : (log : LogParts) (memory : List ℕ) (entry i : ℕ) → IsBounded log (state_after log memory entry i)
+after-bounded log memory entry i =
+    let b = plays_bounded log memory entry i in record { commits = b.commits; threads = b.threads; interrupts = b.interrupts }
+
 -- a state of a play passes none of its bounds
 pub states_are_bounded : StatesAreBounded
-states_are_bounded log s is =
-    let b = plays_bounded log is.memory is.entry is.commits in
-    subst (IsBounded log) (sym is.state) (record { commits = b.commits; threads = b.threads; interrupts = b.interrupts })
+states_are_bounded log s is = subst (IsBounded log) (sym is.state) (after-bounded log is.memory is.entry is.commits)

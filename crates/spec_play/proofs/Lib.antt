@@ -10,4 +10,4 @@ mod Records
 pub mod Resuming
 pub mod Within
 pub mod Threads
-mod Bounds
+pub mod Bounds

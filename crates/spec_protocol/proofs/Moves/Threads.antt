@@ -7,7 +7,7 @@ use Rattle.spec_isa.specs.declared.thread.Parts.{Parts}
 use Rattle.spec_isa.specs.declared.thread.Kind.{Kind}
 use Rattle.spec_kernel.specs.Needs.{number_of, a0, a1, a2, need}
 use Rattle.spec_kernel.specs.Answers.{refused, unknown_call}
-use Rattle.spec_kernel.specs.Calls.{Called, gives, exit, spawned, spawn, set_handler, iret, request_dma, has_ended, called, with_result}
+use Rattle.spec_kernel.specs.Calls.{Called, gives, exit, spawned, set_handler, iret, request_dma, has_ended, called, with_result}
 use Rattle.spec_kernel.specs.Serving.{outside_called, is_outside, inside_called, serve_kind, serve}
 pub use Rattle.spec_play.specs.Spawned.{IsNew, AreNew}
 pub use Rattle.spec_play.proofs.Threads.{Kept, next-kept, run-keeps, run-status, KeepsCommits, any-call, serve-keeps}
