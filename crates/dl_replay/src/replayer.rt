@@ -225,14 +225,14 @@ impl<M: Mode> Replayer<M> {
         ensures still { OnErr result ((self.new ≡ self.old) × (state.new ≡ state.old)) }
     {
         match self.judge_step(number, state)? {
-            Ok(done) => {
+            Ok(Done { left, finish }) => {
                 let change = Change {
-                    finish: done.finish,
-                    spawned: done.left.spawned,
-                    request: done.left.request,
+                    finish,
+                    spawned: left.spawned,
+                    request: left.request,
                 };
                 self.commit(number, &change, state);
-                Ok(Ok(done.left))
+                Ok(Ok(left))
             }
             Err(why) => {
                 self.diverge(why, state);
