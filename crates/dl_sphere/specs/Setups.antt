@@ -1,5 +1,5 @@
 -- What a plan says of a sphere, as the definitions have it.
-use Rattle.std.specs.Prelude.{◌≡◌, ℕ, ◌×◌, ◌<◌, Option, Some, None}
+use Rattle.std.specs.Prelude.{◌≡◌, ℕ, ◌<◌, Option, Some, None}
 use Rattle.dl_entry.specs.declared.End.{End}
 use Rattle.dl_entry.specs.declared.Why.{Why}
 use Rattle.spec_play.specs.declared.interval.Interval.{Interval}
