@@ -1,30 +1,21 @@
-use Rattle.std.proofs.Common.{rules, ◌≡◌, ℕ, List, ◌+◌, ◌<◌, ◌≤◌, ◌^◌, false, length, slice_get, Some, IfOk, OnErr, OnSome, ◌-◌, ◌*◌, ◌/◌, ◌%◌, Bool, true, nat_eq, nat_lt, [], ◌∷◌, ◌++◌, slice_index_or, slice_set, bit_and, bit_or, Fits, w8, w32, w64, Bor, MutBor}
-use Rattle.dl_entry.specs.Numbers.{most_threads}
-use Rattle.dl_entry.specs.declared.Why.{Why}
-use Rattle.spec_isa.specs.Words.{Stored}
-use Rattle.spec_isa.specs.declared.thread.Parts.{Parts}
-use Rattle.spec_isa.specs.declared.thread.Load.{Load}
-use Rattle.spec_isa.specs.Runs.{Run}
-use Rattle.spec_play.specs.declared.used.Used.{Used}
-use Rattle.spec_play.specs.Effects.{Effect}
-use Rattle.spec_play.specs.Progress.{Progress}
+use Rattle.std.proofs.Common.{◌≡◌, sym, subst}
+use Rattle.spec_log.specs.Log.{IsLog}
+use Rattle.spec_log.specs.declared.log.LogParts.{LogParts}
 use Rattle.spec_play.specs.Resuming.{IsBounded}
-use Rattle.spec_play.specs.Spawned.{AreNew}
-use Rattle.spec_play.specs.Turns.{Turn, TurnOfDma}
-use Rattle.spec_play.specs.Transfers.{DmaGoes, dma_verdict}
-use Rattle.spec_play.specs.Verdicts.{Goes, chunk_verdict, serial_verdict}
-use Rattle.spec_protocol.specs.machine.Spheres.{Replay, actor_of, is_over, pieces_of}
-use Rattle.dl_kernel.specs.declared.state.State.{State}
-use Rattle.dl_kernel.specs.Calls.{spawned_list}
+use Rattle.spec_play.specs.States.{progress_from}
 use Rattle.dl_kernel.specs.States.{state_in}
-use Rattle.dl_replay.specs.Following.{cursor_of, diverged, end_of, followed, followed_from}
-use Rattle.dl_replay.specs.Judged.{dma_judged, judged}
-use Rattle.dl_replay.specs.Judging.{step_verdict, transfer_verdict}
-use Rattle.dl_replay.specs.Left.{SaysSize, served_by, served_left, verdict_left, verdict_stored}
-use Rattle.dl_replay.specs.Limits.{chunk_limit, chunk_limit_in}
-use Rattle.dl_replay.specs.Replays.{Agrees, IsInside, IsReplaying}
+use Rattle.dl_replay.specs.Following.{Following, now_seen}
+use Rattle.dl_replay.specs.Replays.{IsReplaying}
+use Rattle.dl_replay.proofs.Advancing.{agrees-self, followed-is, goes-on}
 use Rattle.dl_replay.proofs.replayer.Replayer.at.Goals as goal
 
--- src/replayer.rt:68:5
 pub returns-clause-at : goal.returns-clause-at
-returns-clause-at g c = ?
+returns-clause-at g c =
+    let s = c.args.state.now in
+    let log = c.in_ok-log.log in
+    let same : log ≡ c.args.log.now = c.in_ok-log.ensures.value in
+    let is = subst (λ (x : LogParts). IsLog x) (sym same) c.in_ok-log.ensures.log in
+    let bounded = subst (λ (x : LogParts). IsBounded x (state_in s)) (sym same) c.requires.state in
+    let turn = c.now_in-turn.ensures (progress_from (state_in s)) (agrees-self s) in
+    subst (λ (x : Following). IsReplaying x s) (sym (followed-is log c.args.interval s (now_seen c.now_in-turn.result) turn))
+    (goes-on log c.args.interval s is bounded c.requires.request)

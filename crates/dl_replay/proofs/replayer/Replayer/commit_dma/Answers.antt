@@ -1,30 +1,28 @@
-use Rattle.std.proofs.Common.{rules, ◌≡◌, ℕ, List, ◌+◌, ◌<◌, ◌≤◌, ◌^◌, false, length, slice_get, Some, IfOk, OnErr, OnSome, ◌-◌, ◌*◌, ◌/◌, ◌%◌, Bool, true, nat_eq, nat_lt, [], ◌∷◌, ◌++◌, slice_index_or, slice_set, bit_and, bit_or, Fits, w8, w32, w64, Bor, MutBor}
-use Rattle.dl_entry.specs.Numbers.{most_threads}
-use Rattle.dl_entry.specs.declared.Why.{Why}
-use Rattle.spec_isa.specs.Words.{Stored}
-use Rattle.spec_isa.specs.declared.thread.Parts.{Parts}
-use Rattle.spec_isa.specs.declared.thread.Load.{Load}
-use Rattle.spec_isa.specs.Runs.{Run}
-use Rattle.spec_play.specs.declared.used.Used.{Used}
-use Rattle.spec_play.specs.Effects.{Effect}
-use Rattle.spec_play.specs.Progress.{Progress}
+use Rattle.std.proofs.Common.{◌<◌, length, sym, subst, arith}
 use Rattle.spec_play.specs.Resuming.{IsBounded}
-use Rattle.spec_play.specs.Spawned.{AreNew}
-use Rattle.spec_play.specs.Turns.{Turn, TurnOfDma}
-use Rattle.spec_play.specs.Transfers.{DmaGoes, dma_verdict}
-use Rattle.spec_play.specs.Verdicts.{Goes, chunk_verdict, serial_verdict}
-use Rattle.spec_protocol.specs.machine.Spheres.{Replay, actor_of, is_over, pieces_of}
+use Rattle.spec_play.specs.States.{progress_from}
 use Rattle.dl_kernel.specs.declared.state.State.{State}
-use Rattle.dl_kernel.specs.Calls.{spawned_list}
 use Rattle.dl_kernel.specs.States.{state_in}
-use Rattle.dl_replay.specs.Following.{cursor_of, diverged, end_of, followed, followed_from}
-use Rattle.dl_replay.specs.Judged.{dma_judged, judged}
-use Rattle.dl_replay.specs.Judging.{step_verdict, transfer_verdict}
-use Rattle.dl_replay.specs.Left.{SaysSize, served_by, served_left, verdict_left, verdict_stored}
-use Rattle.dl_replay.specs.Limits.{chunk_limit, chunk_limit_in}
-use Rattle.dl_replay.specs.Replays.{Agrees, IsInside, IsReplaying}
+use Rattle.dl_replay.specs.Following.{Following}
+use Rattle.dl_replay.specs.Replays.{IsInside, IsReplaying}
+use Rattle.dl_replay.proofs.Advancing.{agrees-self, goes-on}
 use Rattle.dl_replay.proofs.replayer.Replayer.commit_dma.Goals as goal
 
--- src/replayer.rt:355:5
 pub returns-clause-at : goal.returns-clause-at
-returns-clause-at g c = ?
+returns-clause-at g c =
+    let r : Following = c.args.self.now in
+    let s : State = c.args.state.now in
+    let t : State = c.go_on.new.state in
+    let was = c.requires.at.bounded in
+    let left : s.commits < r.log.count = c.requires.at.left c.requires.left in
+    let bounded : IsBounded r.log (state_in t) =
+    subst (λ (x : State). IsBounded r.log (state_in x)) (sym c.go_on.ensures.state)
+    (record {
+      commits = omega (arith, left);
+      threads = λ k u is. omega (arith, was.threads k u is);
+      interrupts = omega (arith, was.interrupts);
+    })
+    in
+    let inside = subst (λ (x : State). IsInside (length x.memory) x.request) (sym c.go_on.ensures.state) tt in
+    let went = c.go_on.ensures.replay (progress_from (state_in t)) (agrees-self t) in
+    subst (λ (x : Following). IsReplaying x t) (sym went) (goes-on r.log r.interval t c.requires.at.is_log bounded inside)
