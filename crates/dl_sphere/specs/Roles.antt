@@ -115,3 +115,9 @@ pub record IsSphere (s : ℕ) (past : Past) (keeping : Keeping) : Type 0 where
   pub size : IsChunkSize s
   pub counted : IsCounted past
   pub kept : IsKeepingOf s past keeping
+
+-- the sphere is not replayed
+abbrev pub IsLive : Keeping → Type 0
+IsLive Plain = Unit {0}
+IsLive (Recording r) = Unit {0}
+IsLive (Replaying r loads) = ⊥

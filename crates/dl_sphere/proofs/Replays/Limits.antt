@@ -1,16 +1,17 @@
 -- A replay is as far as its sphere, and the limits of its chunks and its requests are within their bounds.
 use Rattle.std.proofs.Common.{◌≡◌, ℕ, Bool, true, false, zero, suc, ◌+◌, ◌^◌, ◌<◌, ◌≤◌, List, length, Option, Some, None, refl, sym, ap, ◌∙◌, subst, arith, set}
 use Rattle.std.specs.Prelude.{slice_get, IfSome}
-use Rattle.std.proofs.lemmas.Bool.{true≢false}
+use Rattle.std.proofs.lemmas.Bool.{true≢false, eq-eqb}
 use Rattle.dl_entry.specs.declared.Request.{Request}
 use Rattle.spec_isa.specs.declared.thread.Parts.{Parts}
 use Rattle.spec_log.specs.Log.{IsLog}
 use Rattle.spec_log.proofs.Threads.{log-among}
 use Rattle.spec_play.specs.Progress.{position}
+use Rattle.spec_play.specs.Turns.{Turn}
 use Rattle.spec_play.specs.declared.used.Used.{Used}
 use Rattle.spec_protocol.specs.promises.Sound.{IsSoundRequest, commits_in, commits_if}
 use Rattle.spec_protocol.specs.machine.Placing.{replays}
-use Rattle.spec_protocol.specs.machine.Spheres.{Cursor, Replay as IsReplay, Sphere, limit_in, whole_limit}
+use Rattle.spec_protocol.specs.machine.Spheres.{Cursor, Replay as IsReplay, Sphere, limit_in, pieces_of, whole_limit}
 use Rattle.spec_protocol.proofs.Sound.Commits.{set-all}
 use Rattle.spec_protocol.proofs.Sound.Limits.{whole-most}
 use Rattle.dl_kernel.specs.declared.past.Past.{Past}
@@ -62,10 +63,11 @@ pub commits_within : (r : Following) (s : State) (k : ℕ) → IsReplaying r s �
 commits_within r s k h = commits-within r s k (slice_get s.threads k) refl h
 
 -- a part and those before it are no more than a standard chunk
-pub part_fits : (b : Cursor) (k n : ℕ) (t : Parts) → IsLog b.log → b.total < whole_limit b.log k t.commits → n ≤ limit_in (IsReplay b) 0 k t.commits → b.total + n ≤ b.log.s
-part_fits b k n t is room within =
+pub part_fits : (b : Cursor) (k n : ℕ) (t : Parts) → IsLog b.log → b.now ≡ Turn k → b.total < whole_limit b.log k t.commits → n ≤ limit_in (IsReplay b) 0 k t.commits → b.total + n ≤ b.log.s
+part_fits b k n t is turn room within =
     let a = whole-most b.log k t.commits is in
-    omega (arith, a, room, within)
+    let own : pieces_of b.now k b.total ≡ b.total = rw (turn, eq-eqb k k refl) refl in
+    omega (arith, a, own, room, within)
 
 -- the limit of a replay's chunk is at least 1
 pub replay_least : (after : Bool) (s : ℕ) (b : Cursor) (k n : ℕ) → 1 ≤ chunk_limit_in after (IsReplay b) s k n

@@ -23,6 +23,9 @@ use Rattle.dl_sphere.specs.Pasts.{sphere_at, sphere_with}
 use Rattle.dl_sphere.specs.Roles.{IsCounted}
 use Rattle.dl_sphere.proofs.Replays.Judging.{IfGoes}
 
+not-went : (why : Why) → Verdict.Diverged why ≡ Verdict.Went → ⊥
+not-went why e = cc
+
 -- The sphere has come so far; these are the loads of the pieces of its present commit, and the devices.
 module _ (past : Past) (loads : List Load) (d : Devices) where
   -- the sphere in a state, with these commits, and so far in its log
@@ -75,6 +78,23 @@ module _ (past : Past) (loads : List Load) (d : Devices) where
   pub dma_stores : (words : List Stored) (v : DmaVerdict) → DmaGoes words ≡ v → IfStores words v
   dma_stores words (DmaGoes stored) is = (let e : DmaGoes words ≡ DmaGoes stored = is in cc)
   dma_stores words (DmaFails why) is = tt
+
+  -- ---- where the replay leaves its log
+
+  fails : (why : Why) (new : Following) (t : State) (j : Judged) → record { verdict = Verdict.Diverged why; replay = new; state = t } ≡ j → (c : Commit) (words : List Stored) → answered c words (Verdict.Diverged why) new t ≡ made_of c words j
+  fails why new t j is c words = ap (made_of c words) is
+
+  pub commit_left : (r : Following) (k : ℕ) (v : LogVerdict) (why : Why) (new : Following) (t : State) → IsCounted past
+      → record { verdict = Verdict.Diverged why; replay = new; state = t } ≡ judged r past.state (now_at r).progress k v
+      → answered dma_commit [] (Verdict.Diverged why) new t ≡ by_verdict (cursor_of r past.state.used loads) k v d (now_at r)
+  commit_left r k (Fails other) why new t counted is = fails why new t _ is dma_commit [] ∙ commit_moved r k (Fails other) dma_commit [] counted tt
+  commit_left r k (Goes e u) why new t counted is = absurd (not-went why (ap (λ (j : Judged). j.verdict) is))
+
+  pub dma_left : (r : Following) (v : DmaVerdict) (why : Why) (new : Following) (t : State) → IsCounted past
+      → record { verdict = Verdict.Diverged why; replay = new; state = t } ≡ dma_judged r past.state (now_at r).progress v
+      → answered dma_commit [] (Verdict.Diverged why) new t ≡ dma_by_verdict (cursor_of r past.state.used loads) v d (now_at r)
+  dma_left r (DmaFails other) why new t counted is = fails why new t _ is dma_commit [] ∙ dma_goes r (DmaFails other) [] counted tt
+  dma_left r (DmaGoes words) why new t counted is = absurd (not-went why (ap (λ (j : Judged). j.verdict) is))
 
 -- ---- what is counted
 

@@ -29,7 +29,7 @@ use Rattle.dl_kernel.specs.States.{state_in}
 use Rattle.dl_replay.specs.Following.{Following, followed_from}
 use Rattle.dl_replay.specs.Replays.{IsInside}
 use Rattle.dl_sphere.specs.Setups.{HasCome}
-use Rattle.spec_play.specs.Noted.{as_log}
+use Rattle.spec_play.specs.Noted.{as_log, nothing_recorded}
 use Rattle.dl_kernel.specs.declared.past.Past.{Past}
 use Rattle.dl_sphere.specs.Pasts.{sphere_at, sphere_with}
 use Rattle.dl_sphere.specs.Roles.{Keeping, Plain, Recording, Replaying, role_of, HasFew, HasRecorded, IsKeepingOf, IsSphere}
@@ -152,7 +152,7 @@ start_alone s image (IsRecorded asked) =
       threads = one-thread asked.version;
       all = refl;
       done = none-done image.entry;
-      stands = start-stands s (record image { role = IsRecorded asked }) asked.version asked.mode;
+      stands = start-stands s image (machine.Record (record { log = as_log (nothing_recorded asked.version asked.mode s) })) asked.version asked.mode;
     }
 start_alone s image (IsReplayed asked) = tt
 

@@ -1,12 +1,13 @@
 use Rattle.std.proofs.Common.{◌≡◌, ◌+◌, ◌∷◌, ◌++◌, [], length, suc, Some, refl, sym, ap, subst, ◌∙◌, arith}
 use Rattle.spec_play.specs.Effects.{dma_commit}
 use Rattle.spec_play.specs.Transfers.{dma_verdict}
-use Rattle.spec_protocol.specs.machine.Commits.{Granted, MovedSphere, dma_moved}
+use Rattle.spec_protocol.specs.machine.Commits.{Diverged, Granted, MovedSphere, dma_moved}
 use Rattle.spec_protocol.specs.machine.Spheres.{Replay}
 use Rattle.spec_protocol.proofs.Logs.Growing.{pushed_length}
+use Rattle.dl_kernel.specs.declared.state.State.{State}
 use Rattle.dl_replay.specs.Judged.{Judged}
 use Rattle.dl_sphere.specs.Inside.{cursor_in, replayed_at}
-use Rattle.dl_sphere.proofs.Replays.Moved.{HasCounted, agreed, dma_counted, dma_goes, dma_log, dma_stores, in_state, made_of}
+use Rattle.dl_sphere.proofs.Replays.Moved.{HasCounted, agreed, dma_counted, dma_goes, dma_left, dma_log, dma_stores, in_state, made_of}
 use Rattle.dl_sphere.proofs.replaying.serve_dma.Goals as goal
 
 pub returns-in-Ok-clause-moved : goal.returns-in-Ok-clause-moved
@@ -22,8 +23,8 @@ returns-in-Ok-clause-moved c d =
     let counted = c.requires.at.counted in
     let agrees = agreed past (Replay (cursor_in past replay)) counted in
     let v = dma_verdict r.log x.progress s.used in
-    let said = rw c.in-Ok.is at (c.in_ok-serve_dma.ensures.judged x.progress agrees) in
-    let stored = rw c.in-Ok.is at (c.in_ok-serve_dma.ensures.stored x.progress agrees) in
+    let said = rw c.in-Ok.is at (c.in_ok-words.ensures.judged x.progress agrees) in
+    let stored = rw c.in-Ok.is at (c.in_ok-words.ensures.stored x.progress agrees) in
     let commits : c.push_reserved.new.self.items ≡ past.commits.items ++ dma_commit ∷ [] =
     c.push_reserved.ensures.items ∙ (λ i. c.in_ok-reserve.ensures.items i ++ c.dma_commit.ensures i ∷ [])
     in
@@ -46,12 +47,12 @@ returns-in-Ok-clause-at c =
     let x = replayed_at past replay in
     let was = c.requires.at.counted in
     let agrees = agreed past (Replay (cursor_in past replay)) was in
-    let said = rw c.in-Ok.is at (c.in_ok-serve_dma.ensures.judged x.progress agrees) in
+    let said = rw c.in-Ok.is at (c.in_ok-words.ensures.judged x.progress agrees) in
     let more = subst (HasCounted s) (sym said) (dma_counted r s x.progress (dma_verdict r.log x.progress s.used)) in
     let count : length c.push_reserved.new.self.items ≡ suc (length past.commits.items) =
     ap length (c.push_reserved.ensures.items ∙ ap (λ xs. xs ++ c.dma_commit.result ∷ []) c.in_ok-reserve.ensures.items) ∙ pushed_length past.commits.items c.dma_commit.result (length past.commits.items) refl
     in
-    record { replaying = c.in_ok-serve_dma.ensures.at; counted = omega (arith, was, more, count) }
+    record { replaying = c.serve_dma.ensures.at; counted = omega (arith, was, more, count) }
 
 pub returns-in-Ok-clause-log : goal.returns-in-Ok-clause-log
 returns-in-Ok-clause-log c =
@@ -60,5 +61,50 @@ returns-in-Ok-clause-log c =
     let s = past.state in
     let x = replayed_at past replay in
     let agrees = agreed past (Replay (cursor_in past replay)) c.requires.at.counted in
-    ap (λ (j : Judged). j.replay.log) (c.in_ok-serve_dma.ensures.judged x.progress agrees)
+    ap (λ (j : Judged). j.replay.log) (c.in_ok-words.ensures.judged x.progress agrees)
+    ∙ dma_log replay.player s x.progress (dma_verdict replay.player.log x.progress s.used)
+
+pub returns-in-Err-clause-moved : goal.returns-in-Err-clause-moved
+unfolding dma_moved
+returns-in-Err-clause-moved c d =
+    let past = c.args.past.now in
+    let replay = c.args.replay.now in
+    let loads = replay.loads.items in
+    let r = replay.player in
+    let s = past.state in
+    let x = replayed_at past replay in
+    let counted = c.requires.at.counted in
+    let v = dma_verdict r.log x.progress s.used in
+    let said = rw c.in-Err.is at (c.in_ok-words.ensures.judged x.progress (agreed past (Replay (cursor_in past replay)) counted)) in
+    let still : c.serve_dma.new.state ≡ s = subst (HasCounted s) (sym said) (dma_counted r s x.progress v) in
+    ap (λ (m : MovedSphere). Some m)
+    ((λ i. record {
+      outcome = Diverged (still i).commits c.in-Err.why;
+      sphere = in_state past loads d c.serve_dma.new.state (c.in_ok-reserve.ensures.items i) c.serve_dma.new.self loads;
+      words = [];
+      devices = d;
+    })
+    ∙ dma_left past loads d r v c.in-Err.why c.serve_dma.new.self c.serve_dma.new.state counted said)
+
+pub returns-in-Err-clause-at : goal.returns-in-Err-clause-at
+returns-in-Err-clause-at c =
+    let past = c.args.past.now in
+    let replay = c.args.replay.now in
+    let r = replay.player in
+    let s = past.state in
+    let x = replayed_at past replay in
+    let was = c.requires.at.counted in
+    let said = rw c.in-Err.is at (c.in_ok-words.ensures.judged x.progress (agreed past (Replay (cursor_in past replay)) was)) in
+    let still : c.serve_dma.new.state ≡ s = subst (HasCounted s) (sym said) (dma_counted r s x.progress (dma_verdict r.log x.progress s.used)) in
+    let same : c.serve_dma.new.state.commits ≡ s.commits = ap (λ (y : State). y.commits) still in
+    let count : length c.reserve.new.self.items ≡ length past.commits.items = ap length c.in_ok-reserve.ensures.items in
+    record { replaying = c.serve_dma.ensures.at; counted = omega (arith, was, same, count) }
+
+pub returns-in-Err-clause-log : goal.returns-in-Err-clause-log
+returns-in-Err-clause-log c =
+    let past = c.args.past.now in
+    let replay = c.args.replay.now in
+    let s = past.state in
+    let x = replayed_at past replay in
+    ap (λ (j : Judged). j.replay.log) (c.in_ok-words.ensures.judged x.progress (agreed past (Replay (cursor_in past replay)) c.requires.at.counted))
     ∙ dma_log replay.player s x.progress (dma_verdict replay.player.log x.progress s.used)

@@ -4,10 +4,11 @@ use Rattle.spec_play.specs.Verdicts.{serial_verdict}
 use Rattle.spec_protocol.specs.machine.Commits.{Diverged, Granted, serial_moved}
 use Rattle.spec_protocol.specs.machine.Spheres.{Replay}
 use Rattle.spec_protocol.proofs.Logs.Growing.{pushed_length}
+use Rattle.dl_kernel.specs.declared.state.State.{State}
 use Rattle.dl_replay.specs.Judged.{Judged}
 use Rattle.dl_sphere.specs.Inside.{cursor_in, replayed_at}
 use Rattle.dl_sphere.proofs.Replays.Judging.{serial_is}
-use Rattle.dl_sphere.proofs.Replays.Moved.{HasCounted, agreed, commit_counted, commit_log, commit_moved, in_state, made_of}
+use Rattle.dl_sphere.proofs.Replays.Moved.{HasCounted, agreed, commit_counted, commit_left, commit_log, commit_moved, in_state, made_of}
 use Rattle.dl_sphere.proofs.replaying.serve_step.Goals as goal
 
 pub returns-in-Ok-clause-moved : goal.returns-in-Ok-clause-moved
@@ -24,8 +25,8 @@ returns-in-Ok-clause-moved c moment t d there =
     let counted = c.requires.at.counted in
     let agrees = agreed past (Replay (cursor_in past replay)) counted in
     let v = serial_verdict r.log x.progress s.used k s.threads t s.memory in
-    let said = rw c.in-Ok.is at (c.in_ok-serve_step.ensures.judged x.progress t agrees there) in
-    let served = rw c.in-Ok.is at (c.in_ok-serve_step.ensures.served x.progress t agrees there) in
+    let said = rw c.in-Ok.is at (c.in_ok-left.ensures.judged x.progress t agrees there) in
+    let served = rw c.in-Ok.is at (c.in_ok-left.ensures.served x.progress t agrees there) in
     let commit = serial_commit k left.loads left.outputs in
     let commits : c.push_reserved.new.self.items ≡ past.commits.items ++ commit ∷ [] =
     c.push_reserved.ensures.items ∙ (λ i. c.in_ok-reserve.ensures.items i ++ c.serial_commit.ensures i ∷ [])
@@ -52,12 +53,12 @@ returns-in-Ok-clause-at c =
     let was = c.requires.at.counted in
     let agrees = agreed past (Replay (cursor_in past replay)) was in
     let v = serial_verdict r.log x.progress s.used k s.threads t s.memory in
-    let said = rw c.in-Ok.is at (c.in_ok-serve_step.ensures.judged x.progress t agrees c.thread_at.ensures.thread) in
+    let said = rw c.in-Ok.is at (c.in_ok-left.ensures.judged x.progress t agrees c.thread_at.ensures.thread) in
     let more = subst (HasCounted s) (sym said) (commit_counted r s x.progress k v) in
     let count : length c.push_reserved.new.self.items ≡ suc (length past.commits.items) =
     ap length (c.push_reserved.ensures.items ∙ ap (λ xs. xs ++ c.serial_commit.result ∷ []) c.in_ok-reserve.ensures.items) ∙ pushed_length past.commits.items c.serial_commit.result (length past.commits.items) refl
     in
-    record { replaying = c.in_ok-serve_step.ensures.at; counted = omega (arith, was, more, count) }
+    record { replaying = c.serve_step.ensures.at; counted = omega (arith, was, more, count) }
 
 pub returns-in-Ok-clause-log : goal.returns-in-Ok-clause-log
 returns-in-Ok-clause-log c =
@@ -67,5 +68,54 @@ returns-in-Ok-clause-log c =
     let x = replayed_at past replay in
     let t = c.thread_at.result in
     let agrees = agreed past (Replay (cursor_in past replay)) c.requires.at.counted in
-    ap (λ (j : Judged). j.replay.log) (c.in_ok-serve_step.ensures.judged x.progress t agrees c.thread_at.ensures.thread)
+    ap (λ (j : Judged). j.replay.log) (c.in_ok-left.ensures.judged x.progress t agrees c.thread_at.ensures.thread)
+    ∙ commit_log replay.player s x.progress c.args.thread (serial_verdict replay.player.log x.progress s.used c.args.thread s.threads t s.memory)
+
+pub returns-in-Err-clause-moved : goal.returns-in-Err-clause-moved
+unfolding serial_moved
+returns-in-Err-clause-moved c moment t d there =
+    let past = c.args.past.now in
+    let replay = c.args.replay.now in
+    let loads = replay.loads.items in
+    let r = replay.player in
+    let k = c.args.thread in
+    let s = past.state in
+    let x = replayed_at past replay in
+    let counted = c.requires.at.counted in
+    let agrees = agreed past (Replay (cursor_in past replay)) counted in
+    let v = serial_verdict r.log x.progress s.used k s.threads t s.memory in
+    let said = rw c.in-Err.is at (c.in_ok-left.ensures.judged x.progress t agrees there) in
+    let still : c.serve_step.new.state ≡ s = subst (HasCounted s) (sym said) (commit_counted r s x.progress k v) in
+    (λ i. record {
+      outcome = Diverged (still i).commits c.in-Err.why;
+      sphere = in_state past loads d c.serve_step.new.state (c.in_ok-reserve.ensures.items i) c.serve_step.new.self loads;
+      words = [];
+      devices = d;
+    })
+    ∙ commit_left past loads d r k v c.in-Err.why c.serve_step.new.self c.serve_step.new.state counted said
+
+pub returns-in-Err-clause-at : goal.returns-in-Err-clause-at
+returns-in-Err-clause-at c =
+    let past = c.args.past.now in
+    let replay = c.args.replay.now in
+    let r = replay.player in
+    let k = c.args.thread in
+    let s = past.state in
+    let x = replayed_at past replay in
+    let t = c.thread_at.result in
+    let was = c.requires.at.counted in
+    let said = rw c.in-Err.is at (c.in_ok-left.ensures.judged x.progress t (agreed past (Replay (cursor_in past replay)) was) c.thread_at.ensures.thread) in
+    let still : c.serve_step.new.state ≡ s = subst (HasCounted s) (sym said) (commit_counted r s x.progress k (serial_verdict r.log x.progress s.used k s.threads t s.memory)) in
+    let same : c.serve_step.new.state.commits ≡ s.commits = ap (λ (y : State). y.commits) still in
+    let count : length c.reserve.new.self.items ≡ length past.commits.items = ap length c.in_ok-reserve.ensures.items in
+    record { replaying = c.serve_step.ensures.at; counted = omega (arith, was, same, count) }
+
+pub returns-in-Err-clause-log : goal.returns-in-Err-clause-log
+returns-in-Err-clause-log c =
+    let past = c.args.past.now in
+    let replay = c.args.replay.now in
+    let s = past.state in
+    let x = replayed_at past replay in
+    let t = c.thread_at.result in
+    ap (λ (j : Judged). j.replay.log) (c.in_ok-left.ensures.judged x.progress t (agreed past (Replay (cursor_in past replay)) c.requires.at.counted) c.thread_at.ensures.thread)
     ∙ commit_log replay.player s x.progress c.args.thread (serial_verdict replay.player.log x.progress s.used c.args.thread s.threads t s.memory)
