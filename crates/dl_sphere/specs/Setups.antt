@@ -27,6 +27,12 @@ abbrev pub diverged_in : Option Begun → Option Why
 diverged_in None = None
 diverged_in (Some b) = b.diverged
 
+-- where the role begins, if it replays an interval
+abbrev pub begun_as : Role → Option Begun
+begun_as Role.Plain = None
+begun_as (Role.Record version mode) = None
+begun_as (Role.Replay replay) = replay.begun
+
 abbrev pub replay_setup : Replay → protocol.ReplaySetup
 replay_setup r = record { log = r.log; interval = interval_in r.begun }
 

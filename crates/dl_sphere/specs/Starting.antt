@@ -1,20 +1,16 @@
 -- What a sphere is, and keeps for its role, before its first commit.
-use Rattle.std.specs.Prelude.{◌≡◌, ℕ, [], Option, Some, None}
+use Rattle.std.specs.Prelude.{ℕ, [], Option, Some, None}
 use Rattle.dl_entry.specs.declared.Why.{Why}
 use Rattle.spec_play.specs.Intervals.{now_in}
 use Rattle.spec_play.specs.Noted.{nothing_recorded}
 use Rattle.spec_play.specs.Plays.{Played}
 use Rattle.spec_play.specs.Progress.{nothing_used, position}
 use Rattle.spec_play.specs.States.{State, state_of}
-use Rattle.spec_protocol.specs.promises.Sound.{IsImage}
 use Rattle.spec_protocol.specs.machine.Machine.{ReplaySetup, RoleSetup, IsPlain, IsRecorded, IsReplayed, SphereSetup, first_played, first_threads}
 use Rattle.dl_replay.specs.Following.{Following, diverged}
 use Rattle.dl_replay.specs.Replays.{IsReplaying}
-use Rattle.dl_kernel.specs.States.{state_in}
 use Rattle.dl_kernel.specs.declared.state.State.{State as At}
 use Rattle.dl_sphere.specs.Roles.{Keeping, Plain, Recording, Replaying}
-use Rattle.dl_sphere.specs.Setups.{IsBegunAs, role_setup}
-use Rattle.dl_sphere.specs.declared.setup.Role.{Role}
 
 -- thread 0 alone, at the entry of the image
 abbrev pub first_state : SphereSetup → State
@@ -54,12 +50,6 @@ keeping_at image s (IsReplayed asked) = Replaying (following_at asked (first_pla
 abbrev pub diverged_if : Option Why → (commits : ℕ) → Following → Following
 diverged_if None n r = r
 diverged_if (Some why) n r = diverged why n r
-
--- the state is the first one of a sphere of this image and role
-pub record IsStartOf (image : SphereSetup) (role : Role) (s : At) : Type 0 where
-  pub same : image.role ≡ role_setup role
-  pub begun : IsBegunAs image role
-  pub state : state_in s ≡ start_as image (role_setup role)
 
 -- what is kept for a replay agrees with the state
 abbrev pub IsReplayingIf : Keeping → At → Type 0

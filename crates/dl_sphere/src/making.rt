@@ -1,19 +1,19 @@
 //! A sphere before its first commit.
-ghost use Rattle.std.specs.Prelude.{◌≡◌, IfOk, length};
+ghost use Rattle.std.specs.Prelude.{◌≡◌, ℕ, IfOk, length};
 ghost use Rattle.spec_play.specs.Resuming.{IsBounded};
-ghost use Rattle.spec_protocol.specs.machine.Machine.{SphereSetup, sphere_of};
+ghost use Rattle.spec_protocol.specs.machine.Machine.{sphere_of};
 ghost use Rattle.spec_protocol.specs.promises.Sound.{IsChunkSize, IsImage, IsRole};
 ghost use Rattle.dl_kernel.specs.States.{state_in};
 ghost use Rattle.dl_replay.specs.Following.{followed_from};
 ghost use Rattle.dl_replay.specs.Replays.{IsInside, IsReplaying};
 ghost use Rattle.dl_sphere.specs.Roles.{keeping_of};
 ghost use Rattle.dl_sphere.specs.Setups.{HasBegun, IsRecordableIf, diverged_in, interval_in, role_setup, setup_of};
-ghost use Rattle.dl_sphere.specs.Starting.{IsReplayingIf, IsStartOf, diverged_if, keeping_at, start_as};
+ghost use Rattle.dl_sphere.specs.Starting.{IsReplayingIf, diverged_if, keeping_at, start_as};
 
 use crate::part::{Part, Replayed};
 use crate::player::Player;
 use crate::recording::Recording;
-use crate::setup::{Replay, Role, SphereSetup as Setup};
+use crate::setup::{Replay, Role, SphereSetup};
 use crate::sphere::Sphere;
 use dl_entry::OutOfMemory;
 use dl_kernel::{Past, State};
@@ -23,7 +23,7 @@ use std::alloc::Global;
 impl Sphere {
     /// A sphere of this plan, with standard chunks of so many instructions. If it is recorded, they fit the version of its
     /// log; if it replays an interval, this begins in its log's play on the image.
-    pub fn new(alloc: Global, setup: &Setup, s: u32) -> Result<Sphere, OutOfMemory>
+    pub fn new(alloc: Global, setup: &SphereSetup, s: u32) -> Result<Sphere, OutOfMemory>
         requires size { IsChunkSize s }
         requires role { IsRecordableIf s (role_setup setup.now.role) }
         requires begun { HasBegun setup.now }
@@ -31,7 +31,7 @@ impl Sphere {
         ensures image { IfOk result (λ p. IsImage s (setup_of setup.now)) }
     {
         let state = start_of(alloc, setup)?;
-        let part = part_of(alloc, &setup.role, s, &state)?;
+        let part = part_of(alloc, setup, s, &state)?;
         let past = Past {
             alloc,
             first: state.commits,
@@ -43,40 +43,48 @@ impl Sphere {
 }
 
 // The image before the first commit, or where the interval of a replay begins.
-fn start_of(alloc: Global, setup: &Setup) -> Result<State, OutOfMemory>
+fn start_of(alloc: Global, setup: &SphereSetup) -> Result<State, OutOfMemory>
     requires begun { HasBegun setup.now }
     ensures state { let image = setup_of setup.now in IfOk result (λ state. state_in state ≡ start_as image image.role) }
+    ensures image { (s : ℕ) → IfOk result (λ state. let image = setup_of setup.now in IsRole s image.role → IsImage s image) }
 {
     let image = &setup.image;
-    if let Role::Replay(Replay {
-        begun: Some(begun), ..
-    }) = &setup.role
-    {
-        return begun.state.again(alloc);
+    let entry = image.entry();
+    match setup.role.begun() {
+        Some(begun) => begun.state.again(alloc),
+        None => Ok(State::first(Memory::new(alloc, image)?, entry)),
     }
-    Ok(State::first(Memory::new(alloc, image)?, image.entry()))
 }
 
-// What is kept for a role where the sphere starts.
-fn part_of(alloc: Global, role: &Role, s: u32, state: &State) -> Result<Part, OutOfMemory>
-    ghost image: { SphereSetup }
-    requires recorded { IsRecordableIf s (role_setup role.now) }
-    requires image { IsStartOf image role.now state.now }
-    requires whole { IsRole s (role_setup role.now) → IsImage s image }
-    ensures kept { IfOk result (λ part. keeping_of part ≡ keeping_at image s (role_setup role.now)) }
+// What is kept for its role where the sphere starts.
+fn part_of(
+    alloc: Global,
+    setup: &SphereSetup,
+    s: u32,
+    state: &State,
+) -> Result<Part, OutOfMemory>
+    requires recorded { IsRecordableIf s (role_setup setup.now.role) }
+    requires begun { HasBegun setup.now }
+    requires start { let image = setup_of setup.now in state_in state.now ≡ start_as image image.role }
+    requires image { let image = setup_of setup.now in IsRole s image.role → IsImage s image }
+    ensures kept { let image = setup_of setup.now in IfOk result (λ part. keeping_of part ≡ keeping_at image s image.role) }
     ensures at { IfOk result (λ part. IsReplayingIf (keeping_of part) state.now) }
-    ensures role { IfOk result (λ part. IsRole s (role_setup role.now)) }
+    ensures role { IfOk result (λ part. IsRole s (role_setup setup.now.role)) }
 {
-    match role {
+    match &setup.role {
         Role::Plain => Ok(Part::Plain),
         Role::Record { version, mode } => {
             let recording = Recording::new(alloc, *version, *mode, s)?;
             Ok(Part::Recorded(recording))
         }
-        Role::Replay(replay) => Ok(Part::Replayed(Replayed {
-            player: player_of(alloc, replay, state)?,
-            loads: Vec::new(alloc),
-        })),
+        Role::Replay(replay) => {
+            // the proof sees here that it is a log
+            let _ = replay.log.parts();
+            Ok(Part::Replayed(Replayed {
+                player: player_of(alloc, replay, state)?,
+                loads: Vec::new(alloc),
+            }))
+        }
     }
 }
 

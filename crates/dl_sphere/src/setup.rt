@@ -1,6 +1,6 @@
 //! What a plan says of a sphere.
-ghost use Rattle.std.specs.Prelude.{◌≡◌};
-ghost use Rattle.dl_sphere.specs.Setups.{diverged_in, interval_in};
+ghost use Rattle.std.specs.Prelude.{◌≡◌, option_map};
+ghost use Rattle.dl_sphere.specs.Setups.{begun_as, diverged_in, interval_in};
 
 use dl_elf::Image;
 use dl_entry::Why;
@@ -37,6 +37,18 @@ pub struct Begun {
 pub struct SphereSetup {
     pub image: Image,
     pub role: Role,
+}
+
+impl Role {
+    /// Where an interval begins, if one is replayed.
+    pub fn begun(&self) -> Option<&Begun>
+        ensures { option_map (λ b. b.now) result ≡ begun_as self.now }
+    {
+        match self {
+            Role::Plain | Role::Record { .. } => None,
+            Role::Replay(replay) => replay.begun.as_ref(),
+        }
+    }
 }
 
 impl Replay {

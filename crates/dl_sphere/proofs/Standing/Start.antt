@@ -2,6 +2,7 @@
 use Rattle.std.proofs.Common.{◌≡◌, ℕ, zero, suc, ◌+◌, ◌<◌, ◌≤◌, ◌==◌, Bool, true, false, ◌&&◌, cond, nat_le, nat_lt, List, [], ◌∷◌, length, replicate, slice_index, Option, Some, None, inl, inr, refl, sym, ap, ◌∙◌, subst, arith}
 use Rattle.std.proofs.Math.ListN.{get_or}
 use Rattle.std.proofs.lemmas.Bool.{cases_Bool, lt-leb}
+use Rattle.std.proofs.lemmas.Option.{none-some, same_Some}
 use Rattle.dl_entry.specs.declared.Commit.{Commit}
 use Rattle.dl_entry.specs.declared.End.{End}
 use Rattle.dl_entry.specs.declared.Request.{Request}
@@ -10,7 +11,8 @@ use Rattle.spec_isa.specs.Threads.{started}
 use Rattle.spec_log.specs.declared.LogParts.{LogParts}
 use Rattle.spec_log.specs.Versions.{new_threads}
 use Rattle.spec_play.specs.declared.interval.Interval.{Interval}
-use Rattle.spec_play.specs.Intervals.{IsWithin, before, begun, now_in}
+use Rattle.spec_log.specs.Log.{IsLog}
+use Rattle.spec_play.specs.Intervals.{IsWithin, IsWithinIf, before, begun, now_in}
 use Rattle.spec_play.specs.Plays.{Played, opened, plays}
 use Rattle.spec_play.specs.Progress.{position}
 use Rattle.spec_play.specs.Resuming.{IsBounded}
@@ -28,12 +30,15 @@ use Rattle.spec_protocol.proofs.Sound.Plays.{replay-sound}
 use Rattle.dl_kernel.specs.States.{state_in}
 use Rattle.dl_replay.specs.Following.{Following, followed_from}
 use Rattle.dl_replay.specs.Replays.{IsInside}
-use Rattle.dl_sphere.specs.Setups.{HasCome}
+use Rattle.dl_sphere.specs.Setups.{HasCome, IsBegunAs, IsBegunIf, begun_as, diverged_in, interval_in, replay_setup, role_setup}
+use Rattle.dl_sphere.specs.declared.setup.Begun.{Begun}
+use Rattle.dl_sphere.specs.declared.setup.Replay.{Replay}
+use Rattle.dl_sphere.specs.declared.setup.Role.{Role}
 use Rattle.spec_play.specs.Noted.{as_log, nothing_recorded}
 use Rattle.dl_kernel.specs.declared.past.Past.{Past}
 use Rattle.dl_sphere.specs.Pasts.{sphere_at, sphere_with}
 use Rattle.dl_sphere.specs.Roles.{Keeping, Plain, Recording, Replaying, role_of, HasFew, HasRecorded, IsKeepingOf, IsSphere}
-use Rattle.dl_sphere.specs.Starting.{IsReplayingIf, diverged_if, following_at, keeping_at, start_as}
+use Rattle.dl_sphere.specs.Starting.{IsReplayingIf, diverged_if, first_state, following_at, keeping_at, start_as}
 
 -- ---- a live sphere
 
@@ -134,6 +139,50 @@ start_follows image log i (Some why) within come =
 pub start_follows_all : (image : SphereSetup) (log : LogParts) → let asked : ReplaySetup = record { log = log; interval = None } in
     followed_from log None (state_of (first_played image asked)) ≡ following_at asked (first_played image asked)
 start_follows_all image log = refl
+
+-- ---- by its setup
+
+within-if : (image : SphereSetup) (asked : ReplaySetup) (o : Option Begun) → IsBegunIf image asked o → IsWithinIf asked.log.count (interval_in o)
+within-if image asked None h = tt
+within-if image asked (Some b) h = h.within
+
+-- what is replayed is a log, and an interval is within it
+pub role_of_replay : (s : ℕ) (image : SphereSetup) (r : Replay) → IsLog r.log → IsBegunIf image (replay_setup r) r.begun → IsRole s (IsReplayed (replay_setup r))
+role_of_replay s image r good h = (good, within-if image (replay_setup r) r.begun h)
+
+follows-start : (image : SphereSetup) (log : LogParts) (o : Option Begun) (s : State) → let asked : ReplaySetup = record { log = log; interval = interval_in o } in
+    IsBegunIf image asked o → s ≡ state_of (first_played image asked)
+    → diverged_if (diverged_in o) s.commits (followed_from log (interval_in o) s) ≡ following_at asked (first_played image asked)
+follows-start image log None s h is = ap (followed_from log None) is ∙ start_follows_all image log
+follows-start image log (Some b) s h is =
+    ap (λ (x : State). diverged_if b.diverged x.commits (followed_from log (Some b.interval) x)) is
+    ∙ start_follows image log b.interval b.diverged h.within h.come
+
+-- its player is where its log's play is
+pub follows_start : (image : SphereSetup) (r : Replay) (s : State) → IsBegunIf image (replay_setup r) r.begun → s ≡ state_of (first_played image (replay_setup r))
+    → diverged_if (diverged_in r.begun) s.commits (followed_from r.log (interval_in r.begun) s) ≡ following_at (replay_setup r) (first_played image (replay_setup r))
+follows_start image r s h is = follows-start image r.log r.begun s h is
+
+first-start : (image : SphereSetup) (log : LogParts) (o : Option Begun) → o ≡ None → first_state image ≡ start_as image (IsReplayed (record { log = log; interval = interval_in o }))
+first-start image log None is = refl
+first-start image log (Some b) is = absurd (none-some b (sym is))
+
+-- unless an interval is replayed, the sphere starts with its image
+pub starts_first : (image : SphereSetup) (role : Role) → begun_as role ≡ None → first_state image ≡ start_as image (role_setup role)
+starts_first image Role.Plain is = refl
+starts_first image (Role.Record version mode) is = refl
+starts_first image (Role.Replay r) is = first-start image r.log r.begun is
+
+begun-start : (image : SphereSetup) (log : LogParts) (o : Option Begun) (b : Begun) → o ≡ Some b → IsBegunIf image (record { log = log; interval = interval_in o }) o
+    → state_in b.state ≡ start_as image (IsReplayed (record { log = log; interval = interval_in o }))
+begun-start image log None b is h = absurd (none-some b is)
+begun-start image log (Some other) b is h = ap (λ (x : Begun). state_in x.state) (sym (same_Some _ _ is)) ∙ h.state
+
+-- else where the interval begins
+pub starts_begun : (image : SphereSetup) (role : Role) (b : Begun) → begun_as role ≡ Some b → IsBegunAs image role → state_in b.state ≡ start_as image (role_setup role)
+starts_begun image Role.Plain b is h = absurd (none-some b is)
+starts_begun image (Role.Record version mode) b is h = absurd (none-some b is)
+starts_begun image (Role.Replay r) b is h = begun-start image r.log r.begun b is h
 
 -- ---- the whole sphere
 
