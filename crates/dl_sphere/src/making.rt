@@ -1,5 +1,6 @@
 //! A sphere before its first commit.
-ghost use Rattle.std.specs.Prelude.{◌≡◌, ℕ, IfOk, length};
+ghost use Rattle.std.specs.Prelude.{◌≡◌, ℕ, ◌%◌, IfOk, length};
+ghost use Rattle.spec_isa.specs.Words.{IsBytes};
 ghost use Rattle.spec_play.specs.Resuming.{IsBounded};
 ghost use Rattle.spec_protocol.specs.machine.Machine.{sphere_of};
 ghost use Rattle.spec_protocol.specs.promises.Sound.{IsChunkSize, IsImage, IsRole};
@@ -15,6 +16,7 @@ use crate::player::Player;
 use crate::recording::Recording;
 use crate::setup::{Replay, Role, SphereSetup};
 use crate::sphere::Sphere;
+use dl_elf::Image;
 use dl_entry::OutOfMemory;
 use dl_kernel::{Past, State};
 use dl_mem::Memory;
@@ -46,23 +48,35 @@ impl Sphere {
 fn start_of(alloc: Global, setup: &SphereSetup) -> Result<State, OutOfMemory>
     requires begun { HasBegun setup.now }
     ensures state { let image = setup_of setup.now in IfOk result (λ state. state_in state ≡ start_as image image.role) }
-    ensures image { (s : ℕ) → IfOk result (λ state. let image = setup_of setup.now in IsRole s image.role → IsImage s image) }
+    ensures image { let image = setup_of setup.now in (s : ℕ) → IsRole s image.role → IsImage s image }
 {
-    let image = &setup.image;
-    let entry = image.entry();
+    let entry = entry_of(setup);
     match setup.role.begun() {
         Some(begun) => begun.state.again(alloc),
-        None => Ok(State::first(Memory::new(alloc, image)?, entry)),
+        None => Ok(State::first(Memory::new(alloc, &setup.image)?, entry)),
     }
 }
 
+// Where thread 0 starts in the image, which is one for any role.
+fn entry_of(setup: &SphereSetup) -> u32
+    ensures value { result ≡ setup.now.image.entry }
+    ensures aligned { result % 4 ≡ 0 }
+    ensures image { let image = setup_of setup.now in (s : ℕ) → IsRole s image.role → IsImage s image }
+{
+    // the proof sees here that the image has bytes
+    let _ = bytes_of(&setup.image);
+    setup.image.entry()
+}
+
+fn bytes_of(image: &Image) -> &[u8]
+    ensures { IsBytes image.now.bytes }
+{
+    let bytes = image.bytes();
+    bytes
+}
+
 // What is kept for its role where the sphere starts.
-fn part_of(
-    alloc: Global,
-    setup: &SphereSetup,
-    s: u32,
-    state: &State,
-) -> Result<Part, OutOfMemory>
+fn part_of(alloc: Global, setup: &SphereSetup, s: u32, state: &State) -> Result<Part, OutOfMemory>
     requires recorded { IsRecordableIf s (role_setup setup.now.role) }
     requires begun { HasBegun setup.now }
     requires start { let image = setup_of setup.now in state_in state.now ≡ start_as image image.role }

@@ -17,7 +17,7 @@ use Rattle.spec_play.specs.Progress.{position}
 use Rattle.spec_play.specs.Recording.{noted, input_noted, dma_noted}
 use Rattle.spec_play.proofs.Keeping.{grows-alike}
 use Rattle.spec_log.specs.declared.LogParts.{LogParts}
-use Rattle.spec_protocol.specs.machine.Spheres.{Sphere, Role, Record}
+use Rattle.spec_protocol.specs.machine.Spheres.{Sphere, Record}
 use Rattle.spec_protocol.specs.machine.Commits.{role_raised}
 use Rattle.spec_protocol.proofs.Moves.Threads.{AreNew}
 use Rattle.spec_protocol.proofs.Logs.Growing.{commits_in, commits_if, commits-other, commits-same, ThreadCommit, HasCommitted, has_committed-stands}

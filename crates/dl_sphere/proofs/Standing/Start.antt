@@ -1,5 +1,5 @@
 -- What is true of every sphere is true before its first commit.
-use Rattle.std.proofs.Common.{◌≡◌, ℕ, zero, suc, ◌+◌, ◌<◌, ◌≤◌, ◌==◌, Bool, true, false, ◌&&◌, cond, nat_le, nat_lt, List, [], ◌∷◌, length, replicate, slice_index, Option, Some, None, inl, inr, refl, sym, ap, ◌∙◌, subst, arith}
+use Rattle.std.proofs.Common.{◌≡◌, ℕ, zero, suc, ◌+◌, ◌<◌, ◌≤◌, ◌==◌, Bool, false, ◌&&◌, cond, nat_le, nat_lt, List, [], ◌∷◌, length, replicate, slice_index, Option, Some, None, inl, inr, refl, sym, ap, ◌∙◌, subst, arith}
 use Rattle.std.proofs.Math.ListN.{get_or}
 use Rattle.std.proofs.lemmas.Bool.{cases_Bool, lt-leb}
 use Rattle.std.proofs.lemmas.Option.{none-some, same_Some}
@@ -12,23 +12,23 @@ use Rattle.spec_log.specs.declared.LogParts.{LogParts}
 use Rattle.spec_log.specs.Versions.{new_threads}
 use Rattle.spec_play.specs.declared.interval.Interval.{Interval}
 use Rattle.spec_log.specs.Log.{IsLog}
-use Rattle.spec_play.specs.Intervals.{IsWithin, IsWithinIf, before, begun, now_in}
+use Rattle.spec_play.specs.Intervals.{IsWithin, IsWithinIf, before, now_in}
 use Rattle.spec_play.specs.Plays.{Played, opened, plays}
 use Rattle.spec_play.specs.Progress.{position}
 use Rattle.spec_play.specs.Resuming.{IsBounded}
 use Rattle.spec_play.specs.States.{State, state_after, state_of, resumed}
-use Rattle.spec_play.specs.Turns.{TurnOrEnd, Ended, now_at}
+use Rattle.spec_play.specs.Turns.{TurnOrEnd, Ended}
 use Rattle.spec_play.proofs.Bounds.{after-bounded}
 use Rattle.spec_play.proofs.Resuming.{plays_resume}
 use Rattle.spec_protocol.specs.machine.Machine.{ReplaySetup, RoleSetup, IsPlain, IsRecorded, IsReplayed, SphereSetup, first_played, sphere_as}
 use Rattle.spec_protocol.specs.machine.Spheres as machine
 use Rattle.spec_protocol.specs.machine.Spheres.{Sphere}
-use Rattle.spec_protocol.specs.promises.Sound.{IsChunkSize, IsImage, IsRole, IsSoundIf, IsSoundRequest}
+use Rattle.spec_protocol.specs.promises.Sound.{IsChunkSize, IsImage, IsRole, IsSoundIf}
 use Rattle.spec_protocol.proofs.PlayingBack.All.{start-stands}
 use Rattle.spec_protocol.proofs.Logs.Growing.{commits_in}
 use Rattle.spec_protocol.proofs.Sound.Plays.{replay-sound}
 use Rattle.dl_kernel.specs.States.{state_in}
-use Rattle.dl_replay.specs.Following.{Following, followed_from}
+use Rattle.dl_replay.specs.Following.{followed_from}
 use Rattle.dl_replay.specs.Replays.{IsInside}
 use Rattle.dl_sphere.specs.Setups.{HasCome, IsBegunAs, IsBegunIf, begun_as, diverged_in, interval_in, replay_setup, role_setup}
 use Rattle.dl_sphere.specs.declared.setup.Begun.{Begun}

@@ -1,6 +1,5 @@
 use Rattle.std.proofs.Common.{◌≡◌, [], sym, ap, subst, ◌∙◌}
-use Rattle.spec_play.specs.States.{State, state_of}
-use Rattle.spec_protocol.specs.machine.Machine.{RoleSetup, IsReplayed, first_played}
+use Rattle.spec_protocol.specs.machine.Machine.{IsReplayed}
 use Rattle.spec_protocol.specs.promises.Sound.{IsImage, IsRole}
 use Rattle.dl_kernel.specs.States.{state_in}
 use Rattle.dl_replay.specs.Following.{Following}

@@ -1,6 +1,4 @@
-use Rattle.std.proofs.Common.{◌≡◌, ℕ, ◌+◌, ◌≤◌, ◌∷◌, ◌++◌, Bool, true, false, [], length, suc, refl, sym, ap, subst, ◌∙◌, arith}
-use Rattle.spec_engine.specs.declared.answers.How.{How}
-use Rattle.dl_entry.specs.declared.Commit.{Commit}
+use Rattle.std.proofs.Common.{◌≡◌, ◌+◌, ◌≤◌, ◌∷◌, ◌++◌, Bool, true, false, [], length, suc, refl, sym, ap, subst, ◌∙◌, arith}
 use Rattle.spec_isa.specs.Runs.{Run}
 use Rattle.spec_play.specs.Effects.{chunk_commit}
 use Rattle.spec_play.specs.Verdicts.{chunk_verdict}

@@ -1,6 +1,5 @@
-use Rattle.std.proofs.Common.{◌≡◌, ap, sym, subst, ◌∙◌, set}
+use Rattle.std.proofs.Common.{ap, sym, subst, ◌∙◌}
 use Rattle.spec_isa.specs.declared.thread.Parts.{Parts}
-use Rattle.dl_kernel.specs.declared.state.State.{State}
 use Rattle.dl_replay.specs.Replays.{IsReplaying}
 use Rattle.dl_sphere.proofs.Replays.Limits.{moved_on}
 use Rattle.dl_sphere.proofs.replaying.commit_piece.Goals as goal

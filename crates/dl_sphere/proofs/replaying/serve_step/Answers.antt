@@ -1,4 +1,4 @@
-use Rattle.std.proofs.Common.{◌≡◌, ◌+◌, ◌∷◌, ◌++◌, [], length, suc, refl, sym, ap, subst, ◌∙◌, arith}
+use Rattle.std.proofs.Common.{◌≡◌, ◌∷◌, ◌++◌, [], length, suc, refl, sym, ap, subst, ◌∙◌, arith}
 use Rattle.spec_play.specs.Effects.{serial_commit}
 use Rattle.spec_play.specs.Verdicts.{serial_verdict}
 use Rattle.spec_protocol.specs.machine.Commits.{Diverged, Granted, serial_moved}

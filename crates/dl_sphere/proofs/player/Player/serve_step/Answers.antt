@@ -12,7 +12,6 @@ use Rattle.dl_replay.specs.Judged.{judged}
 use Rattle.dl_replay.specs.Left.{served_by, served_left, verdict_left}
 use Rattle.dl_replay.specs.Replays.{Agrees}
 use Rattle.dl_sphere.specs.Played.{following_of}
-use Rattle.dl_sphere.specs.declared.player.Players.{Players}
 use Rattle.dl_sphere.specs.declared.player.Player.TheInside.{Inside}
 use Rattle.dl_sphere.proofs.player.Player.serve_step.Goals as goal
 use Rattle.dl_sphere.proofs.player.Player.serve_step.Goals.{in-OrderSize, in-OrderOnly, in-Picolog}

@@ -1,7 +1,6 @@
-use Rattle.std.proofs.Common.{◌≡◌, ◌+◌, ◌<◌, ◌^◌, ◌∷◌, ◌++◌, Bool, [], length, Some, None, sym, ap, ◌∙◌, subst, refl, rules, set, length-set, append-nil, arith, suc}
+use Rattle.std.proofs.Common.{◌≡◌, ◌+◌, ◌<◌, ◌∷◌, ◌++◌, Bool, [], length, Some, None, sym, ap, ◌∙◌, subst, refl, rules, set, length-set, append-nil, arith, suc}
 use Rattle.std.specs.Prelude.{slice_get, IfOk, Result, Ok, Err}
 use Rattle.spec_kernel.specs.Devices.{Devices}
-use Rattle.spec_play.specs.Progress.{position}
 use Rattle.std.proofs.lemmas.Option.{slice_get_within}
 use Rattle.spec_isa.specs.declared.thread.Parts.{Parts}
 use Rattle.spec_log.specs.declared.LogParts.{LogParts}

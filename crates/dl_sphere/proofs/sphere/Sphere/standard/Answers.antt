@@ -1,4 +1,4 @@
-use Rattle.std.proofs.Common.{◌≡◌, ◌∙◌, sym, ap, subst}
+use Rattle.std.proofs.Common.{◌∙◌, sym, ap, subst}
 use Rattle.spec_log.proofs.Threads.{log-among}
 use Rattle.spec_protocol.specs.promises.Sound.{IsChunkSize}
 use Rattle.dl_sphere.specs.declared.part.Part.{Part}
