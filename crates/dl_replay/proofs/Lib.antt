@@ -1,11 +1,11 @@
 mod Rising
 mod Lookups
 pub mod Counts
-pub mod Answered
 mod Turns
 mod Verdicts
 mod Kept
 mod Lists
-mod Limits
-mod Advancing
-pub mod PutBack
+pub mod Limits
+mod Requests
+pub mod Advancing
+pub mod Answered

@@ -8,7 +8,7 @@ ghost use Rattle.spec_log.specs.Head.{head};
 ghost use Rattle.spec_play.specs.Turns.{are_sizes_used};
 ghost use Rattle.spec_play.specs.Verdicts.{interrupt_at};
 ghost use Rattle.spec_protocol.specs.machine.Spheres.{whole_limit};
-ghost use Rattle.dl_replay.specs.Replaying.{commits_of};
+ghost use Rattle.dl_replay.specs.Counts.{commits_of};
 
 use crate::copying::{dmas_of, inputs_of, interrupts_of, kept_of};
 use dl_entry::{Actor, Input, OutOfMemory};
@@ -50,7 +50,8 @@ impl<M: Mode> Model for Lookup<M> {
 impl<M: Noting> Lookup<M> {
     pub fn new(alloc: Global, log: &Log) -> Result<Lookup<M>, OutOfMemory>
         requires { log.now.mode ≡ M.mode }
-        ensures { IfOk result (λ lookup. lookup ≡ log.now) }
+        ensures value { IfOk result (λ lookup. lookup ≡ log.now) }
+        ensures log { IsLog log.now }
     {
         let parts = log.parts();
         Ok(Lookup {
