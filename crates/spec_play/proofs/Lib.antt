@@ -9,3 +9,5 @@ mod Examples
 mod Records
 pub mod Resuming
 pub mod Within
+pub mod Threads
+pub mod Bounds

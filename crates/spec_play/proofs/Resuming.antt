@@ -22,7 +22,7 @@ use Rattle.spec_play.specs.Transfers.{DmaVerdict, DmaGoes, DmaFails, transferred
 use Rattle.spec_play.specs.Plays.{Played, opened, settled, thread_verdict, play_thread, dma_settled, play_now, play_one, plays}
 use Rattle.spec_play.proofs.Going.{plays-first, plays-most}
 use Rattle.spec_play.specs.States.{state_of, resumed}
-use Rattle.spec_interval.specs.Promise.{PlaysGoOn, HasDone, IsResumed, PlaysResume}
+use Rattle.spec_play.specs.Resuming.{PlaysGoOn, HasDone, IsResumed, PlaysResume}
 
 -- to play on from a play is to play longer
 pub plays_go_on : PlaysGoOn

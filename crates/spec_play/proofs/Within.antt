@@ -1,8 +1,8 @@
 -- An interval is in order, and within the log.
 use Rattle.std.proofs.Common.{◌≡◌, ℕ, ◌≤◌, Some, None, subst, arith}
 use Rattle.std.specs.Prelude.{min}
-use Rattle.spec_play.specs.Intervals.{Interval, within}
-use Rattle.spec_interval.specs.Promise.{IsWithin, IntervalsAreWithin}
+use Rattle.spec_play.specs.declared.interval.Interval.{Interval}
+use Rattle.spec_play.specs.Intervals.{within, IsWithin, IntervalsAreWithin}
 
 same_interval : (a b : Interval) → Some a ≡ Some b → a ≡ b
 same_interval a b e = cc

@@ -1,5 +1,6 @@
 pub mod Effects
 pub mod Progress
+pub mod Spawned
 pub mod Turns
 pub mod Verdicts
 pub mod Transfers

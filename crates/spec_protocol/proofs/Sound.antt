@@ -9,5 +9,6 @@ pub mod Limits
 pub mod Commits
 pub mod Moves
 pub mod Transfers
+pub mod Plays
 pub mod Schedules
 pub mod Notable

@@ -146,7 +146,7 @@ pub fn committers_are_told()
 {}
 
 /// After every list of events: of each sphere, plain, recorded or replayed, the thread that committed last is the last one
-/// among its commits, DMAs passed over.
+/// among its commits, DMAs passed over; or, if no thread is among them, the one that committed last before them.
 pub fn spheres_keep_lasts()
     ensures { SpheresKeepLasts }
 {}

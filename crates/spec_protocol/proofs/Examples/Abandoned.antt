@@ -30,7 +30,7 @@ use Rattle.spec_protocol.specs.machine.Asking.{grant_chunk, grant_serial, asking
 use Rattle.spec_protocol.specs.machine.Commits.{chunk_moved, serial_moved, dma_moved, raised}
 use Rattle.spec_protocol.specs.machine.Finishing.{next}
 use Rattle.spec_protocol.specs.machine.Flying.{draining, delivering, retiring}
-use Rattle.spec_protocol.specs.machine.Machine.{IsRecorded, IsReplayed, RoleSetup, world_of, act, happens}
+use Rattle.spec_protocol.specs.machine.Machine.{all_of, IsRecorded, IsReplayed, RoleSetup, world_of, act, happens}
 use Rattle.spec_protocol.specs.machine.Placing.{placing, raising}
 use Rattle.spec_protocol.specs.machine.Serial.{do_point}
 use Rattle.spec_protocol.specs.machine.Shown.{shown}
@@ -41,9 +41,7 @@ use Rattle.spec_protocol.proofs.Examples.Scenes.{alone, deep, replies}
 
 abbrev replayed : (count : ℕ) → List Actor → List ℕ → List Interrupt → RoleSetup
 replayed count order sizes interrupts =
-    IsReplayed (record {
-      log = record (new_log 1 ModeName.OrderSize 100) { count = count; order = order; sizes = Sizes.Each sizes; interrupts = interrupts };
-    })
+    IsReplayed (all_of (record (new_log 1 ModeName.OrderSize 100) { count = count; order = order; sizes = Sizes.Each sizes; interrupts = interrupts }))
 
 abbrev recorded : RoleSetup
 recorded = IsRecorded (record { version = 1; mode = ModeName.OrderSize })

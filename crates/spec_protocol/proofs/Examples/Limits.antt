@@ -6,7 +6,7 @@ use Rattle.std.proofs.lemmas.List.{length-replicate}
 use Rattle.spec_log.specs.declared.ModeName.{ModeName}
 use Rattle.spec_log.specs.Log.{IsSection, IsLog}
 use Rattle.spec_play.specs.Recording.{new_log}
-use Rattle.spec_protocol.specs.machine.Machine.{RoleSetup, IsPlain, IsRecorded, IsReplayed, SphereSetup, Setup}
+use Rattle.spec_protocol.specs.machine.Machine.{all_of, RoleSetup, IsPlain, IsRecorded, IsReplayed, SphereSetup, Setup}
 use Rattle.spec_protocol.specs.promises.Sound.{IsRole, IsImage, IsWithinLimits}
 
 abbrev with_role : RoleSetup → SphereSetup
@@ -20,7 +20,7 @@ least =
       numbers = record { s = 16; capacity = 1; bits = 64; depth = 1 };
       seed = 0;
       input = [];
-      spheres = with_role IsPlain ∷ with_role (IsRecorded (record { version = 2; mode = ModeName.Picolog })) ∷ with_role (IsReplayed (record { log = new_log 1 ModeName.OrderSize 16 })) ∷ [];
+      spheres = with_role IsPlain ∷ with_role (IsRecorded (record { version = 2; mode = ModeName.Picolog })) ∷ with_role (IsReplayed (all_of (new_log 1 ModeName.OrderSize 16))) ∷ [];
     }
 
 zeros : (n i : ℕ) → slice_index (replicate n 0) i ≡ 0
@@ -63,8 +63,8 @@ image_is zero x e = subst (IsImage 16) (let q : with_role IsPlain ≡ x = cc in 
 image_is (suc zero) x e =
     subst (IsImage 16) (let q : with_role (IsRecorded (record { version = 2; mode = ModeName.Picolog })) ≡ x = cc in q) (image (IsRecorded (record { version = 2; mode = ModeName.Picolog })) (inr (refl, inr refl), (omega arith, omega arith)))
 image_is (suc (suc zero)) x e =
-    let r = IsReplayed (record { log = new_log 1 ModeName.OrderSize 16 }) in
-    subst (IsImage 16) (let q : with_role r ≡ x = cc in q) (image r empty_log)
+    let r = IsReplayed (all_of (new_log 1 ModeName.OrderSize 16)) in
+    subst (IsImage 16) (let q : with_role r ≡ x = cc in q) (image r (empty_log, tt))
 image_is (suc (suc (suc i))) x e = absurd (none-some x e)
 
 within_limits : IsWithinLimits least

@@ -1,6 +1,6 @@
 -- A sixteenth thread: a sphere that is recorded in version 2 may have it, and so may a replay of such a log. A plain sphere
 -- and one of version 1 refuse it, and so does the replay of a log that was migrated, which may have 15 threads as before.
-use Rattle.std.proofs.Common.{◌≡◌, ℕ, [], ◌∷◌, length, refl, replicate}
+use Rattle.std.proofs.Common.{◌≡◌, ℕ, [], ◌∷◌, length, None, refl, replicate}
 use Rattle.std.specs.Prelude.{slice_set}
 use Rattle.dl_entry.specs.declared.Actor.{Actor}
 use Rattle.spec_isa.specs.Instruction.{serial_of}
@@ -50,7 +50,7 @@ abbrev call_log : (version : ℕ) → LogParts
 call_log version = record (new_log version ModeName.OrderOnly 100) { count = 1; order = Actor.Thread 0 ∷ [] }
 
 abbrev replay_of : LogParts → Role
-replay_of log = Replay (record { log = log; used = nothing_used; now = Turn 0; total = 0; loads = [] })
+replay_of log = Replay (record { log = log; interval = None; used = nothing_used; now = Turn 0; total = 0; loads = [] })
 
 pub record AreSpawned : Type 0 where
   pub plain : threads_after Plain ≡ 15

@@ -29,7 +29,7 @@ use Rattle.spec_protocol.specs.machine.Asking.{grant_chunk, grant_serial, asking
 use Rattle.spec_protocol.specs.machine.Commits.{chunk_moved, serial_moved, dma_moved, raised}
 use Rattle.spec_protocol.specs.machine.Finishing.{next}
 use Rattle.spec_protocol.specs.machine.Flying.{draining, delivering, retiring}
-use Rattle.spec_protocol.specs.machine.Machine.{IsRecorded, IsReplayed, RoleSetup, Setup, world_of, world_after, act, happens}
+use Rattle.spec_protocol.specs.machine.Machine.{all_of, IsRecorded, IsReplayed, RoleSetup, Setup, world_of, world_after, act, happens}
 use Rattle.spec_protocol.specs.machine.Placing.{placing, raising}
 use Rattle.spec_protocol.specs.machine.Serial.{do_point}
 use Rattle.spec_protocol.specs.machine.Shown.{shown}
@@ -64,7 +64,7 @@ recorded = IsRecorded (record { version = 1; mode = ModeName.OrderOnly })
 -- led by a log of one commit of thread 0, which is larger than what is cut off
 abbrev replayed : RoleSetup
 replayed =
-    IsReplayed (record { log = record (new_log 1 ModeName.OrderOnly 100) { count = 1; order = Actor.Thread 0 ∷ [] } })
+    IsReplayed (all_of (record (new_log 1 ModeName.OrderOnly 100) { count = 1; order = Actor.Thread 0 ∷ [] }))
 
 -- the values that the younger chunk of what a core holds has loaded
 abbrev loaded_in : Option Chunk → List ℕ

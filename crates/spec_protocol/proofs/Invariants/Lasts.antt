@@ -1,9 +1,11 @@
--- Whatever takes effect in a sphere, the thread that committed last is the last one among its commits.
+-- Whatever takes effect in a sphere, the thread that committed last is the last one among its commits, or before them.
 use Rattle.std.proofs.Common.{◌≡◌, ℕ, ◌<◌, inl, inr, Bool, true, false, List, [], ◌∷◌, length, Option, Some, None, refl, sym, ap, ◌∙◌, subst, set}
 use Rattle.std.specs.Prelude.{slice_get, option_map}
+use Rattle.std.specs.Option.{option_or}
 use Rattle.std.proofs.lemmas.Bool.{cases_eq}
 use Rattle.std.proofs.lemmas.Option.{none-some, slice_get_within, slice_get-map, get_or_from_slice_get}
 use Rattle.dl_entry.specs.Numbers.{plain_threads}
+use Rattle.dl_entry.specs.declared.Actor.{Actor}
 use Rattle.dl_entry.specs.declared.Request.{Request}
 use Rattle.spec_isa.specs.declared.thread.Parts.{Parts}
 use Rattle.spec_isa.specs.Runs.{Run, run}
@@ -14,132 +16,156 @@ use Rattle.spec_kernel.specs.Serving.{serve}
 use Rattle.spec_play.specs.Effects.{Effect, chunk_effect, serial_effect}
 use Rattle.spec_play.specs.Verdicts.{LogVerdict, Goes, Fails, chunk_verdict, serial_verdict}
 use Rattle.spec_play.specs.Transfers.{DmaVerdict, DmaGoes, DmaFails, dma_verdict}
-use Rattle.spec_play.specs.Lasts.{IsOfCommits}
+use Rattle.spec_play.specs.Progress.{Progress, last_thread, with_effect, with_dma}
 use Rattle.spec_play.proofs.Lasts.{IsOf, last-effect, last-dma, chunk-of, serial-of}
 use Rattle.spec_engine.specs.declared.answers.How.{How}
 use Rattle.spec_protocol.specs.machine.Spheres.{Cursor, Role, Plain, Record, Replay, Sphere, no_sphere}
 use Rattle.spec_protocol.specs.machine.Commits.{MovedSphere, by_verdict, joined, replayed_chunk, chunk_in, chunk_moved, is_piece, serial_in, serial_moved, live_dma, dma_log, dma_by_verdict, dma_in, dma_moved, raised}
 use Rattle.spec_protocol.specs.machine.World.{Numbers, World, Move, MoveKind, OfChunk, OfSerial, OfDma, OfRaise, sphere_at}
 use Rattle.spec_protocol.specs.machine.Asking.{is_short}
-use Rattle.spec_protocol.specs.machine.Machine.{SphereSetup, Setup, sphere_of, world_of, moves}
+use Rattle.spec_protocol.specs.machine.Machine.{RoleSetup, IsPlain, IsRecorded, IsReplayed, SphereSetup, Setup, sphere_as, sphere_of, world_of, moves}
 use Rattle.spec_protocol.specs.machine.Serial.{SerialState, serial_start, laid, do_serial, do_dma, do_raise}
 use Rattle.spec_protocol.specs.machine.Shown.{shown, shown_of}
 use Rattle.spec_protocol.specs.machine.Moves.{move_chunk, do_what, do_at, do_move, do_moves}
 use Rattle.spec_protocol.specs.promises.Promises.{after}
-use Rattle.spec_protocol.specs.promises.Lasts.{SpheresKeepLasts}
+use Rattle.spec_protocol.specs.promises.Lasts.{IsLastSince, last_before, SpheresKeepLasts}
 use Rattle.spec_protocol.proofs.Invariants.Preserved.{shown-get}
 use Rattle.spec_protocol.proofs.Moves.Granted.{get-set_other, get-set_same}
 use Rattle.spec_protocol.proofs.Invariants.Schedules.{moves_are}
 
+-- ---- one more commit
+
+last_effect : (a : Option ℕ) (k : ℕ) (e : Effect) (p : Progress) → e.commit.actor ≡ Actor.Thread k → IsLastSince a (with_effect k e p)
+last_effect a k e p is = ap (λ (o : Option ℕ). option_or o a) (last-effect k e p is)
+
+last_dma : (a : Option ℕ) (p : Progress) → IsLastSince a p → IsLastSince a (with_dma p)
+last_dma a p last =
+    last ∙ ap (λ (o : Option ℕ). option_or o a) (last-dma (record p { last = last_thread p.commits }) refl)
+
 -- ---- one move in its sphere
 
-verdict_last : (b : Cursor) (k : ℕ) (v : LogVerdict) (devices : Devices) (p : Sphere) → IsOf k v → IsOfCommits p.progress → IsOfCommits (by_verdict b k v devices p).sphere.progress
-verdict_last b k (Goes e u) devices p is last = last-effect k e p.progress is
-verdict_last b k (Fails why) devices p is last = last
+verdict_last : (a : Option ℕ) (b : Cursor) (k : ℕ) (v : LogVerdict) (devices : Devices) (p : Sphere) → IsOf k v → IsLastSince a p.progress → IsLastSince a (by_verdict b k v devices p).sphere.progress
+verdict_last a b k (Goes e u) devices p is last = last_effect a k e p.progress is
+verdict_last a b k (Fails why) devices p is last = last
 
-replayed_last : (piece : Bool) (b : Cursor) (k : ℕ) (r : Run) (devices : Devices) (p : Sphere) → IsOfCommits p.progress → IsOfCommits (replayed_chunk piece b k r devices p).sphere.progress
-replayed_last true b k r devices p last = last
-replayed_last false b k r devices p last = verdict_last b k (chunk_verdict b.log p.progress b.used k (joined b r)) devices p (chunk-of b.log p.progress b.used k (joined b r)) last
+replayed_last : (a : Option ℕ) (piece : Bool) (b : Cursor) (k : ℕ) (r : Run) (devices : Devices) (p : Sphere) → IsLastSince a p.progress → IsLastSince a (replayed_chunk piece b k r devices p).sphere.progress
+replayed_last a true b k r devices p last = last
+replayed_last a false b k r devices p last = verdict_last a b k (chunk_verdict b.log p.progress b.used k (joined b r)) devices p (chunk-of b.log p.progress b.used k (joined b r)) last
 
-chunk_last : (role : Role) (k : ℕ) (piece short : Bool) (r : Run) (devices : Devices) (p : Sphere) → IsOfCommits p.progress → IsOfCommits (chunk_in role k piece short r devices p).sphere.progress
-chunk_last Plain k piece short r devices p last = last-effect k (chunk_effect k p.progress.request r) p.progress refl
-chunk_last (Record recording) k piece short r devices p last = last-effect k (chunk_effect k p.progress.request r) p.progress refl
-chunk_last (Replay b) k piece short r devices p last = replayed_last piece b k r devices p last
+chunk_last : (a : Option ℕ) (role : Role) (k : ℕ) (piece short : Bool) (r : Run) (devices : Devices) (p : Sphere) → IsLastSince a p.progress → IsLastSince a (chunk_in role k piece short r devices p).sphere.progress
+chunk_last a Plain k piece short r devices p last = last_effect a k (chunk_effect k p.progress.request r) p.progress refl
+chunk_last a (Record recording) k piece short r devices p last = last_effect a k (chunk_effect k p.progress.request r) p.progress refl
+chunk_last a (Replay b) k piece short r devices p last = replayed_last a piece b k r devices p last
 
 -- what the devices' answer leaves of a serial step
 abbrev served_effect : (most thread moment : ℕ) → Parts → Devices → Sphere → Effect
 served_effect most k moment t devices p =
     serial_effect k (serve most k p.threads p.progress.request t p.memory (taken (need t p.memory) devices moment).input)
 
-serial_last : (role : Role) (k moment : ℕ) (t : Parts) (devices : Devices) (p : Sphere) → IsOfCommits p.progress → IsOfCommits (serial_in role k moment t devices p).sphere.progress
-serial_last Plain k moment t devices p last = last-effect k (served_effect plain_threads k moment t devices p) p.progress refl
-serial_last (Record recording) k moment t devices p last = last-effect k (served_effect recording.log.threads k moment t devices p) p.progress refl
-serial_last (Replay b) k moment t devices p last = verdict_last b k (serial_verdict b.log p.progress b.used k p.threads t p.memory) devices p (serial-of b.log p.progress b.used k p.threads t p.memory) last
+serial_last : (a : Option ℕ) (role : Role) (k moment : ℕ) (t : Parts) (devices : Devices) (p : Sphere) → IsLastSince a p.progress → IsLastSince a (serial_in role k moment t devices p).sphere.progress
+serial_last a Plain k moment t devices p last = last_effect a k (served_effect plain_threads k moment t devices p) p.progress refl
+serial_last a (Record recording) k moment t devices p last = last_effect a k (served_effect recording.log.threads k moment t devices p) p.progress refl
+serial_last a (Replay b) k moment t devices p last = verdict_last a b k (serial_verdict b.log p.progress b.used k p.threads t p.memory) devices p (serial-of b.log p.progress b.used k p.threads t p.memory) last
 
 -- after a DMA, if there is one
-abbrev LastIf : Option MovedSphere → Type 0
-LastIf None = Unit {0}
-LastIf (Some v) = IsOfCommits v.sphere.progress
+abbrev LastIf : Option ℕ → Option MovedSphere → Type 0
+LastIf a None = Unit {0}
+LastIf a (Some v) = IsLastSince a v.sphere.progress
 
-live_last : (role : Role) (devices : Devices) (p : Sphere) (o : Option Request) → IsOfCommits p.progress → LastIf (live_dma role devices p o)
-live_last role devices p None last = tt
-live_last role devices p (Some request) last = last-dma p.progress last
+live_last : (a : Option ℕ) (role : Role) (devices : Devices) (p : Sphere) (o : Option Request) → IsLastSince a p.progress → LastIf a (live_dma role devices p o)
+live_last a role devices p None last = tt
+live_last a role devices p (Some request) last = last_dma a p.progress last
 
-dma_verdict_last : (b : Cursor) (v : DmaVerdict) (devices : Devices) (p : Sphere) → IsOfCommits p.progress → IsOfCommits (dma_by_verdict b v devices p).sphere.progress
-dma_verdict_last b (DmaGoes words) devices p last = last-dma p.progress last
-dma_verdict_last b (DmaFails why) devices p last = last
+dma_verdict_last : (a : Option ℕ) (b : Cursor) (v : DmaVerdict) (devices : Devices) (p : Sphere) → IsLastSince a p.progress → IsLastSince a (dma_by_verdict b v devices p).sphere.progress
+dma_verdict_last a b (DmaGoes words) devices p last = last_dma a p.progress last
+dma_verdict_last a b (DmaFails why) devices p last = last
 
-dma_last : (role : Role) (devices : Devices) (p : Sphere) → IsOfCommits p.progress → LastIf (dma_in role devices p)
-dma_last Plain devices p last = live_last Plain devices p p.progress.request last
-dma_last (Record recording) devices p last = live_last (Record (record recording { log = dma_log recording.log devices p p.progress.request })) devices p p.progress.request last
-dma_last (Replay b) devices p last = dma_verdict_last b (dma_verdict b.log p.progress b.used) devices p last
+dma_last : (a : Option ℕ) (role : Role) (devices : Devices) (p : Sphere) → IsLastSince a p.progress → LastIf a (dma_in role devices p)
+dma_last a Plain devices p last = live_last a Plain devices p p.progress.request last
+dma_last a (Record recording) devices p last = live_last a (Record (record recording { log = dma_log recording.log devices p p.progress.request })) devices p p.progress.request last
+dma_last a (Replay b) devices p last = dma_verdict_last a b (dma_verdict b.log p.progress b.used) devices p last
 
 -- ---- all spheres
 
-abbrev AreLast : List Sphere → Type 0
-AreLast ps = (i : ℕ) (p : Sphere) → slice_get ps i ≡ Some p → IsOfCommits p.progress
+abbrev AreLast : (before : ℕ → Option ℕ) → List Sphere → Type 0
+AreLast before ps = (i : ℕ) (p : Sphere) → slice_get ps i ≡ Some p → IsLastSince (before i) p.progress
 
-set_last : (ps : List Sphere) (i : ℕ) (p q : Sphere) → slice_get ps i ≡ Some p → AreLast ps → IsOfCommits q.progress → AreLast (set ps i q)
-set_last ps i p q is all last j r there = elim (cases_eq j i) [
+set_last : (before : ℕ → Option ℕ) (ps : List Sphere) (i : ℕ) (p q : Sphere) → slice_get ps i ≡ Some p → AreLast before ps → IsLastSince (before i) q.progress → AreLast before (set ps i q)
+set_last before ps i p q is all last j r there = elim (cases_eq j i) [
   | inl e ↦ (
       let same : q ≡ r = (let h : Some q ≡ Some r = sym (get-set_same ps i q p is) ∙ ap (slice_get (set ps i q)) (sym e) ∙ there in cc) in
-      subst (λ (x : Sphere). IsOfCommits x.progress) same last
+      subst (λ (n : ℕ). IsLastSince (before n) r.progress) (sym e) (subst (λ (x : Sphere). IsLastSince (before i) x.progress) same last)
       )
   | inr ne ↦ all j r (sym (get-set_other ps i j q ne) ∙ there)
 ]
 
-chunk_all : (z : Numbers) (x : SerialState) (i k : ℕ) (how : How) (n limit : ℕ) (p : Sphere) (o : Option Parts) → slice_get x.spheres i ≡ Some p → AreLast x.spheres → AreLast (move_chunk z x i k how n limit p o).spheres
+chunk_all : (before : ℕ → Option ℕ) (z : Numbers) (x : SerialState) (i k : ℕ) (how : How) (n limit : ℕ) (p : Sphere) (o : Option Parts) → slice_get x.spheres i ≡ Some p → AreLast before x.spheres → AreLast before (move_chunk z x i k how n limit p o).spheres
 unfolding chunk_moved
-chunk_all z x i k how n limit p None is all = all
-chunk_all z x i k how n limit p (Some t) is all =
-    set_last x.spheres i p _ is all (chunk_last p.role k (is_piece how) (is_short z.s how limit) (run p.memory t n) x.devices p (all i p is))
+chunk_all before z x i k how n limit p None is all = all
+chunk_all before z x i k how n limit p (Some t) is all =
+    set_last before x.spheres i p _ is all (chunk_last (before i) p.role k (is_piece how) (is_short z.s how limit) (run p.memory t n) x.devices p (all i p is))
 
-serial_all : (x : SerialState) (i k moment : ℕ) (p : Sphere) (o : Option Parts) → slice_get x.spheres i ≡ Some p → AreLast x.spheres → AreLast (do_serial x i k moment p o).spheres
+serial_all : (before : ℕ → Option ℕ) (x : SerialState) (i k moment : ℕ) (p : Sphere) (o : Option Parts) → slice_get x.spheres i ≡ Some p → AreLast before x.spheres → AreLast before (do_serial x i k moment p o).spheres
 unfolding serial_moved
-serial_all x i k moment p None is all = all
-serial_all x i k moment p (Some t) is all = set_last x.spheres i p _ is all (serial_last p.role k moment t x.devices p (all i p is))
+serial_all before x i k moment p None is all = all
+serial_all before x i k moment p (Some t) is all = set_last before x.spheres i p _ is all (serial_last (before i) p.role k moment t x.devices p (all i p is))
 
-dma_all : (x : SerialState) (i : ℕ) (p : Sphere) (o : Option MovedSphere) → slice_get x.spheres i ≡ Some p → AreLast x.spheres → LastIf o → AreLast (do_dma x i o).spheres
-dma_all x i p None is all last = all
-dma_all x i p (Some v) is all last = set_last x.spheres i p (laid v) is all last
+dma_all : (before : ℕ → Option ℕ) (x : SerialState) (i : ℕ) (p : Sphere) (o : Option MovedSphere) → slice_get x.spheres i ≡ Some p → AreLast before x.spheres → LastIf (before i) o → AreLast before (do_dma x i o).spheres
+dma_all before x i p None is all last = all
+dma_all before x i p (Some v) is all last = set_last before x.spheres i p (laid v) is all last
 
-raise_all : (x : SerialState) (i k value : ℕ) (p : Sphere) (o : Option Parts) → slice_get x.spheres i ≡ Some p → AreLast x.spheres → AreLast (do_raise x i k value p o).spheres
+raise_all : (before : ℕ → Option ℕ) (x : SerialState) (i k value : ℕ) (p : Sphere) (o : Option Parts) → slice_get x.spheres i ≡ Some p → AreLast before x.spheres → AreLast before (do_raise x i k value p o).spheres
 unfolding raised
-raise_all x i k value p None is all = all
-raise_all x i k value p (Some t) is all = set_last x.spheres i p (raised k value t p) is all (all i p is)
+raise_all before x i k value p None is all = all
+raise_all before x i k value p (Some t) is all = set_last before x.spheres i p (raised k value t p) is all (all i p is)
 
-what_all : (z : Numbers) (x : SerialState) (moment i : ℕ) (p : Sphere) (what : MoveKind) → slice_get x.spheres i ≡ Some p → AreLast x.spheres → AreLast (do_what z x moment i p what).spheres
+what_all : (before : ℕ → Option ℕ) (z : Numbers) (x : SerialState) (moment i : ℕ) (p : Sphere) (what : MoveKind) → slice_get x.spheres i ≡ Some p → AreLast before x.spheres → AreLast before (do_what z x moment i p what).spheres
 unfolding dma_moved
-what_all z x moment i p (OfChunk k how n limit) is all = chunk_all z x i k how n limit p (slice_get p.threads k) is all
-what_all z x moment i p (OfSerial k) is all = serial_all x i k moment p (slice_get p.threads k) is all
-what_all z x moment i p OfDma is all = dma_all x i p (dma_moved x.devices p) is all (dma_last p.role x.devices p (all i p is))
-what_all z x moment i p (OfRaise k value) is all = raise_all x i k value p (slice_get p.threads k) is all
+what_all before z x moment i p (OfChunk k how n limit) is all = chunk_all before z x i k how n limit p (slice_get p.threads k) is all
+what_all before z x moment i p (OfSerial k) is all = serial_all before x i k moment p (slice_get p.threads k) is all
+what_all before z x moment i p OfDma is all = dma_all before x i p (dma_moved x.devices p) is all (dma_last (before i) p.role x.devices p (all i p is))
+what_all before z x moment i p (OfRaise k value) is all = raise_all before x i k value p (slice_get p.threads k) is all
 
-at_all : (z : Numbers) (x : SerialState) (m : Move) (o : Option Sphere) → slice_get x.spheres m.sphere ≡ o → AreLast x.spheres → AreLast (do_at z x m o).spheres
-at_all z x m None is all = all
-at_all z x m (Some p) is all = what_all z x m.moment m.sphere p m.what is all
+at_all : (before : ℕ → Option ℕ) (z : Numbers) (x : SerialState) (m : Move) (o : Option Sphere) → slice_get x.spheres m.sphere ≡ o → AreLast before x.spheres → AreLast before (do_at z x m o).spheres
+at_all before z x m None is all = all
+at_all before z x m (Some p) is all = what_all before z x m.moment m.sphere p m.what is all
 
-moves_all : (z : Numbers) (x : SerialState) (ms : List Move) → AreLast x.spheres → AreLast (do_moves z x ms).spheres
+moves_all : (before : ℕ → Option ℕ) (z : Numbers) (x : SerialState) (ms : List Move) → AreLast before x.spheres → AreLast before (do_moves z x ms).spheres
 unfolding do_move
-moves_all z x [] all = all
-moves_all z x (m ∷ ms) all = moves_all z (do_move z x m) ms (at_all z x m (slice_get x.spheres m.sphere) refl all)
+moves_all before z x [] all = all
+moves_all before z x (m ∷ ms) all = moves_all before z (do_move z x m) ms (at_all before z x m (slice_get x.spheres m.sphere) refl all)
 
 -- ---- the start and all events
 
-first_last : (z : ℕ) (o : Option SphereSetup) (p : Sphere) → option_map (sphere_of z) o ≡ Some p → IsOfCommits p.progress
-first_last z None p e = absurd (none-some p e)
-first_last z (Some image) p e = subst (λ (q : Sphere). IsOfCommits q.progress) (let h : sphere_of z image ≡ p = cc in h) refl
+-- the thread that committed last before the commits of sphere i
+abbrev before_in : Setup → (i : ℕ) → Option ℕ
+before_in s i = elim (slice_get s.spheres i) [ None ↦ None | Some image ↦ last_before s.numbers.s image ]
 
-start_all : (s : Setup) → AreLast (serial_start s).spheres
+as_last : (z : ℕ) (image : SphereSetup) (r : RoleSetup) → let p = (sphere_as z image r).progress in IsLastSince p.last p
+as_last z image IsPlain = refl
+as_last z image (IsRecorded asked) = refl
+as_last z image (IsReplayed asked) = refl
+
+first_last : (z : ℕ) (o : Option SphereSetup) (p : Sphere) → option_map (sphere_of z) o ≡ Some p → IsLastSince (elim o [ None ↦ None | Some image ↦ last_before z image ]) p.progress
+first_last z None p e = absurd (none-some p e)
+first_last z (Some image) p e =
+    subst (λ (q : Sphere). IsLastSince (last_before z image) q.progress) (let h : sphere_of z image ≡ p = cc in h) (as_last z image image.role)
+
+start_all : (s : Setup) → AreLast (before_in s) (serial_start s).spheres
 start_all s i p e = first_last s.numbers.s (slice_get s.spheres i) p (sym (slice_get-map (sphere_of s.numbers.s) s.spheres i) ∙ e)
 
--- the thread that committed last is the last one among the sphere's commits, after every schedule
+-- the thread that committed last is the last one among the sphere's commits, or before them, after every schedule
 pub spheres_keep_lasts : SpheresKeepLasts
 unfolding shown
-spheres_keep_lasts s es i p is there =
+spheres_keep_lasts s es i image p is start there =
     let w : World = after s es in
     let l : i < length w.spheres = slice_get_within w.spheres i p there in
     let same : sphere_at w i ≡ p = get_or_from_slice_get w.spheres i p no_sphere there in
-    let all : AreLast (shown_of w).spheres =
-    subst (λ (x : SerialState). AreLast x.spheres) (sym (moves_are s es is).same) (moves_all s.numbers (serial_start s) (moves (world_of s) es) (start_all s)) in
-    subst (λ (q : Sphere). IsOfCommits q.progress) same (all i (shown w.slots i (sphere_at w i)) (shown-get w.slots i w.spheres l))
+    let all : AreLast (before_in s) (shown_of w).spheres =
+    subst (λ (x : SerialState). AreLast (before_in s) x.spheres) (sym (moves_are s es is).same)
+    (moves_all (before_in s) s.numbers (serial_start s) (moves (world_of s) es) (start_all s))
+    in
+    let before : before_in s i ≡ last_before s.numbers.s image =
+    ap (λ (o : Option SphereSetup). elim o as (λ (x : Option SphereSetup). Option ℕ) [ None ↦ None | Some x ↦ last_before s.numbers.s x ]) start in
+    subst (λ (a : Option ℕ). IsLastSince a p.progress) before
+    (subst (λ (q : Sphere). IsLastSince (before_in s i) q.progress) same (all i (shown w.slots i (sphere_at w i)) (shown-get w.slots i w.spheres l)))

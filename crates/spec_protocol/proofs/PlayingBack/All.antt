@@ -26,7 +26,7 @@ use Rattle.spec_protocol.specs.machine.Spheres.{Recording, Role, Record, Sphere}
 use Rattle.spec_protocol.specs.machine.Commits.{MovedSphere, is_piece, chunk_in, chunk_moved, serial_in, serial_moved, dma_in, dma_moved, live_dma, dma_log, role_raised, raised}
 use Rattle.spec_protocol.specs.machine.World.{Numbers, MoveKind, OfChunk, OfSerial, OfDma, OfRaise, Move}
 use Rattle.spec_protocol.specs.machine.Asking.{is_short}
-use Rattle.spec_protocol.specs.machine.Machine.{first_threads, last_played, first_played, new_recording, SphereSetup, role_of, sphere_of, moves, world_of}
+use Rattle.spec_protocol.specs.machine.Machine.{first_threads, all_of, last_played, first_played, RoleSetup, new_recording, SphereSetup, live_sphere, sphere_as, moves, world_of}
 use Rattle.spec_protocol.specs.machine.Serial.{SerialState, serial_start, laid, do_moved, do_serial, do_dma, do_raise}
 use Rattle.spec_protocol.specs.machine.Moves.{move_chunk, do_what, do_at, do_move, do_moves, FitsChunk, FitsSerial, FitsRaise, FitsWhat, FitsAt, Fits, FitAll}
 use Rattle.spec_protocol.specs.promises.PlayingBack.{PlaysBack, LogsPlayBack}
@@ -139,9 +139,9 @@ start_sizes ModeName.OrderSize entry = refl
 start_sizes ModeName.OrderOnly entry = λ k i l. refl
 start_sizes ModeName.Picolog entry = λ k i l. refl
 
--- a new log stands by the sphere that a setup starts
-pub start-stands : (s : ℕ) (image : SphereSetup) (version : ℕ) (mode : ModeName) → Stands (sphere_of s image) (new_log version mode s)
-start-stands s image version mode =
+-- a new log stands by a sphere that starts on the image
+pub start-stands : (s : ℕ) (image : SphereSetup) (role : Role) (version : ℕ) (mode : ModeName) → Stands (live_sphere image role) (new_log version mode s)
+start-stands s image role version mode =
     record {
       count = refl;
       order = start_order mode image.entry;
@@ -152,25 +152,25 @@ start-stands s image version mode =
       dmas = tt;
     }
 
-start_none : (L : LogParts) (s : ℕ) (image : SphereSetup) (version : ℕ) (mode : ModeName) → Ahead L (sphere_of s image) (new_log version mode s) → (j : ℕ) (t : Parts) → slice_get (first_threads image) j ≡ Some t → interrupt_at L.interrupts j t.commits ≡ None
-start_none L s image version mode a zero t e = elim (a.next zero t e) [
+start_none : (L : LogParts) (s : ℕ) (image : SphereSetup) (role : Role) (version : ℕ) (mode : ModeName) → Ahead L (live_sphere image role) (new_log version mode s) → (j : ℕ) (t : Parts) → slice_get (first_threads image) j ≡ Some t → interrupt_at L.interrupts j t.commits ≡ None
+start_none L s image role version mode a zero t e = elim (a.next zero t e) [
   | inl h ↦ h
   | inr takes ↦ absurd (true≢false (sym takes ∙ ap takes_interrupt (let g : started image.entry ≡ t = cc in sym g)))
 ]
-start_none L s image version mode a (suc j) t e = absurd (none-some t e)
+start_none L s image role version mode a (suc j) t e = absurd (none-some t e)
 
-start_reaches : (L : LogParts) (s : ℕ) (image : SphereSetup) (version : ℕ) (mode : ModeName) → Ahead L (sphere_of s image) (new_log version mode s) → Reaches L (first_played image L) (sphere_of s image) (new_log version mode s)
-start_reaches L s image version mode a =
+start_reaches : (L : LogParts) (s : ℕ) (image : SphereSetup) (role : Role) (version : ℕ) (mode : ModeName) → Ahead L (live_sphere image role) (new_log version mode s) → Reaches L (first_played image (all_of L)) (live_sphere image role) (new_log version mode s)
+start_reaches L s image role version mode a =
     record {
       memory = refl;
       size = refl;
-      threads = λ j t e. e ∙ ap Some (sym (early_same None (interrupt_at L.interrupts j t.commits) t (start_none L s image version mode a j t e)));
+      threads = λ j t e. e ∙ ap Some (sym (early_same None (interrupt_at L.interrupts j t.commits) t (start_none L s image role version mode a j t e)));
       progress = refl;
       inputs = refl;
       dmas = refl;
       interrupts = (let h = sum-zero (pending L.interrupts []) 0 (first_threads image) (λ j t e.
           let k : 0 + j ≡ j = omega arith in
-          ap (λ (n : ℕ). pending L.interrupts [] n t) k ∙ pending_same None (interrupt_at L.interrupts j t.commits) (start_none L s image version mode a j t e)) in omega arith);
+          ap (λ (n : ℕ). pending L.interrupts [] n t) k ∙ pending_same None (interrupt_at L.interrupts j t.commits) (start_none L s image role version mode a j t e)) in omega arith);
       now = refl;
     }
 
@@ -232,11 +232,11 @@ over_at L p u ts at_ left =
     ap (λ (b : Bool). cond b (turn_of (position p) ts (next_actor L p ts)) (at_end (position p) (has_left_over L u ts))) (le-ltb (position p) L.count (omega arith))
     ∙ ap (at_end (position p)) left ∙ ap (λ (n : ℕ). Ended (End.Complete n)) at_
 
-ends : (L : LogParts) (image : SphereSetup) (q : Sphere) → Stands q L → Reaches L (first_played image L) q L → PlaysBack L image q
+ends : (L : LogParts) (image : SphereSetup) (q : Sphere) → Stands q L → Reaches L (first_played image (all_of L)) q L → PlaysBack L image q
 ends L image q s r =
-    let y0 : Played = first_played image L in
-    let f : Follows L q L (last_played image L) = subst (λ (n : ℕ). Follows L q L (plays L y0 n)) (sym s.count) r in
-    let y : Played = last_played image L in
+    let y0 : Played = first_played image (all_of L) in
+    let f : Follows L q L (last_played image (all_of L)) = subst (λ (n : ℕ). Follows L q L (plays L y0 n)) (sym s.count) r in
+    let y : Played = last_played image (all_of L) in
     let threads : y.threads ≡ q.threads = same_list y.threads q.threads f.size (λ j t e. f.threads j t e ∙ ap Some (early_same (interrupt_at L.interrupts j t.commits) (interrupt_at L.interrupts j t.commits) t refl)) in
     let sum : sum_from (pending L.interrupts L.interrupts) 0 q.threads ≡ 0 =
     sum-zero (pending L.interrupts L.interrupts) 0 q.threads (λ j t e. pending_same (interrupt_at L.interrupts (0 + j) t.commits) (interrupt_at L.interrupts (0 + j) t.commits) refl) in
@@ -259,13 +259,14 @@ logs_play_back s es i image asked will p recording shown role_ =
     let role = will.role in
     let m = moves_are s es is in
     let z : ℕ = s.numbers.s in
-    let c = moves_come s.numbers (serial_start s) (moves (world_of s) es) i (sphere_of z image) (new_recording asked z) is.buffer refl (start-sphere z s.spheres i image there)
-    (ap (role_of z (first_threads image)) role) m.possible in
+    let begins : Role = Record (new_recording asked z) in
+    let c = moves_come s.numbers (serial_start s) (moves (world_of s) es) i (live_sphere image begins) (new_recording asked z) is.buffer refl
+    (start-sphere z s.spheres i image there ∙ ap (λ (r : RoleSetup). Some (sphere_as z image r)) role) refl m.possible in
     let q : Sphere = c.sphere in
     let L : LogParts = c.recording.log in
     let same : q ≡ p = (let h : Some q ≡ Some p = sym c.there ∙ ap (λ (x : SerialState). slice_get x.spheres i) (sym m.same) ∙ shown in cc) in
     let kept : c.recording ≡ recording = (let h : Record c.recording ≡ Record recording = sym c.role ∙ ap (λ (x : Sphere). x.role) same ∙ role_ in cc) in
-    let st = start-stands z image asked.version asked.mode in
+    let st = start-stands z image begins asked.version asked.mode in
     let last : Ahead L q L = ahead-end q L in
-    let done : PlaysBack L image q = ends L image q (c.grown.stands st) (c.grown.reaches L (first_played image L) st last (start_reaches L z image asked.version asked.mode (c.grown.ahead L last))) in
+    let done : PlaysBack L image q = ends L image q (c.grown.stands st) (c.grown.reaches L (first_played image (all_of L)) st last (start_reaches L z image begins asked.version asked.mode (c.grown.ahead L last))) in
     subst (λ (r : Recording). PlaysBack r.log image p) kept (subst (PlaysBack L image) same done)

@@ -11,7 +11,7 @@ use Rattle.spec_protocol.specs.machine.Spheres.{Record, Sphere}
 use Rattle.spec_protocol.specs.machine.Placing.{replays}
 use Rattle.spec_protocol.specs.machine.World.{World, sphere_at}
 use Rattle.spec_protocol.specs.declared.event.Event.{Event}
-use Rattle.spec_protocol.specs.machine.Machine.{first_threads, RecordSetup, IsRecorded, SphereSetup, Setup, role_of, sphere_of}
+use Rattle.spec_protocol.specs.machine.Machine.{RecordSetup, RoleSetup, IsRecorded, new_recording, SphereSetup, Setup, live_sphere, sphere_as, sphere_of}
 use Rattle.spec_protocol.specs.machine.Serial.{serial_start, do_points}
 use Rattle.spec_protocol.specs.machine.Shown.{shown, shown_of}
 use Rattle.spec_protocol.specs.machine.Logged.{supplied, logged}
@@ -37,13 +37,14 @@ no_commits : (entry k : ℕ) → 0 ≡ commits_in (started entry ∷ []) k
 no_commits entry zero = refl
 no_commits entry (suc k) = refl
 
-start_keeps : (version : ℕ) (mode : ModeName) (s : ℕ) (image : SphereSetup) → role_of s (first_threads image) image.role ≡ Record (keeping (new_log version mode s)) → Keeps version mode s [] (sphere_of s image)
-start_keeps version mode s image role =
+start_keeps : (version : ℕ) (mode : ModeName) (s : ℕ) (image : SphereSetup) → let role = Record (keeping (new_log version mode s)) in Keeps version mode s [] (live_sphere image role)
+start_keeps version mode s image =
+    let role = Record (keeping (new_log version mode s)) in
     record {
-      role = role ∙ ap (λ (log : LogParts). Record (keeping log)) (no_points version mode s);
+      role = ap (λ (log : LogParts). Record (keeping log)) (no_points version mode s);
       commits = no_commits image.entry;
       place = refl;
-      stands = subst (Stands (sphere_of s image)) (no_points version mode s) (start-stands s image version mode);
+      stands = subst (Stands (live_sphere image role)) (no_points version mode s) (start-stands s image role version mode);
       few = new-least version;
     }
 
@@ -65,7 +66,11 @@ log_kept s es i image asked is there role =
     let so = serial-after s es is in
     let k : KeepsIn asked.version asked.mode z i cs (do_points (serial_start s) w.points) =
     points-kept asked.version asked.mode z i [] (serial_start s) w.points
-    (record { sphere = sphere_of z image; there = slice_get-map (sphere_of z) s.spheres i ∙ ap (option_map (sphere_of z)) there; keeps = start_keeps asked.version asked.mode z image (ap (role_of z (first_threads image)) role) })
+    (record {
+      sphere = live_sphere image (Record (new_recording asked z));
+      there = slice_get-map (sphere_of z) s.spheres i ∙ ap (option_map (sphere_of z)) there ∙ ap (λ (r : RoleSetup). Some (sphere_as z image r)) role;
+      keeps = start_keeps asked.version asked.mode z image;
+    })
     so.possible
     in
     let p : Sphere = shown w.slots i (sphere_at w i) in

@@ -18,7 +18,7 @@ use Rattle.spec_protocol.specs.machine.Commits.{MovedSphere, is_piece, joined, b
 use Rattle.spec_protocol.specs.machine.World.{Numbers, World, MoveKind, OfChunk, OfSerial, OfDma, OfRaise, Move, sphere_at}
 use Rattle.spec_protocol.specs.machine.Asking.{is_short}
 use Rattle.spec_protocol.specs.machine.Placing.{replays}
-use Rattle.spec_protocol.specs.machine.Machine.{first_threads, RoleSetup, IsPlain, IsRecorded, IsReplayed, SphereSetup, role_of, sphere_of, moves, world_of}
+use Rattle.spec_protocol.specs.machine.Machine.{RoleSetup, IsPlain, IsRecorded, IsReplayed, SphereSetup, sphere_as, sphere_of, moves, world_of}
 use Rattle.spec_protocol.specs.machine.Serial.{SerialState, serial_start, laid, do_serial, do_dma, do_raise}
 use Rattle.spec_protocol.specs.machine.Shown.{shown, shown_of}
 use Rattle.spec_protocol.specs.machine.Moves.{move_chunk, do_what, do_at, do_move, do_moves, FitsChunk, FitsSerial, FitsRaise, FitsWhat, FitsAt, Fits, FitsIf, FitAll}
@@ -143,14 +143,14 @@ moves_keep_turn z x (m ∷ ms) all fits = moves_keep_turn z (do_move z x m) ms (
 
 -- ---- the start
 
-start_role : (z : ℕ) (threads : List Parts) (setup : RoleSetup) → InTurn (role_of z threads setup)
-start_role z threads IsPlain = tt
-start_role z threads (IsRecorded asked) = tt
-start_role z threads (IsReplayed asked) = λ going some. absurd (omega arith)
+start_role : (z : ℕ) (image : SphereSetup) (setup : RoleSetup) → InTurn (sphere_as z image setup).role
+start_role z image IsPlain = tt
+start_role z image (IsRecorded asked) = tt
+start_role z image (IsReplayed asked) = λ going some. absurd (omega arith)
 
 start_turn : (z : ℕ) (ds : List SphereSetup) (i : ℕ) (p : Sphere) → slice_get (map (sphere_of z) ds) i ≡ Some p → InTurn p.role
 start_turn z [] i p e = absurd (none-some p e)
-start_turn z (d ∷ ds) zero p e = subst (λ (q : Sphere). InTurn q.role) (let h : sphere_of z d ≡ p = cc in h) (start_role z (first_threads d) d.role)
+start_turn z (d ∷ ds) zero p e = subst (λ (q : Sphere). InTurn q.role) (let h : sphere_of z d ≡ p = cc in h) (start_role z d d.role)
 start_turn z (d ∷ ds) (suc i) p e = start_turn z ds i p e
 
 -- ---- what can come next

@@ -1,7 +1,8 @@
--- Whose turn it is in a sound replay: a live thread's, which the log names next.
-use Rattle.std.proofs.Common.{◌≡◌, ℕ, ◌<◌, ◌≤◌, Bool, true, false, List, length, Option, Some, None, refl, sym, ◌∙◌, subst, arith}
-use Rattle.std.specs.Prelude.{slice_get, nat_lt}
+-- Whose turn it is in a sound replay: a live thread's, which the log names next. An interval gives no other turn.
+use Rattle.std.proofs.Common.{◌≡◌, ℕ, ◌<◌, ◌≤◌, ◌⊎◌, inl, inr, Bool, true, false, List, length, Option, Some, None, refl, sym, ap, ◌∙◌, subst, arith}
+use Rattle.std.specs.Prelude.{slice_get, nat_lt, nat_le, ◌&&◌}
 use Rattle.std.proofs.lemmas.Bool.{true≢false, ltb-true}
+use Rattle.std.proofs.lemmas.Option.{none-some}
 use Rattle.dl_entry.specs.declared.Actor.{Actor}
 use Rattle.dl_entry.specs.declared.End.{End}
 use Rattle.dl_entry.specs.declared.Why.{Why}
@@ -12,8 +13,10 @@ use Rattle.spec_kernel.specs.Interrupts.{is_live}
 use Rattle.spec_play.specs.Progress.{Progress, position}
 use Rattle.spec_play.specs.declared.used.Used.{Used}
 use Rattle.spec_play.specs.Turns.{TurnOrEnd, Turn, TurnOfDma, Ended, has_left_over, at_end, turn_of_thread, turn_of, next_actor, now_at}
-use Rattle.spec_protocol.specs.machine.Spheres.{is_over}
-use Rattle.spec_protocol.specs.machine.Commits.{turned}
+use Rattle.spec_play.specs.declared.interval.Interval.{Interval}
+use Rattle.spec_play.specs.Intervals.{at_end_of_log, now_in}
+use Rattle.spec_protocol.specs.machine.Spheres.{is_over, actor_of}
+use Rattle.spec_protocol.specs.machine.Commits.{between, turned}
 use Rattle.spec_protocol.specs.promises.Sound.{IsDoneInOrder, due, IsSoundCursor}
 use Rattle.spec_protocol.proofs.Invariants.Cores.{branch}
 use Rattle.spec_protocol.proofs.Sound.Limits.{whole-positive}
@@ -68,9 +71,56 @@ now-going log p u threads e =
     (λ l _. ltb-true (position p) log.count l)
     (λ _ h. absurd (true≢false (sym (end-over (position p) (has_left_over log u threads)) ∙ h))) e
 
--- a cursor that was turned to its next commit is sound, if it was used soundly
-pub turned-sound : (log : LogParts) (p : Progress) (u : Used) (threads : List Parts) → IsLog log → position p ≤ log.count → IsDoneInOrder log.mode log.order (position p) threads → u.inputs ≤ length log.inputs → u.dmas ≤ length log.dmas → u.interrupts ≡ due threads log.interrupts → IsSoundCursor (position p) threads (turned log p u threads)
-turned-sound log p u threads is within done inputs dmas interrupts =
+-- ---- an interval
+
+-- an interval leaves a turn as it is, or ends the replay
+pub interval-now : (i : Option Interval) (count n : ℕ) (now : TurnOrEnd) → (is_over (now_in i count n now) ≡ true) ⊎ (now_in i count n now ≡ now)
+interval-now None count n now = inr refl
+interval-now (Some i) count n now =
+    branch (λ (x : TurnOrEnd). (is_over x ≡ true) ⊎ (x ≡ now)) (nat_le i.last n && nat_lt n count) (Ended (End.At n)) (at_end_of_log now) (λ _. inl refl) (λ _. at-end now)
+  where
+    at-end : (now : TurnOrEnd) → (is_over (at_end_of_log now) ≡ true) ⊎ (at_end_of_log now ≡ now)
+    at-end (Turn k) = inr refl
+    at-end TurnOfDma = inr refl
+    at-end (Ended (End.Complete n)) = inl refl
+    at-end (Ended (End.At n)) = inl refl
+    at-end (Ended (End.Diverged n why)) = inl refl
+
+over-named : (now : TurnOrEnd) (actor : Actor) → is_over now ≡ true → actor_of now ≡ Some actor → ⊥
+over-named (Turn k) actor over e = true≢false (sym over)
+over-named TurnOfDma actor over e = true≢false (sym over)
+over-named (Ended how) actor over e = none-some actor e
+
+over-of : (now : TurnOrEnd) (k : ℕ) → is_over now ≡ true → now ≡ Turn k → ⊥
+over-of now k over e = true≢false (sym over ∙ ap is_over e)
+
+-- what is sound of the replay of a whole log is so of that of an interval
+pub between-sound : (log : LogParts) (i : Option Interval) (n : ℕ) (u : Used) (threads : List Parts) (now : TurnOrEnd) → IsSoundCursor n threads (between log None n u now) → IsSoundCursor n threads (between log i n u now)
+between-sound log i n u threads now s =
+    let alike = interval-now i log.count n now in
+    record {
+      log = s.log;
+      within = s.within;
+      going = λ e. elim alike [ inl over ↦ absurd (true≢false (sym over ∙ e)) | inr same ↦ s.going (ap is_over (sym same) ∙ e) ];
+      done = s.done;
+      named = λ actor e. elim alike [
+        | inl over ↦ absurd (over-named (now_in i log.count n now) actor over e)
+        | inr same ↦ s.named actor (ap actor_of (sym same) ∙ e)
+      ];
+      inputs = s.inputs;
+      dmas = s.dmas;
+      interrupts = s.interrupts;
+      loads = s.loads;
+      turn = λ k e. elim alike [
+        | inl over ↦ absurd (over-of (now_in i log.count n now) k over e)
+        | inr same ↦ (let t = s.turn k (sym same ∙ e) in record { thread = t.thread; there = t.there; live = t.live; room = t.room })
+      ];
+    }
+
+-- ---- the next commit
+
+whole-sound : (log : LogParts) (p : Progress) (u : Used) (threads : List Parts) → IsLog log → position p ≤ log.count → IsDoneInOrder log.mode log.order (position p) threads → u.inputs ≤ length log.inputs → u.dmas ≤ length log.dmas → u.interrupts ≡ due threads log.interrupts → IsSoundCursor (position p) threads (turned log None p u threads)
+whole-sound log p u threads is within done inputs dmas interrupts =
     record {
       log = is;
       within = within;
@@ -83,3 +133,9 @@ turned-sound log p u threads is within done inputs dmas interrupts =
       loads = omega arith;
       turn = λ k e. let t = now-turn log p u threads k e in record { thread = t.thread; there = t.there; live = t.live; room = whole-positive log k t.thread.commits is };
     }
+
+-- a cursor that was turned to its next commit is sound, if it was used soundly
+pub turned-sound : (log : LogParts) (i : Option Interval) (p : Progress) (u : Used) (threads : List Parts) → IsLog log → position p ≤ log.count → IsDoneInOrder log.mode log.order (position p) threads → u.inputs ≤ length log.inputs → u.dmas ≤ length log.dmas → u.interrupts ≡ due threads log.interrupts
+    → IsSoundCursor (position p) threads (turned log i p u threads)
+turned-sound log i p u threads is within done inputs dmas interrupts =
+    between-sound log i (position p) u threads (now_at log p u threads) (whole-sound log p u threads is within done inputs dmas interrupts)

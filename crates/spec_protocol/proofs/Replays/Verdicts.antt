@@ -120,5 +120,5 @@ verdict-sound s image now k b t (Goes e u) devices p cursor turn sound few is go
     let effect = goes.0 in
     let done = done-commit b.log.mode b.log.order (position p.progress) k p.threads e.spawned t e.thread is effect.commits effect.fresh (cursor.named (Actor.Thread k) (ap actor_of turn)) cursor.done in
     granted-sound s image now k _ t e devices p sound is effect
-    (turned-sound b.log (with_effect k e p.progress) u (with_threads k e p.threads) cursor.log (omega (arith, n, l))
+    (turned-sound b.log b.interval (with_effect k e p.progress) u (with_threads k e p.threads) cursor.log (omega (arith, n, l))
     (subst (λ (m : ℕ). IsDoneInOrder b.log.mode b.log.order m (with_threads k e p.threads)) (sym n) done) goes.1.inputs goes.1.dmas goes.1.interrupts) d

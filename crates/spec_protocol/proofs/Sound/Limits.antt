@@ -1,5 +1,5 @@
 -- The limits of chunks: over 0, and no more than a log can say. And no sphere may have more threads than any.
-use Rattle.std.proofs.Common.{◌≡◌, ℕ, zero, suc, ◌<◌, ◌≤◌, Bool, eqb, List, [], ◌∷◌, Option, Some, None, refl, subst, arith}
+use Rattle.std.proofs.Common.{◌≡◌, ℕ, zero, suc, ◌<◌, ◌≤◌, inl, inr, Bool, eqb, List, [], ◌∷◌, Option, Some, None, refl, subst, arith}
 use Rattle.std.specs.Prelude.{slice_get, max, All, map, filter, find, option_map, ◌&&◌}
 use Rattle.std.specs.List.{zip}
 use Rattle.std.proofs.lemmas.Option.{none-some}
@@ -11,6 +11,7 @@ use Rattle.spec_log.specs.declared.ShortSize.{ShortSize}
 use Rattle.spec_log.specs.declared.Sizes.{Sizes}
 use Rattle.spec_log.specs.declared.LogParts.{LogParts}
 use Rattle.spec_log.specs.Log.{IsSizes, IsShortSize, IsLog}
+use Rattle.spec_log.specs.Versions.{IsVersion}
 use Rattle.spec_log.specs.Size.{is_thread, sizes_of_thread, thread_size, size_in}
 use Rattle.spec_log.proofs.Threads.{threads-few, standard-few}
 use Rattle.spec_protocol.specs.machine.Spheres.{Role, Plain, Record, Replay, whole_limit, limit_of, limit_after, most_in}
@@ -118,3 +119,14 @@ pub threads-most : (s commits : ℕ) (threads : List Parts) (role : Role) → Is
 threads-most s commits threads Plain is = omega arith
 threads-most s commits threads (Record recording) is = threads-few recording.log.version recording.log.threads is.version
 threads-most s commits threads (Replay b) is = threads-few b.log.version b.log.threads is.log.version
+
+-- a version of logs has room for a thread
+pub version-least : (version threads : ℕ) → IsVersion version threads → 1 ≤ threads
+version-least version threads is =
+    elim is [
+      | inl first ↦ (let e = first.1 in omega (arith, e))
+      | inr second ↦ elim second.1 [
+        | inl e ↦ omega (arith, e)
+        | inr e ↦ omega (arith, e)
+      ]
+    ]

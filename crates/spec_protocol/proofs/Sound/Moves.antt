@@ -49,14 +49,16 @@ pub record IsSoundRun (size : ℕ) (t : Parts) (r : Run) : Type 0 where
   pub words : AreSoundWords size r.words
   pub loads : length r.loads ≤ r.n
 
-chunk-goes : (size k : ℕ) (log : LogParts) (p : Progress) (u : Used) (ts : List Parts) (t : Parts) (r : Run) → slice_get ts k ≡ Some t → IsThread r.thread → r.thread.commits ≡ t.commits → AreSoundWords size r.words → IsSoundIf size p.request → length ts ≤ log.threads → Uses log ts u
+-- a chunk that goes on does so soundly
+pub chunk-goes : (size k : ℕ) (log : LogParts) (p : Progress) (u : Used) (ts : List Parts) (t : Parts) (r : Run) → slice_get ts k ≡ Some t → IsThread r.thread → r.thread.commits ≡ t.commits → AreSoundWords size r.words → IsSoundIf size p.request → length ts ≤ log.threads → Uses log ts u
     → IfGoes (SoundlyIn size log k ts t) (chunk_verdict log p u k r)
 unfolding chunk_verdict
 chunk-goes size k log p u ts t r is thread commits words request few uses =
     unless-goes (SoundlyIn size log k ts t) (chunk_why (size_in log (Actor.Thread k) r.thread.commits) r.n) (ended log k (chunk_effect k p.request r) u)
     (ended-goes size log k ts t (chunk_effect k p.request r) u is (chunk-effect size log.threads k ts t p.request r thread commits words request few) uses)
 
-cursor-uses : (commits : ℕ) (threads : List Parts) (b : Cursor) → IsSoundCursor commits threads b → Uses b.log threads b.used
+-- a sound cursor uses its log soundly
+pub cursor-uses : (commits : ℕ) (threads : List Parts) (b : Cursor) → IsSoundCursor commits threads b → Uses b.log threads b.used
 cursor-uses commits threads b s = record { rising = rising-of b.log.interrupts s.log.interrupts.rising; inputs = s.inputs; dmas = s.dmas; interrupts = s.interrupts }
 
 -- where it is a piece, its commit has room for it and an instruction more
@@ -178,7 +180,8 @@ served-goes size k log p ts t m None is each same whole thread request few = tt
 served-goes size k log p ts t m (Some g) is each same whole thread request few =
     ended-goes size log k ts t (serial_effect k (serve log.threads k ts p.request t m g.input)) g.used is (serial-effect size log.threads k ts p.request t m g.input same whole each.brings thread request few) each.uses
 
-serial-goes : (size k : ℕ) (log : LogParts) (p : Progress) (u : Used) (ts : List Parts) (t : Parts) (m : List ℕ) → slice_get ts k ≡ Some t → Uses log ts u → length m ≡ size → size % 4 ≡ 0 → IsThread t → IsSoundIf size p.request → length ts ≤ log.threads
+-- a serial step that goes on does so soundly
+pub serial-goes : (size k : ℕ) (log : LogParts) (p : Progress) (u : Used) (ts : List Parts) (t : Parts) (m : List ℕ) → slice_get ts k ≡ Some t → Uses log ts u → length m ≡ size → size % 4 ≡ 0 → IsThread t → IsSoundIf size p.request → length ts ≤ log.threads
     → IfGoes (SoundlyIn size log k ts t) (serial_verdict log p u k ts t m)
 unfolding serial_verdict
 serial-goes size k log p u ts t m is uses same whole thread request few =

@@ -3,7 +3,6 @@ use Rattle.std.proofs.Common.{◌≡◌, ◌≢◌, ℕ, zero, suc, ◌+◌, ◌
 use Rattle.std.specs.Prelude.{slice_get, slice_index, max}
 use Rattle.std.proofs.lemmas.Bool.{true≢false, eq-eqb, cases_eq, cases_lt}
 use Rattle.std.proofs.Math.ListN.{length-set}
-use Rattle.std.proofs.lemmas.Option.{none-some}
 use Rattle.std.proofs.lemmas.List.{length-map, get_or_past}
 use Rattle.dl_entry.specs.declared.Actor.{Actor}
 use Rattle.dl_entry.specs.declared.Counts.{Counts}
@@ -12,24 +11,23 @@ use Rattle.dl_entry.specs.ReplyName.{place}
 use Rattle.dl_entry.specs.Counts.{count_of, counted}
 use Rattle.spec_isa.specs.declared.thread.Parts.{Parts}
 use Rattle.spec_isa.specs.Words.{Stored, lay, lays}
-use Rattle.spec_isa.specs.Threads.{started}
 use Rattle.spec_isa.proofs.MemoryLaws.{length_lay, length_lays}
-use Rattle.spec_log.specs.Versions.{IsVersion, new_threads}
-use Rattle.spec_play.specs.Progress.{position, no_progress, nothing_used}
+use Rattle.spec_log.specs.Versions.{new_threads}
+use Rattle.spec_play.specs.Progress.{position}
 use Rattle.spec_play.specs.Turns.{TurnOrEnd, Turn, TurnOfDma}
 use Rattle.spec_engine.specs.declared.answers.How.{How}
 use Rattle.spec_engine.specs.Flights.{Flight, at}
 use Rattle.spec_engine.specs.Chunks.{Chunk, step, cut}
 use Rattle.spec_protocol.specs.declared.event.Event.{Event}
-use Rattle.spec_protocol.specs.machine.Spheres.{turn_in, turn_against, Cursor, Role, Replay, Sphere, no_sphere, is_over, is_stopped, whole_limit, pieces_of, limit_of, halves, most_in}
+use Rattle.spec_protocol.specs.machine.Spheres.{turn_in, turn_against, Cursor, Role, Plain, Record, Replay, Sphere, no_sphere, is_over, is_stopped, whole_limit, pieces_of, limit_of, halves, most_in}
 use Rattle.spec_protocol.specs.machine.Commits.{MovedSphere, is_piece, chunk_moved, serial_moved}
 use Rattle.spec_protocol.specs.machine.Asking.{is_short}
 use Rattle.spec_protocol.specs.machine.World.{Numbers, Occupant, World, EventOutcome, moment, sphere_at}
 use Rattle.spec_protocol.specs.machine.Placing.{replays}
-use Rattle.spec_protocol.specs.machine.Machine.{first_threads, RoleSetup, IsPlain, IsRecorded, IsReplayed, SphereSetup, Setup, role_of, sphere_of, world_of, act, name_of, with_event, happens, world_after}
+use Rattle.spec_protocol.specs.machine.Machine.{first_threads, RoleSetup, IsPlain, IsRecorded, IsReplayed, new_recording, SphereSetup, Setup, live_sphere, sphere_as, sphere_of, world_of, act, name_of, with_event, happens, world_after}
 use Rattle.spec_protocol.specs.promises.Invariants.{IsGood}
 use Rattle.spec_protocol.specs.promises.Promises.{IsSetup, AreSizesKept}
-use Rattle.spec_protocol.specs.promises.Sound.{IsRole, IsImage, IsWithinLimits, AreSoundWords, no_image, image_at, size_of, IsSoundCursor, IsSoundRole, IsSoundThread, IsSoundSphere, IsSoundChunk, HaveByteInput, IsSound, WorldsAreSound, EventsKeepSound}
+use Rattle.spec_protocol.specs.promises.Sound.{IsRole, IsImage, IsWithinLimits, AreSoundWords, no_image, image_at, size_of, IsSoundCursor, IsSoundRole, IsSoundSphere, IsSoundChunk, HaveByteInput, IsSound, WorldsAreSound, EventsKeepSound}
 use Rattle.spec_protocol.proofs.Invariants.Preserved.{SameSizes}
 use Rattle.spec_protocol.proofs.Moves.Granted.{turn-is}
 use Rattle.spec_protocol.proofs.Moves.Transfers.{dma-turn_is}
@@ -37,17 +35,14 @@ use Rattle.spec_protocol.proofs.Points.Counts.{act-untold}
 use Rattle.spec_protocol.proofs.Invariants.Schedules.{happens-preserved, free_slots, first_held, start-good, sizes_kept}
 use Rattle.spec_protocol.proofs.Sound.Changes.{Properties, Holds, Lands, Asks, Keeps, afresh-property, act-holds}
 use Rattle.spec_protocol.proofs.Sound.Words.{lay-bytes}
-use Rattle.spec_protocol.proofs.Sound.Threads.{started-thread}
 use Rattle.spec_protocol.proofs.Sound.Devices.{bytes-all, start-bytes}
 use Rattle.spec_protocol.proofs.Sound.Chunks.{IsSoundIn, step-sound, cut-sound, squash-sound, fresh-sound}
-use Rattle.spec_protocol.proofs.Sound.Limits.{limit-most}
+use Rattle.spec_protocol.proofs.Sound.Limits.{limit-most, version-least}
 use Rattle.spec_protocol.proofs.Logs.Fresh.{fresh-none}
-use Rattle.spec_protocol.proofs.Replays.Order.{done-none}
-use Rattle.spec_protocol.proofs.Replays.Uses.{none-due_first}
 use Rattle.spec_protocol.proofs.Sound.Commits.{IsSoundMoved}
 use Rattle.spec_protocol.proofs.Replays.Verdicts.{as-role}
-use Rattle.spec_protocol.proofs.Replays.Turns.{turned-sound}
 use Rattle.spec_protocol.proofs.Sound.Moves.{chunk-sound, serial-sound}
+use Rattle.spec_protocol.proofs.Sound.Plays.{first-thread, replay-sound}
 use Rattle.spec_protocol.proofs.Sound.Transfers.{dma-moved-sound, raised-sound}
 use Rattle.spec_protocol.proofs.Sound.Held.{IsSoundHeld, older-only, older-alone, with-younger, squashed-sound, younger-sound}
 
@@ -269,47 +264,28 @@ happens-sound s w e limits good k =
 
 -- ---- the start
 
-first-thread : (entry k : ℕ) (t : Parts) → entry % 4 ≡ 0 → slice_get (started entry ∷ []) k ≡ Some t → IsSoundThread 0 t
-first-thread entry zero t aligned e =
-    subst (IsSoundThread 0) (let q : started entry ≡ t = cc in q) (record { thread = started-thread entry aligned; few = omega arith })
-first-thread entry (suc k) t aligned e = absurd (none-some t e)
-
-first-role : (s entry : ℕ) (r : RoleSetup) → IsRole s r → let threads = started entry ∷ [] in IsSoundRole s 0 threads (role_of s threads r)
-first-role s entry IsPlain is = tt
-first-role s entry (IsRecorded asked) is = record { version = is.0; size = refl; count = refl; interrupts = fresh-none (started entry ∷ []) }
-first-role s entry (IsReplayed asked) is =
-    turned-sound asked.log no_progress nothing_used (started entry ∷ []) is (omega arith) (done-none asked.log.mode asked.log.order (started entry) refl) (omega arith) (omega arith)
-    (sym (none-due_first (started entry) asked.log.interrupts refl))
-
--- a version of logs has room for a thread
-version-least : (version threads : ℕ) → IsVersion version threads → 1 ≤ threads
-version-least version threads is =
-    elim is [
-      | inl first ↦ (let e = first.1 in omega (arith, e))
-      | inr second ↦ elim second.1 [
-        | inl e ↦ omega (arith, e)
-        | inr e ↦ omega (arith, e)
-      ]
-    ]
-
--- so has every role for the first one
-first-few : (s : ℕ) (threads : List Parts) (r : RoleSetup) → IsRole s r → 1 ≤ most_in (role_of s threads r)
-first-few s threads IsPlain is = omega arith
-first-few s threads (IsRecorded asked) is = version-least asked.version (new_threads asked.version) is.0
-first-few s threads (IsReplayed asked) is = version-least asked.log.version asked.log.threads is.version
-
-first-sphere : (s : ℕ) (image : SphereSetup) → IsImage s image → IsSoundSphere s image 0 (sphere_of s image)
-first-sphere s image is =
+live-sound : (s : ℕ) (image : SphereSetup) (role : Role) → IsImage s image → 1 ≤ most_in role → IsSoundRole s 0 (first_threads image) role → IsSoundSphere s image 0 (live_sphere image role)
+live-sound s image role is few sound =
     record {
       size = refl;
       bytes = is.bytes;
       request = tt;
       some = omega arith;
-      few = first-few s (first_threads image) image.role is.role;
+      few = few;
       threads = λ k t e. first-thread image.entry k t is.aligned e;
       commits = omega arith;
-      role = first-role s image.entry image.role is.role;
+      role = sound;
     }
+
+first-as : (s : ℕ) (image : SphereSetup) (r : RoleSetup) → IsImage s image → IsRole s r → IsSoundSphere s image 0 (sphere_as s image r)
+first-as s image IsPlain is role = live-sound s image Plain is (omega arith) tt
+first-as s image (IsRecorded asked) is role =
+    live-sound s image (Record (new_recording asked s)) is (version-least asked.version (new_threads asked.version) role.0)
+    (record { version = role.0; size = refl; count = refl; interrupts = fresh-none (first_threads image) })
+first-as s image (IsReplayed asked) is role = replay-sound s image asked is role.0
+
+first-sphere : (s : ℕ) (image : SphereSetup) → IsImage s image → IsSoundSphere s image 0 (sphere_of s image)
+first-sphere s image is = first-as s image image.role is is.role
 
 first-spheres : (s : ℕ) (ds : List SphereSetup) (i : ℕ) → ((d : SphereSetup) → slice_get ds i ≡ Some d → IsImage s d) → i < length ds → IsSoundSphere s (get_or ds i no_image) 0 (get_or (map (sphere_of s) ds) i no_sphere)
 first-spheres s [] i each l = absurd (omega arith)

@@ -115,7 +115,8 @@ dma-goes size log p u whole request =
     dma-unless-goes size log u (serial_why (size_in log Actor.Dma (position p))) (transferred (position p) p.request (slice_get log.dmas u.dmas))
     (transferred-goes size log u (position p) p.request (slice_get log.dmas u.dmas) whole request refl)
 
-dma-verdict-sound : (s : ℕ) (image : SphereSetup) (now : ℕ) (b : Cursor) (x : DmaVerdict) (devices : Devices) (p : Sphere) → IsSoundCursor (position p.progress) p.threads b → b.now ≡ TurnOfDma → IsSoundSphere s image now p → IfDmaGoes (length image.memory) b.log b.used x → length p.threads ≤ b.log.threads
+-- a DMA leaves a sound replay, whether it goes on or diverges
+pub dma-verdict-sound : (s : ℕ) (image : SphereSetup) (now : ℕ) (b : Cursor) (x : DmaVerdict) (devices : Devices) (p : Sphere) → IsSoundCursor (position p.progress) p.threads b → b.now ≡ TurnOfDma → IsSoundSphere s image now p → IfDmaGoes (length image.memory) b.log b.used x → length p.threads ≤ b.log.threads
     → HaveByteInput devices → IsSoundMoved s image (suc now) (dma_by_verdict b x devices p)
 dma-verdict-sound s image now b (DmaFails why) devices p cursor turn sound goes few d = diverged-sound s image now b why devices p cursor sound few d
 dma-verdict-sound s image now b (DmaGoes words) devices p cursor turn sound goes few d =
@@ -123,7 +124,7 @@ dma-verdict-sound s image now b (DmaGoes words) devices p cursor turn sound goes
     let l = cursor.going (ap is_over turn) in
     let done = done-dma b.log.mode b.log.order (position p.progress) p.threads (cursor.named Actor.Dma (ap actor_of turn)) cursor.done in
     dma-as-sound s image now _ words devices p sound goes.words_sound
-    (turned-sound b.log (with_dma p.progress) (with_dma_used b.used) p.threads cursor.log (omega (arith, n, l))
+    (turned-sound b.log b.interval (with_dma p.progress) (with_dma_used b.used) p.threads cursor.log (omega (arith, n, l))
     (subst (λ (m : ℕ). IsDoneInOrder b.log.mode b.log.order m p.threads) (sym n) done) cursor.inputs goes.among cursor.interrupts) few d
 
 dma-in-sound : (s : ℕ) (image : SphereSetup) (now : ℕ) (role : Role) (devices : Devices) (p : Sphere) → length image.memory % 4 ≡ 0 → IsSoundRole s (position p.progress) p.threads role → ((b : Cursor) → role ≡ Replay b → b.now ≡ TurnOfDma) → IsSoundSphere s image now p → length p.threads ≤ most_in role

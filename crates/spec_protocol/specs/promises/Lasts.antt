@@ -1,13 +1,23 @@
--- Of every sphere the thread that committed last is the last one among its commits.
-use Rattle.std.specs.Prelude.{◌≡◌, ℕ, List, slice_get, Some}
-use Rattle.spec_play.specs.Lasts.{IsOfCommits}
+-- Of every sphere the thread that committed last is the last one among its commits, or before them.
+use Rattle.std.specs.Prelude.{◌≡◌, ℕ, List, slice_get, Option, Some}
+use Rattle.std.specs.Option.{option_or}
+use Rattle.spec_play.specs.Progress.{Progress, last_thread}
 use Rattle.spec_protocol.specs.declared.event.Event.{Event}
 use Rattle.spec_protocol.specs.machine.Spheres.{Sphere}
-use Rattle.spec_protocol.specs.machine.Machine.{Setup}
+use Rattle.spec_protocol.specs.machine.Machine.{SphereSetup, Setup, sphere_of}
 use Rattle.spec_protocol.specs.promises.Promises.{IsSetup, after}
+
+-- it is the last one among the commits, or if no thread is among them, this one
+abbrev pub IsLastSince : (before : Option ℕ) → Progress → Type 0
+IsLastSince before p = p.last ≡ option_or (last_thread p.commits) before
+
+-- the thread that committed last before the sphere's commits: only a replay that begins within its log has one
+abbrev pub last_before : (s : ℕ) → SphereSetup → Option ℕ
+last_before s image = (sphere_of s image).progress.last
 
 -- plain, recorded or replayed
 abbrev pub SpheresKeepLasts : Type 0
 SpheresKeepLasts =
-    (s : Setup) (es : List Event) (i : ℕ) (p : Sphere) → IsSetup s
-    → slice_get (after s es).spheres i ≡ Some p → IsOfCommits p.progress
+    (s : Setup) (es : List Event) (i : ℕ) (image : SphereSetup) (p : Sphere) → IsSetup s
+    → slice_get s.spheres i ≡ Some image
+    → slice_get (after s es).spheres i ≡ Some p → IsLastSince (last_before s.numbers.s image) p.progress

@@ -10,6 +10,7 @@ use Rattle.spec_log.specs.declared.LogParts.{LogParts}
 use Rattle.spec_log.specs.Size.{is_thread}
 use Rattle.spec_play.specs.Progress.{position}
 use Rattle.spec_play.specs.Verdicts.{interrupt_at}
+pub use Rattle.spec_play.specs.Spawned.{IsNew, AreNew}
 use Rattle.spec_protocol.specs.machine.Spheres.{Sphere}
 use Rattle.spec_protocol.specs.promises.Sound.{commits_in}
 
@@ -57,14 +58,3 @@ pub record Stands (p : Sphere) (log : LogParts) : Type 0 where
       → t.mask ≡ false
       → interrupt_at log.interrupts k t.commits ≡ None
   pub dmas : DmasBelow (position p.progress) log.dmas
-
--- ---- spawned threads
-
--- a thread that has done nothing yet
-pub record IsNew (t : Parts) : Type 0 where
-  pub commits : t.commits ≡ 0
-  pub handler : t.handler ≡ 0
-
-abbrev pub AreNew : List Parts → Type 0
-AreNew [] = Unit {0}
-AreNew (t ∷ ts) = IsNew t × AreNew ts
