@@ -35,10 +35,10 @@ pub fn tell_interval<F: Files>(
 
 // A state is kept after so many commits each, and the slice starts from the nearest one.
 fn tell_read(alloc: Global, read: &PairRead, asked: &Interval<'_>) -> Result<Job, OutOfMemory>
-    requires { asked.now.first ≤ asked.now.last }
+    requires { asked.now.from ≤ asked.now.to }
     ensures { IfOk result (λ job. finish_of job ≡ finish (interval_view asked.now) (pair_view read.now)) }
 {
     let trail = Trail::new(alloc, &read.image, &read.log, asked.every)?;
-    let slice = trail.slice(asked.first, asked.last)?;
+    let slice = trail.slice(asked.from, asked.to)?;
     Ok(said(alloc, slice.bytes, matches!(slice.end, End::Diverged(..))))
 }

@@ -13,7 +13,7 @@ use Rattle.spec_program.specs.Stages.{Refused, ◌>>◌}
 
 -- the slice of the log's play on the image
 abbrev pub told : IntervalValues → PairRead → Slice
-told asked read = slice read.log read.image.bytes read.image.entry asked.first asked.last
+told asked read = slice read.log read.image.bytes read.image.entry asked.from asked.to
 
 abbrev pub finish : IntervalValues → PairRead → Finish
 finish asked read = said (told asked read).text (has_diverged (told asked read).end)
