@@ -9,6 +9,7 @@ use Rattle.dl_plan.specs.declared.Sizes.{Sizes}
 use Rattle.dl_plan.specs.Values.{PlanValues}
 use Rattle.spec_log.specs.declared.ModeName.{ModeName}
 use Rattle.spec_log.specs.declared.fault.Fault.{Fault}
+use Rattle.spec_play.specs.Intervals.{interval_of}
 use Rattle.spec_protocol.specs.declared.event.Event.{Event}
 use Rattle.spec_protocol.specs.machine.Machine.{RecordSetup, RoleSetup, IsPlain, IsRecorded, IsReplayed, SphereSetup, Setup}
 use Rattle.spec_protocol.specs.machine.World.{Numbers}
@@ -49,7 +50,9 @@ record_setup inputs = record { version = inputs.version; mode = mode_named input
 abbrev pub role_of : (i : ℕ) → RoleRead → Result RoleSetup Refused
 role_of i PlainRead = Ok IsPlain
 role_of i (RecordRead inputs) = Ok (IsRecorded (record_setup inputs))
-role_of i (ReplayRead inputs) = refusing (bad_log i) inputs.log >> λ log. Ok (IsReplayed (record { log = log }))
+role_of i (ReplayRead inputs) =
+    refusing (bad_log i) inputs.log >> λ log.
+    Ok (IsReplayed (record { log = log; interval = interval_of inputs.from inputs.to log.count }))
 
 abbrev pub sphere_of : (i : ℕ) → SphereRead → Image → Result SphereSetup Refused
 sphere_of i s image = role_of i s.role >> λ role. Ok (record { memory = image.bytes; entry = image.entry; role = role })
