@@ -6,6 +6,7 @@ mod assembling;
 mod drilling;
 mod ending;
 mod inspecting;
+mod intervals;
 mod job;
 mod making;
 mod migrating;

@@ -11,6 +11,7 @@ ghost use Rattle.dl_commands.specs.Texts.{texts};
 use crate::assembling::assemble_source;
 use crate::drilling::drill_number;
 use crate::inspecting::inspect;
+use crate::intervals::tell_interval;
 use crate::job::Job;
 use crate::making::make_image;
 use crate::migrating::migrate;
@@ -65,6 +66,7 @@ fn compute_command<F: Files>(
         Command::Inspect { log } => inspect(alloc, files, log),
         Command::Walk(pair) => walk_log(alloc, files, &pair),
         Command::Query(query) => answer_query(alloc, files, &query),
+        Command::Interval(asked) => tell_interval(alloc, files, &asked),
         Command::Make { number, name } => Ok(make_image(alloc, number, name)?),
         Command::Drill { number } => Ok(drill_number(alloc, number)?),
         Command::Asm { source, name } => assemble_source(alloc, files, source, name),

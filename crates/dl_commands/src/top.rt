@@ -28,7 +28,8 @@ use std::alloc::Global;
 ///
 /// `run PLAN` runs the machine of the plan: it writes the logs, the accounts, the console and the report that the plan names,
 /// and puts the summary into the sink. `inspect LOG` puts the log as text, and `walk IMAGE MEMORY LOG` the account of the
-/// log's play on the image. `make NUMBER NAME` writes a generated image, and `drill NUMBER` records and replays one in memory.
+/// log's play on the image; `interval` puts its commits from one number up to another, and `watch`, `who` and `when` tell of
+/// its stores to a word. `make NUMBER NAME` writes a generated image, and `drill NUMBER` records and replays one in memory.
 /// `asm SOURCE NAME` writes the image of a source, and `migrate LOG NAME` a log in version 2.
 pub fn delorean<F: Files, O: Sink>(
     alloc: Global,
@@ -41,7 +42,7 @@ pub fn delorean<F: Files, O: Sink>(
         → command_of (texts words.now) ≡ Some (Run plan) → (F.seen files.old).known ≡ Some m → is_done result ≡ true
         → Headline plan m (F.seen files.new).known (O.taken out.old) (O.taken out.new) result }
 
-    // What they say of each command, of `inspect`, `walk`, `make`, `drill`, `asm` and `migrate` too.
+    // What they say of each command.
     ensures done { (command : CommandValues) (m : Contents)
         → command_of (texts words.now) ≡ Some command → (F.seen files.old).known ≡ Some m → is_done result ≡ true
         → IsDone command m (F.seen files.new).known (O.taken out.old) (O.taken out.new) result }

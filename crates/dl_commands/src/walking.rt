@@ -41,10 +41,11 @@ fn walk_whole(alloc: Global, read: &PairRead) -> Result<Job, OutOfMemory>
     let text = account_text(
         alloc,
         walked.commits.as_slice(),
-        &walked.threads,
-        &walked.request,
-        &walked.memory,
+        &walked.state.threads,
+        &walked.state.request,
+        &walked.state.memory,
         &end,
+        0,
     )?;
     Ok(said(alloc, text, matches!(end, End::Diverged(..))))
 }

@@ -16,7 +16,7 @@ use Rattle.spec_program.proofs.Made.{then_ok}
 use Rattle.spec_protocol.specs.machine.Machine.{RoleSetup, IsPlain, IsRecorded, IsReplayed, SphereSetup}
 use Rattle.spec_protocol.specs.promises.Sound.{IsRecordable}
 use Rattle.dl_gather.specs.declared.inputs.SphereInputs.{SphereInputs}
-use Rattle.dl_gather.specs.Inputs.{IsPlanRecordable, IsReadRecordable, ArePlansRecordable, AreReadRecordable, sphere_view}
+use Rattle.dl_gather.specs.Inputs.{IsPlannedRole, IsReadRole, ArePlannedRoles, AreReadRoles, sphere_view}
 use Rattle.dl_gather.proofs.Memories.{all_at, all_pushed}
 
 -- ---- as planned
@@ -33,28 +33,28 @@ by_version s version mode (inl one) least most =
 by_version s version mode (inr two) least most =
     subst (λ (v : ℕ). s ≤ longest_chunk v → IsRecordable s (record { version = v; mode = mode })) (sym two) (λ m. (inr (refl, inr refl), (least, m))) most
 
-role_planned : (s : ℕ) (role : RoleValues) → 16 ≤ s → IsRole role → CanHave s role → IsPlanRecordable s role
+role_planned : (s : ℕ) (role : RoleValues) → 16 ≤ s → IsRole role → CanHave s role → IsPlannedRole s role
 role_planned s Plain least is can = tt
 role_planned s (Record values) least is can = by_version s values.version (mode_named values.mode) (one_or_two values.version is.0 is.1) least can
 role_planned s (Replay values) least is can = tt
 
-roles_planned : (s : ℕ) (spheres : List SphereValues) → 16 ≤ s → AreRoles spheres → CanAllHave s spheres → ArePlansRecordable s spheres
+roles_planned : (s : ℕ) (spheres : List SphereValues) → 16 ≤ s → AreRoles spheres → CanAllHave s spheres → ArePlannedRoles s spheres
 roles_planned s [] least are can = tt
 roles_planned s (x ∷ xs) least are can = (role_planned s x.role least are.0 can.0, roles_planned s xs least are.1 can.1)
 
 -- so it is of each sphere of a plan
-pub plan_recordable : (p : PlanValues) → IsPlan p → ArePlansRecordable p.sizes.chunk p.spheres
+pub plan_recordable : (p : PlanValues) → IsPlan p → ArePlannedRoles p.sizes.chunk p.spheres
 plan_recordable p is = roles_planned p.sizes.chunk p.spheres is.numbers.sizes.chunk.0 is.numbers.roles is.chunk
 
 -- ---- as read
 
 -- where so it is of all planned spheres, it is so of sphere i
-pub planned_recordable : (s : ℕ) (spheres : List Sphere) (i : ℕ) (d : Sphere) → ArePlansRecordable s (map planned spheres) → i < length spheres → IsPlanRecordable s (planned (get_or spheres i d)).role
-planned_recordable s spheres i d are h = all_at (λ (x : SphereValues). IsPlanRecordable s x.role) planned spheres i d are h
+pub planned_recordable : (s : ℕ) (spheres : List Sphere) (i : ℕ) (d : Sphere) → ArePlannedRoles s (map planned spheres) → i < length spheres → IsPlannedRole s (planned (get_or spheres i d)).role
+planned_recordable s spheres i d are h = all_at (λ (x : SphereValues). IsPlannedRole s x.role) planned spheres i d are h
 
 -- with one sphere more of which it is so, it is so of all
-pub more_recordable : (s : ℕ) (inputs : List SphereInputs) (x : SphereInputs) → AreReadRecordable s (map sphere_view inputs) → IsReadRecordable s (sphere_view x).role → AreReadRecordable s (map sphere_view (inputs ++ x ∷ []))
-more_recordable s inputs x are is = all_pushed (λ (y : SphereRead). IsReadRecordable s y.role) sphere_view inputs x are is
+pub more_recordable : (s : ℕ) (inputs : List SphereInputs) (x : SphereInputs) → AreReadRoles s (map sphere_view inputs) → IsReadRole s (sphere_view x).role → AreReadRoles s (map sphere_view (inputs ++ x ∷ []))
+more_recordable s inputs x are is = all_pushed (λ (y : SphereRead). IsReadRole s y.role) sphere_view inputs x are is
 
 -- ---- as set up
 
@@ -72,13 +72,13 @@ log_set_up s i read role e =
     let log = then_ok (refusing (bad_log i) read) _ role e in
     subst (IsRecordableIf s) (same_role _ role log.2) tt
 
-role_set_up : (s i : ℕ) (read : RoleRead) (role : RoleSetup) → IsReadRecordable s read → role_of i read ≡ Ok role → IsRecordableIf s role
+role_set_up : (s i : ℕ) (read : RoleRead) (role : RoleSetup) → IsReadRole s read → role_of i read ≡ Ok role → IsRecordableIf s role
 role_set_up s i PlainRead role is e = subst (IsRecordableIf s) (same_role IsPlain role e) tt
 role_set_up s i (RecordRead inputs) role is e = subst (IsRecordableIf s) (same_role (IsRecorded (record_setup inputs)) role e) is
 role_set_up s i (ReplayRead inputs) role is e = log_set_up s i inputs.log role e
 
 -- so it is of the spheres that are set up
-pub set_up_recordable : (s i : ℕ) (read : List SphereRead) (images : List Image) (spheres : List SphereSetup) → AreReadRecordable s read → spheres_of i read images ≡ Ok spheres → All (λ (x : SphereSetup). IsRecordableIf s x.role) spheres
+pub set_up_recordable : (s i : ℕ) (read : List SphereRead) (images : List Image) (spheres : List SphereSetup) → AreReadRoles s read → spheres_of i read images ≡ Ok spheres → All (λ (x : SphereSetup). IsRecordableIf s x.role) spheres
 set_up_recordable s i [] images spheres are e =
     subst (All (λ (x : SphereSetup). IsRecordableIf s x.role)) (same_spheres [] spheres e) (All-nil (λ (x : SphereSetup). IsRecordableIf s x.role))
 set_up_recordable s i (x ∷ read) [] spheres are e =

@@ -4,6 +4,7 @@ use Rattle.std.specs.List.{AllByRecursion}
 use Rattle.dl_logio.specs.Files.{read_view}
 use Rattle.dl_scriptio.specs.Files.{read_view as script_view}
 use Rattle.dl_plan.specs.Values.{PlanValues, RoleValues, Plain, Record, Replay, SphereValues, IsMemory}
+use Rattle.spec_play.specs.Intervals.{AreOrdered}
 use Rattle.spec_protocol.specs.promises.Sound.{IsRecordable}
 use Rattle.spec_program.specs.Built.{mode_named, record_setup}
 use Rattle.spec_program.specs.Files.{ScheduleRead, ScriptRead, EventsDrawn, RoleRead, PlainRead, RecordRead, ReplayRead, SphereRead, PlanRead}
@@ -21,7 +22,7 @@ schedule_view (ScheduleInputs.Drawn events) = EventsDrawn events
 abbrev pub role_view : RoleInputs → RoleRead
 role_view RoleInputs.Plain = PlainRead
 role_view (RoleInputs.Record version mode) = RecordRead (record { version = version; mode = mode })
-role_view (RoleInputs.Replay log) = ReplayRead (record { log = read_view log })
+role_view (RoleInputs.Replay log from to) = ReplayRead (record { log = read_view log; from = from; to = to })
 
 abbrev pub sphere_view : SphereInputs → SphereRead
 sphere_view s = record { image = s.image.items; memory = s.memory; role = role_view s.role }
@@ -44,26 +45,27 @@ IsScheduleRead (EventsDrawn events) = events ≤ 2 ^ 24
 abbrev pub HaveMemories : List SphereRead → Type 0
 HaveMemories spheres = AllByRecursion (λ (s : SphereRead). IsMemory s.memory) spheres
 
--- the log of what is recorded, as planned or as read, can have standard chunks of s instructions
-abbrev pub IsPlanRecordable : (s : ℕ) → RoleValues → Type 0
-IsPlanRecordable s Plain = ⊤
-IsPlanRecordable s (Record values) = IsRecordable s (record { version = values.version; mode = mode_named values.mode })
-IsPlanRecordable s (Replay values) = ⊤
+-- the log of what is recorded, as planned or as read, can have standard chunks of s instructions; of what is replayed, the
+-- first commit isn't after the last
+abbrev pub IsPlannedRole : (s : ℕ) → RoleValues → Type 0
+IsPlannedRole s Plain = ⊤
+IsPlannedRole s (Record values) = IsRecordable s (record { version = values.version; mode = mode_named values.mode })
+IsPlannedRole s (Replay values) = AreOrdered values.from values.to
 
-abbrev pub IsReadRecordable : (s : ℕ) → RoleRead → Type 0
-IsReadRecordable s PlainRead = ⊤
-IsReadRecordable s (RecordRead inputs) = IsRecordable s (record_setup inputs)
-IsReadRecordable s (ReplayRead inputs) = ⊤
+abbrev pub IsReadRole : (s : ℕ) → RoleRead → Type 0
+IsReadRole s PlainRead = ⊤
+IsReadRole s (RecordRead inputs) = IsRecordable s (record_setup inputs)
+IsReadRole s (ReplayRead inputs) = AreOrdered inputs.from inputs.to
 
-abbrev pub ArePlansRecordable : (s : ℕ) → List SphereValues → Type 0
-ArePlansRecordable s spheres = AllByRecursion (λ (x : SphereValues). IsPlanRecordable s x.role) spheres
+abbrev pub ArePlannedRoles : (s : ℕ) → List SphereValues → Type 0
+ArePlannedRoles s spheres = AllByRecursion (λ (x : SphereValues). IsPlannedRole s x.role) spheres
 
-abbrev pub AreReadRecordable : (s : ℕ) → List SphereRead → Type 0
-AreReadRecordable s spheres = AllByRecursion (λ (x : SphereRead). IsReadRecordable s x.role) spheres
+abbrev pub AreReadRoles : (s : ℕ) → List SphereRead → Type 0
+AreReadRoles s spheres = AllByRecursion (λ (x : SphereRead). IsReadRole s x.role) spheres
 
 -- the plan's numbers are within their limits, and each of its spheres is read
 pub record AreOf (p : PlanValues) (r : PlanRead) : Type 0 where
   pub schedule : IsScheduleRead r.schedule
   pub count : length r.spheres ≡ length p.spheres
   pub memories : HaveMemories r.spheres
-  pub recordable : AreReadRecordable p.sizes.chunk r.spheres
+  pub roles : AreReadRoles p.sizes.chunk r.spheres

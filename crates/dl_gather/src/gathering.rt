@@ -7,7 +7,7 @@ ghost use Rattle.spec_program.specs.Files.{plan_read, schedule_read, input_read,
 ghost use Rattle.dl_gather.specs.Halts.{Unread};
 ghost use Rattle.dl_gather.specs.Inputs.{AreOf, IsScheduleRead, HaveMemories, inputs_view, schedule_view as schedule_inputs};
 ghost use Rattle.dl_gather.specs.Inputs.{role_view as role_inputs, sphere_view as sphere_inputs};
-ghost use Rattle.dl_gather.specs.Inputs.{IsPlanRecordable, IsReadRecordable, ArePlansRecordable, AreReadRecordable};
+ghost use Rattle.dl_gather.specs.Inputs.{IsPlannedRole, IsReadRole, ArePlannedRoles, AreReadRoles};
 ghost use Rattle.dl_gather.specs.Reads.{read_for_schedule, read_for_role, read_for_sphere};
 
 use crate::halt::Halt;
@@ -86,8 +86,8 @@ fn read_spheres<F: Files>(
         → spheres_read m (map sphere_view spheres.now) ≡ Ok (map sphere_inputs ss.items)) }
     ensures count { IfOk result (λ ss. length ss.items ≡ length spheres.now) }
     ensures memories { IfOk result (λ ss. HaveMemories (map sphere_inputs ss.items)) }
-    ensures recordable { IfOk result (λ ss. (s : ℕ) → ArePlansRecordable s (map sphere_view spheres.now)
-        → AreReadRecordable s (map sphere_inputs ss.items)) }
+    ensures roles { IfOk result (λ ss. (s : ℕ) → ArePlannedRoles s (map sphere_view spheres.now)
+        → AreReadRoles s (map sphere_inputs ss.items)) }
     ensures halt { IfErr result (Unread (flat_map read_for_sphere (map sphere_view spheres.now))
         (λ m. spheres_read m (map sphere_view spheres.now)) (F.seen files.old) (F.seen files.new)) }
     ensures same { OnOk result (F.seen files.new ≡ F.seen files.old) }
@@ -111,8 +111,8 @@ fn read_sphere<F: Files>(
     ensures read { IfOk result (λ s. (m : Contents) → (F.seen files.old).known ≡ Some m
         → sphere_read m (sphere_view sphere.now) ≡ Ok (sphere_inputs s)) }
     ensures memory { IfOk result (λ s. s.memory ≡ sphere.now.memory) }
-    ensures recordable { IfOk result (λ r. (s : ℕ) → IsPlanRecordable s (role_view sphere.now.role)
-        → IsReadRecordable s (role_inputs r.role)) }
+    ensures roles { IfOk result (λ r. (s : ℕ) → IsPlannedRole s (role_view sphere.now.role)
+        → IsReadRole s (role_inputs r.role)) }
     ensures halt { IfErr result (Unread (read_for_sphere (sphere_view sphere.now))
         (λ m. sphere_read m (sphere_view sphere.now)) (F.seen files.old) (F.seen files.new)) }
     ensures same { OnOk result (F.seen files.new ≡ F.seen files.old) }
@@ -129,8 +129,8 @@ fn read_sphere<F: Files>(
 fn read_role<F: Files>(alloc: Global, files: &mut F, role: &Role) -> Result<RoleInputs, Halt>
     ensures read { IfOk result (λ r. (m : Contents) → (F.seen files.old).known ≡ Some m
         → role_read m (role_view role.now) ≡ Ok (role_inputs r)) }
-    ensures recordable { IfOk result (λ r. (s : ℕ) → IsPlanRecordable s (role_view role.now)
-        → IsReadRecordable s (role_inputs r)) }
+    ensures roles { IfOk result (λ r. (s : ℕ) → IsPlannedRole s (role_view role.now)
+        → IsReadRole s (role_inputs r)) }
     ensures halt { IfErr result (Unread (read_for_role (role_view role.now))
         (λ m. role_read m (role_view role.now)) (F.seen files.old) (F.seen files.new)) }
     ensures same { OnOk result (F.seen files.new ≡ F.seen files.old) }
@@ -141,9 +141,13 @@ fn read_role<F: Files>(alloc: Global, files: &mut F, role: &Role) -> Result<Role
             version: *version,
             mode: *mode,
         }),
-        Role::Replay { log } => {
-            let read = read_log(alloc, files, log.as_str())?;
-            Ok(RoleInputs::Replay(read))
+        Role::Replay { log, from, to } => {
+            let log = read_log(alloc, files, log.as_str())?;
+            Ok(RoleInputs::Replay {
+                log,
+                from: *from,
+                to: *to,
+            })
         }
     }
 }

@@ -36,8 +36,12 @@ pub struct SphereInputs {
 pub enum RoleInputs {
     Plain,
     Record { version: u8, mode: Mode },
-    /// What the file of a log says.
-    Replay(LogRead),
+    /// What the file of a log says, and which of its commits the plan names: from which on, and up to which.
+    Replay {
+        log: LogRead,
+        from: Option<u32>,
+        to: Option<u32>,
+    },
 }
 
 /// An image and a log, which is played on it.

@@ -7,6 +7,7 @@ mod gathering;
 mod halt;
 mod images;
 mod inputs;
+mod intervals;
 mod lines;
 mod logs;
 mod pairs;

@@ -6,12 +6,13 @@ ghost use Rattle.dl_gather.specs.Halts.{Refuses};
 ghost use Rattle.dl_gather.specs.Inputs.{role_view, sphere_view};
 
 use crate::halt::Halt;
+use crate::intervals::{begun_of, interval_of};
 use crate::inputs::{RoleInputs, SphereInputs};
 use crate::logs::good_log;
 use dl_elf::Image;
 use dl_logfmt::ModeName;
 use dl_plan::Mode;
-use dl_sphere::{Role, SphereSetup};
+use dl_sphere::{Replay, Role, SphereSetup};
 use std::alloc::Global;
 
 /// Each sphere with its image and its role; the first log that has a bad field is refused.
@@ -52,11 +53,12 @@ fn setup_of(
     ensures sphere { IfOk result (λ sphere. sphere_of number (sphere_view input) image ≡ Ok (setup_view sphere)) }
     ensures halt { IfErr result (Refuses (sphere_of number (sphere_view input) image)) }
 {
-    let role = role_of(alloc, number, input.role)?;
+    let role = role_of(alloc, number, &image, input.role)?;
     Ok(SphereSetup { image, role })
 }
 
-fn role_of(alloc: Global, number: usize, role: RoleInputs) -> Result<Role, Halt>
+// Its role, on its image.
+fn role_of(alloc: Global, number: usize, image: &Image, role: RoleInputs) -> Result<Role, Halt>
     ensures role { IfOk result (λ r. role_of number (role_view role) ≡ Ok (role_setup r)) }
     ensures halt { IfErr result (Refuses (role_of number (role_view role))) }
 {
@@ -66,9 +68,10 @@ fn role_of(alloc: Global, number: usize, role: RoleInputs) -> Result<Role, Halt>
             version,
             mode: mode_named(mode),
         }),
-        RoleInputs::Replay(read) => {
-            let log = good_log(alloc, number, read)?;
-            Ok(Role::Replay(log))
+        RoleInputs::Replay { log, from, to } => {
+            let log = good_log(alloc, number, log)?;
+            let begun = begun_of(alloc, image, &log, interval_of(from, to, log.parts().count))?;
+            Ok(Role::Replay(Replay { log, begun }))
         }
     }
 }

@@ -5,11 +5,10 @@ use Rattle.std.proofs.lemmas.Option.{none-some, same_Some}
 use Rattle.dl_elf.specs.Images.{Image}
 use Rattle.dl_files.specs.Contents.{Contents}
 use Rattle.dl_plan.specs.Values.{RoleValues, Plain, Record, Replay, SphereValues, PlanValues}
-use Rattle.spec_log.specs.declared.LogParts.{LogParts}
 use Rattle.spec_log.specs.Reading.{read_of}
 use Rattle.spec_protocol.specs.machine.Machine.{ReplaySetup, RoleSetup, IsReplayed, SphereSetup}
 use Rattle.spec_finishing.specs.Ending.{CanFinish}
-use Rattle.spec_program.specs.Built.{bad_log, role_of, sphere_of, spheres_of}
+use Rattle.spec_program.specs.Built.{bad_log, replay_setup, role_of, sphere_of, spheres_of}
 use Rattle.spec_program.specs.Files.{RoleRead, PlainRead, RecordRead, ReplayRead, SphereRead, PlanRead, read_at, log_at, schedule_read, input_read, role_read, sphere_read, spheres_read, plan_read}
 use Rattle.spec_program.specs.Stages.{Refused, refusing}
 use Rattle.spec_program.specs.Tasks.{Task, IsTask, setup_in}
@@ -43,7 +42,7 @@ role_of_bytes m (Record values) r e = subst IsOfBytes (same_Ok (RecordRead (reco
 role_of_bytes m (Replay values) r e =
     let read = then_ok (log_at m values.log) _ r e in
     let file = then_ok (read_at m values.log) _ read.0 read.1 in
-    subst IsOfBytes (same_Ok (ReplayRead (record { log = read.0 })) r read.2) (file.0, same_Ok (read_of file.0) read.0 file.2)
+    subst IsOfBytes (same_Ok (ReplayRead (record { log = read.0; from = values.from; to = values.to })) r read.2) (file.0, same_Ok (read_of file.0) read.0 file.2)
 
 spheres_of_bytes : (m : Contents) (ss : List SphereValues) (rs : List SphereRead) → spheres_read m ss ≡ Ok rs → AreOfBytes rs
 spheres_of_bytes m [] rs e = subst AreOfBytes (same_Ok [] rs e) tt
@@ -71,7 +70,7 @@ role_sized i PlainRead asked is e = absurd cc
 role_sized i (RecordRead inputs) asked is e = absurd cc
 role_sized i (ReplayRead inputs) asked is e =
     let p = then_ok (refusing (bad_log i) inputs.log) _ (IsReplayed asked) e in
-    let made : ReplaySetup = record { log = p.0 } in
+    let made = replay_setup inputs p.0 in
     let same = same_log made asked (same_role (IsReplayed made) (IsReplayed asked) p.2) in
     subst (λ (r : ReplaySetup). 0 < r.log.s) same (log_sized is.0 p.0 (is.1 ∙ not_refused (bad_log i) inputs.log p.0 p.1))
 

@@ -10,8 +10,8 @@ use Rattle.spec_run.specs.Runs.{executed}
 use Rattle.spec_run.specs.Texts.{account_as, account_text, log_of_points}
 use Rattle.spec_run.proofs.Described.{recordings_reproduced}
 use Rattle.spec_program.specs.Agreement.{AccountsAgree, RecordingsAreReplayed}
-use Rattle.spec_program.specs.Built.{bad_log, record_setup, role_of}
-use Rattle.spec_program.specs.Files.{ReplayInputs, ReplayRead, SphereRead}
+use Rattle.spec_program.specs.Built.{bad_log, record_setup, replay_setup, role_of}
+use Rattle.spec_program.specs.Files.{ReplayInputs, whole, ReplayRead, SphereRead}
 use Rattle.spec_program.specs.Stages.{refusing, ◌>>◌}
 use Rattle.spec_program.specs.Tasks.{setup_in}
 use Rattle.spec_program.proofs.Able.{task_can_finish}
@@ -26,16 +26,16 @@ same_image : (s r : SphereRead) (x y : SphereSetup) → s.image ≡ r.image → 
 same_image s r x y file size a b = same_Ok a.image b.image (sym a.loaded ∙ (λ k. image_of (file k) (size k)) ∙ b.loaded)
 
 -- the role that replays a log
-abbrev replays_log : LogParts → RoleSetup
-replays_log log = IsReplayed (record { log = log })
+abbrev replays_log : ReplayInputs → LogParts → RoleSetup
+replays_log inputs log = IsReplayed (replay_setup inputs log)
 
-replayed_by : (i : ℕ) (o : Result LogParts Fault) (r : RoleSetup) → (refusing (bad_log i) o >> λ log. Ok (replays_log log)) ≡ Ok r → (parts : LogParts) × (o ≡ Ok parts) × (r ≡ replays_log parts)
-replayed_by i (Err fault) r e = absurd cc
-replayed_by i (Ok parts) r e = (parts, refl, sym (same_Ok (replays_log parts) r e))
+replayed_by : (i : ℕ) (inputs : ReplayInputs) (o : Result LogParts Fault) (r : RoleSetup) → (refusing (bad_log i) o >> λ log. Ok (replays_log inputs log)) ≡ Ok r → (parts : LogParts) × (o ≡ Ok parts) × (r ≡ replays_log inputs parts)
+replayed_by i inputs (Err fault) r e = absurd cc
+replayed_by i inputs (Ok parts) r e = (parts, refl, sym (same_Ok (replays_log inputs parts) r e))
 
 -- what is replayed
-replayed : (inputs : ReplayInputs) (s : SphereRead) (x : SphereSetup) → s.role ≡ ReplayRead inputs → IsMade s x → (parts : LogParts) × (inputs.log ≡ Ok parts) × (x.role ≡ replays_log parts)
-replayed inputs s x role made = replayed_by 0 inputs.log x.role (ap (role_of 0) (sym role) ∙ made.role)
+replayed : (inputs : ReplayInputs) (s : SphereRead) (x : SphereSetup) → s.role ≡ ReplayRead inputs → IsMade s x → (parts : LogParts) × (inputs.log ≡ Ok parts) × (x.role ≡ replays_log inputs parts)
+replayed inputs s x role made = replayed_by 0 inputs inputs.log x.role (ap (role_of 0) (sym role) ∙ made.role)
 
 -- ---- accounts
 
@@ -49,13 +49,13 @@ accounts_agree plan other m n t u i j s inputs is is_too role at there =
     let p = replayed inputs s a.setup role a.made in
     let q = replayed inputs s b.setup role b.made in
     let parts : p.0 ≡ q.0 = same_Ok p.0 q.0 (sym p.1 ∙ q.1) in
-    let setup : a.setup ≡ b.setup = (λ k. record { memory = (a.made.memory ∙ ap (λ (x : Image). x.bytes) image ∙ sym b.made.memory) k; entry = (a.made.entry ∙ ap (λ (x : Image). x.entry) image ∙ sym b.made.entry) k; role = (p.2 ∙ ap replays_log parts ∙ sym q.2) k }) in
+    let setup : a.setup ≡ b.setup = (λ k. record { memory = (a.made.memory ∙ ap (λ (x : Image). x.bytes) image ∙ sym b.made.memory) k; entry = (a.made.entry ∙ ap (λ (x : Image). x.entry) image ∙ sym b.made.entry) k; role = (p.2 ∙ ap (replays_log inputs) parts ∙ sym q.2) k }) in
     let x = sphere_in (executed (setup_in t) t.events) i in
     let y = sphere_in (executed (setup_in u) u.events) j in
     ap (λ (d : SphereSetup). account_as d x d.role) a.at
     ∙ ap (account_as a.setup x) p.2
-    ∙ ap (λ (d : SphereSetup). account_as d y (replays_log p.0)) setup
-    ∙ ap (account_as b.setup y) (ap replays_log parts ∙ sym q.2)
+    ∙ ap (λ (d : SphereSetup). account_as d y (replays_log inputs p.0)) setup
+    ∙ ap (account_as b.setup y) (ap (replays_log inputs) parts ∙ sym q.2)
     ∙ ap (λ (d : SphereSetup). account_as d y d.role) (sym b.at)
 
 -- where one task records a sphere and another replays what it recorded, both write the same account
@@ -64,7 +64,7 @@ unfolding account_text
 recordings_replayed plan other m n t u i j s inputs is is_too role at there =
     let asked : RecordSetup = record_setup inputs in
     let noted_log = log_of_points (setup_in t) t.events i asked in
-    let replay : ReplayInputs = record { log = Ok noted_log } in
+    let replay : ReplayInputs = whole noted_log in
     let r : SphereRead = record s { role = ReplayRead replay } in
     let a = sphere_of_task plan m t i s is at in
     let b = sphere_of_task other n u j r is_too there in
@@ -74,12 +74,12 @@ recordings_replayed plan other m n t u i j s inputs is is_too role at there =
     let parts : q.0 ≡ noted_log = same_Ok q.0 noted_log (sym q.1) in
     let x = sphere_in (executed (setup_in t) t.events) i in
     let y = sphere_in (executed (setup_in u) u.events) j in
-    let plays : account_as a.setup y (replays_log noted_log) ≡ account_as b.setup y (replays_log noted_log) =
-    (λ k. account_as (record { memory = (a.made.memory ∙ ap (λ (d : Image). d.bytes) image ∙ sym b.made.memory) k; entry = (a.made.entry ∙ ap (λ (d : Image). d.entry) image ∙ sym b.made.entry) k; role = replays_log noted_log }) y (replays_log noted_log))
+    let plays : account_as a.setup y (replays_log replay noted_log) ≡ account_as b.setup y (replays_log replay noted_log) =
+    (λ k. account_as (record { memory = (a.made.memory ∙ ap (λ (d : Image). d.bytes) image ∙ sym b.made.memory) k; entry = (a.made.entry ∙ ap (λ (d : Image). d.entry) image ∙ sym b.made.entry) k; role = replays_log replay noted_log }) y (replays_log replay noted_log))
     in
     ap (λ (d : SphereSetup). account_as d x d.role) a.at
     ∙ ap (account_as a.setup x) recorded
     ∙ sym (recordings_reproduced (setup_in t) t.events i a.setup asked (task_can_finish plan m t is) a.there recorded).account
     ∙ plays
-    ∙ ap (account_as b.setup y) (ap replays_log (sym parts) ∙ sym q.2)
+    ∙ ap (account_as b.setup y) (ap (replays_log replay) (sym parts) ∙ sym q.2)
     ∙ ap (λ (d : SphereSetup). account_as d y d.role) (sym b.at)

@@ -5,7 +5,7 @@ use Rattle.dl_asm.specs.File.{file_of}
 use Rattle.dl_asm.specs.Sources.{lines_of, words_in}
 use Rattle.dl_elf.specs.Loading.{image_of}
 use Rattle.dl_files.specs.Contents.{Contents}
-use Rattle.dl_words.specs.Commands.{CommandValues, PairValues, QueryValues, Run, Inspect, Walk, Query, Make, Drill, Asm, Migrate}
+use Rattle.dl_words.specs.Commands.{CommandValues, PairValues, QueryValues, IntervalValues, Run, Inspect, Walk, Query, Interval, Make, Drill, Asm, Migrate}
 use Rattle.spec_log.specs.declared.LogParts.{LogParts}
 use Rattle.spec_log.specs.declared.fault.Fault.{Fault}
 use Rattle.spec_log.specs.Reading.{read_of}
@@ -17,6 +17,7 @@ use Rattle.spec_program.specs.Built.{bad_image, bad_log}
 use Rattle.spec_program.specs.commands.Asm as asm
 use Rattle.spec_program.specs.commands.Drill as drill
 use Rattle.spec_program.specs.commands.Inspect as inspect
+use Rattle.spec_program.specs.commands.Interval as interval
 use Rattle.spec_program.specs.commands.Make as make
 use Rattle.spec_program.specs.commands.Migrate as migrate
 use Rattle.spec_program.specs.commands.Query as query
@@ -28,7 +29,6 @@ use Rattle.spec_program.specs.Headline.{Headline}
 use Rattle.spec_program.specs.Operands.{IsLogAt, IsPairAt, PairRead, file_at, good_log_at, image_in, log_file_at, log_in, pair_at}
 use Rattle.spec_program.specs.Outcomes.{Finish, Outcome}
 use Rattle.spec_program.specs.Outside.{Outside}
-use Rattle.spec_program.specs.Runs.{ran}
 use Rattle.spec_program.specs.Sources.{assembled, refused_from, unless_refused}
 use Rattle.spec_program.specs.Stages.{Refused}
 use Rattle.spec_program.specs.Tasks.{Task, absent, setup_in, task_named}
@@ -137,6 +137,12 @@ module _ (m : Contents) (before after : Outside) (s : Status) where
       let g = reached (query.finish asked pair.0) finish pair.2 f in
       record { pair = pair.0; pair_read = pair_is m asked.pair pair.0 pair.1; output = g.output; files = g.files; status = g.status }
 
+  interval_done : (asked : IntervalValues) (finish : Finish) → interval.outcome m asked ≡ Ok finish → IsReached finish → interval.IsTold asked m after.known before.taken after.taken s
+  interval_done asked finish e f =
+      let read = then_ok (pair_at m asked.pair) _ finish e in
+      let g = reached (interval.finish asked read.0) finish read.2 f in
+      record { read = read.0; pair_read = pair_is m asked.pair read.0 read.1; output = g.output; files = g.files; status = g.status }
+
   asm_done : (source name : List ℕ) (finish : Finish) → asm.outcome m source name ≡ Ok finish → IsReached finish → asm.IsAssembled source name m after.known before.taken after.taken s
   asm_done source name finish e f =
       let file = then_ok (file_at m source) _ finish e in
@@ -159,6 +165,7 @@ module _ (m : Contents) (before after : Outside) (s : Status) where
   done_at (Inspect log) finish e limits f = inspect_done log finish e f
   done_at (Walk pair) finish e limits f = walk_done pair finish e f
   done_at (Query asked) finish e limits f = query_done asked finish e f
+  done_at (Interval asked) finish e limits f = interval_done asked finish e f
   done_at (Make number name) finish e limits f =
       let g = reached (make.finish number name) finish e f in
       record { files = g.files; output = g.output; status = g.status }

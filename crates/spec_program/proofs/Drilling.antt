@@ -2,7 +2,6 @@
 use Rattle.std.proofs.Common.{◌≡◌, ℕ, zero, suc, ◌<◌, ◌||◌, false, [], ◌∷◌, Some, refl, ap, ◌∙◌, arith}
 use Rattle.std.specs.Prelude.{slice_get}
 use Rattle.std.proofs.lemmas.Option.{none-some, same_Some}
-use Rattle.spec_log.specs.declared.LogParts.{LogParts}
 use Rattle.spec_log.specs.declared.ModeName.{ModeName}
 use Rattle.spec_play.specs.Turns.{TurnOrEnd}
 use Rattle.spec_protocol.specs.machine.Machine.{ReplaySetup, IsRecorded, IsReplayed, SphereSetup}

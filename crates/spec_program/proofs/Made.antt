@@ -10,8 +10,8 @@ use Rattle.spec_log.specs.declared.LogParts.{LogParts}
 use Rattle.spec_log.specs.declared.fault.Fault.{Fault}
 use Rattle.spec_protocol.specs.machine.Machine.{RoleSetup, IsReplayed, SphereSetup}
 use Rattle.spec_protocol.specs.promises.Sound.{no_image, image_at}
-use Rattle.spec_program.specs.Built.{bad_image, bad_log, images_of, role_of, sphere_of, spheres_of, events_of}
-use Rattle.spec_program.specs.Files.{RoleRead, PlainRead, RecordRead, ReplayRead, SphereRead, read_at, plan_read}
+use Rattle.spec_program.specs.Built.{bad_image, bad_log, images_of, replay_setup, role_of, sphere_of, spheres_of, events_of}
+use Rattle.spec_program.specs.Files.{ReplayInputs, RoleRead, PlainRead, RecordRead, ReplayRead, SphereRead, read_at, plan_read}
 use Rattle.spec_program.specs.Stages.{Refused, refusing, ◌>>◌}
 use Rattle.spec_program.specs.Tasks.{Task, IsTask, setup_in, absent, bad_plan, plan_at, task_read, task_planned}
 
@@ -35,15 +35,15 @@ pub record IsMade (s : SphereRead) (x : SphereSetup) : Type 0 where
   pub entry : x.entry ≡ image.entry
   pub role : role_of 0 s.role ≡ Ok x.role
 
-log_any : (i j : ℕ) (o : Result LogParts Fault) (r : RoleSetup) → (refusing (bad_log i) o >> λ log. Ok (IsReplayed (record { log = log }))) ≡ Ok r → (refusing (bad_log j) o >> λ log. Ok (IsReplayed (record { log = log }))) ≡ Ok r
-log_any i j (Err fault) r e = absurd cc
-log_any i j (Ok log) r e = e
+log_any : (i j : ℕ) (inputs : ReplayInputs) (o : Result LogParts Fault) (r : RoleSetup) → (refusing (bad_log i) o >> λ log. Ok (IsReplayed (replay_setup inputs log))) ≡ Ok r → (refusing (bad_log j) o >> λ log. Ok (IsReplayed (replay_setup inputs log))) ≡ Ok r
+log_any i j inputs (Err fault) r e = absurd cc
+log_any i j inputs (Ok log) r e = e
 
 -- a role that is not refused is one by any number
 role_any : (i j : ℕ) (role : RoleRead) (r : RoleSetup) → role_of i role ≡ Ok r → role_of j role ≡ Ok r
 role_any i j PlainRead r e = e
 role_any i j (RecordRead inputs) r e = e
-role_any i j (ReplayRead inputs) r e = log_any i j inputs.log r e
+role_any i j (ReplayRead inputs) r e = log_any i j inputs inputs.log r e
 
 same_setup : (x y : SphereSetup) → ◌≡◌ {A = Result SphereSetup Refused} (Ok x) (Ok y) → x ≡ y
 same_setup x y e = cc

@@ -1,10 +1,10 @@
 -- What tasks have in common that agree on a sphere.
-use Rattle.std.specs.Prelude.{◌≡◌, ℕ, List, slice_get, Some, Ok}
+use Rattle.std.specs.Prelude.{◌≡◌, ℕ, List, slice_get, Some}
 use Rattle.dl_files.specs.Contents.{Contents}
 use Rattle.dl_plan.specs.declared.Product.{Product}
 use Rattle.spec_run.specs.Texts.{log_of_points}
 use Rattle.spec_program.specs.Built.{record_setup}
-use Rattle.spec_program.specs.Files.{RecordInputs, ReplayInputs, RecordRead, ReplayRead, SphereRead}
+use Rattle.spec_program.specs.Files.{RecordInputs, ReplayInputs, whole, RecordRead, ReplayRead, SphereRead}
 use Rattle.spec_program.specs.Runs.{product_for}
 use Rattle.spec_program.specs.Tasks.{Task, IsTask, setup_in}
 
@@ -12,8 +12,8 @@ use Rattle.spec_program.specs.Tasks.{Task, IsTask, setup_in}
 abbrev pub account_in : Task → (i : ℕ) → List ℕ
 account_in t i = product_for (setup_in t) t.events (Product.Account i)
 
--- two tasks that replay a sphere of the same image, memory size and log write equal accounts of it, whatever else their
--- plans and files say
+-- two tasks that replay a sphere of the same image, memory size, log and interval write equal accounts of it, whatever else
+-- their plans and files say
 abbrev pub AccountsAgree : Type 0
 AccountsAgree =
     (plan other : List ℕ) (m n : Contents) (t u : Task) (i j : ℕ) (s : SphereRead) (inputs : ReplayInputs)
@@ -34,5 +34,5 @@ RecordingsAreReplayed =
     → s.role ≡ RecordRead inputs
     → slice_get t.read.spheres i ≡ Some s
     → slice_get u.read.spheres j
-    ≡ Some (record s { role = ReplayRead (record { log = Ok (log_of_points (setup_in t) t.events i (record_setup inputs)) }) })
+    ≡ Some (record s { role = ReplayRead (whole (log_of_points (setup_in t) t.events i (record_setup inputs))) })
     → account_in t i ≡ account_in u j

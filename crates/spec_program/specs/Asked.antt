@@ -1,12 +1,13 @@
 -- What the words ask for: of every command the names that it reads, its outcome over the files, and what 0 and 1 say of it.
 use Rattle.std.specs.Prelude.{ℕ, List, [], Option, Some, None, Result, Ok, ok_or}
 use Rattle.dl_files.specs.Contents.{Contents}
-use Rattle.dl_words.specs.Commands.{CommandValues, Run, Inspect, Walk, Query, Make, Drill, Asm, Migrate, command_of}
+use Rattle.dl_words.specs.Commands.{CommandValues, Run, Inspect, Walk, Query, Interval, Make, Drill, Asm, Migrate, command_of}
 use Rattle.spec_program.specs.declared.status.Refusal.{Refusal}
 use Rattle.spec_program.specs.declared.status.Status.{Status}
 use Rattle.spec_program.specs.commands.Asm as asm
 use Rattle.spec_program.specs.commands.Drill as drill
 use Rattle.spec_program.specs.commands.Inspect as inspect
+use Rattle.spec_program.specs.commands.Interval as interval
 use Rattle.spec_program.specs.commands.Make as make
 use Rattle.spec_program.specs.commands.Migrate as migrate
 use Rattle.spec_program.specs.commands.Query as query
@@ -25,6 +26,7 @@ reads_for m (Run plan) = run.reads m plan
 reads_for m (Inspect log) = inspect.reads log
 reads_for m (Walk pair) = pair_reads pair
 reads_for m (Query asked) = pair_reads asked.pair
+reads_for m (Interval asked) = pair_reads asked.pair
 reads_for m (Make number name) = []
 reads_for m (Drill number) = []
 reads_for m (Asm source name) = asm.reads source
@@ -44,6 +46,7 @@ outcome_for m (Run plan) = run.outcome m plan
 outcome_for m (Inspect log) = inspect.outcome m log
 outcome_for m (Walk pair) = walk.outcome m pair
 outcome_for m (Query asked) = query.outcome m asked
+outcome_for m (Interval asked) = interval.outcome m asked
 outcome_for m (Make number name) = Ok (make.finish number name)
 outcome_for m (Drill number) = Ok (drill.finish number)
 outcome_for m (Asm source name) = asm.outcome m source name
@@ -62,6 +65,7 @@ IsDone (Run plan) m known old new s = Headline plan m known old new s
 IsDone (Inspect log) m known old new s = inspect.IsInspected log m known old new s
 IsDone (Walk pair) m known old new s = walk.IsWalked pair m known old new s
 IsDone (Query asked) m known old new s = query.IsAnswered asked m known old new s
+IsDone (Interval asked) m known old new s = interval.IsTold asked m known old new s
 IsDone (Make number name) m known old new s = make.IsMade number name m known old new s
 IsDone (Drill number) m known old new s = drill.IsDrilled number m known old new s
 IsDone (Asm source name) m known old new s = asm.IsAssembled source name m known old new s

@@ -7,13 +7,15 @@ use Rattle.dl_event.specs.Seeded.{seeded, schedule}
 use Rattle.dl_plan.specs.declared.Mode.{Mode}
 use Rattle.dl_plan.specs.declared.Sizes.{Sizes}
 use Rattle.dl_plan.specs.Values.{PlanValues}
+use Rattle.spec_log.specs.declared.LogParts.{LogParts}
 use Rattle.spec_log.specs.declared.ModeName.{ModeName}
 use Rattle.spec_log.specs.declared.fault.Fault.{Fault}
+use Rattle.spec_play.specs.Intervals.{interval_of}
 use Rattle.spec_protocol.specs.declared.event.Event.{Event}
-use Rattle.spec_protocol.specs.machine.Machine.{RecordSetup, RoleSetup, IsPlain, IsRecorded, IsReplayed, SphereSetup, Setup}
+use Rattle.spec_protocol.specs.machine.Machine.{RecordSetup, ReplaySetup, RoleSetup, IsPlain, IsRecorded, IsReplayed, SphereSetup, Setup}
 use Rattle.spec_protocol.specs.machine.World.{Numbers}
 use Rattle.spec_program.specs.declared.status.Refusal.{Refusal}
-use Rattle.spec_program.specs.Files.{ScheduleRead, ScriptRead, EventsDrawn, RecordInputs, RoleRead, PlainRead, RecordRead, ReplayRead, SphereRead}
+use Rattle.spec_program.specs.Files.{ScheduleRead, ScriptRead, EventsDrawn, RecordInputs, ReplayInputs, RoleRead, PlainRead, RecordRead, ReplayRead, SphereRead}
 use Rattle.spec_program.specs.Lines.{image_line, log_line, script_line}
 use Rattle.spec_program.specs.Stages.{Refused, refusing, ◌>>◌}
 
@@ -46,10 +48,16 @@ mode_named Mode.Picolog = ModeName.Picolog
 abbrev pub record_setup : RecordInputs → RecordSetup
 record_setup inputs = record { version = inputs.version; mode = mode_named inputs.mode }
 
+-- which commits of a good log are replayed
+abbrev pub replay_setup : ReplayInputs → LogParts → ReplaySetup
+replay_setup inputs log = record { log = log; interval = interval_of inputs.from inputs.to log.count }
+
 abbrev pub role_of : (i : ℕ) → RoleRead → Result RoleSetup Refused
 role_of i PlainRead = Ok IsPlain
 role_of i (RecordRead inputs) = Ok (IsRecorded (record_setup inputs))
-role_of i (ReplayRead inputs) = refusing (bad_log i) inputs.log >> λ log. Ok (IsReplayed (record { log = log }))
+role_of i (ReplayRead inputs) =
+    refusing (bad_log i) inputs.log >> λ log.
+    Ok (IsReplayed (replay_setup inputs log))
 
 abbrev pub sphere_of : (i : ℕ) → SphereRead → Image → Result SphereSetup Refused
 sphere_of i s image = role_of i s.role >> λ role. Ok (record { memory = image.bytes; entry = image.entry; role = role })

@@ -7,7 +7,7 @@ use Rattle.dl_make.specs.Generated.{words_of}
 use Rattle.spec_log.specs.declared.LogParts.{LogParts}
 use Rattle.spec_log.specs.declared.ModeName.{ModeName}
 use Rattle.spec_protocol.specs.declared.event.Event.{Event}
-use Rattle.spec_protocol.specs.machine.Machine.{RoleSetup, IsRecorded, IsReplayed, SphereSetup, Setup}
+use Rattle.spec_protocol.specs.machine.Machine.{all_of, RoleSetup, IsRecorded, IsReplayed, SphereSetup, Setup}
 use Rattle.spec_run.specs.Texts.{account_text, log_of_points, summary_text}
 use Rattle.spec_program.specs.Lines.{line}
 
@@ -47,7 +47,7 @@ replaying v =
       numbers = record { s = 64; capacity = 1; bits = 64; depth = 1 };
       seed = 0;
       input = [];
-      spheres = drill_sphere v (IsReplayed (record { log = recorded_log v })) ∷ [];
+      spheres = drill_sphere v (IsReplayed (all_of (recorded_log v))) ∷ [];
     }
 
 -- ---- what is said

@@ -21,9 +21,16 @@ pub record RecordInputs : Type 0 where
   pub version : ℕ
   pub mode : Mode
 
--- of what is replayed, the log, or the first of its fields that isn't good
+-- of what is replayed, the log, or the first of its fields that isn't good; and from which of its commits on and up to which
+-- it is replayed, if the plan says so
 pub record ReplayInputs : Type 0 where
   pub log : Result LogParts Fault
+  pub from : Option ℕ
+  pub to : Option ℕ
+
+-- all commits of a good log
+abbrev pub whole : LogParts → ReplayInputs
+whole log = record { log = Ok log; from = None; to = None }
 
 pub data RoleRead : Type 0 where
   PlainRead : RoleRead
@@ -66,7 +73,7 @@ input_read m (Some name) = read_at m name
 abbrev pub role_read : Contents → RoleValues → Result RoleRead (List ℕ)
 role_read m Plain = Ok PlainRead
 role_read m (Record values) = Ok (RecordRead (record { version = values.version; mode = values.mode }))
-role_read m (Replay values) = log_at m values.log >> λ read. Ok (ReplayRead (record { log = read }))
+role_read m (Replay values) = log_at m values.log >> λ read. Ok (ReplayRead (record { log = read; from = values.from; to = values.to }))
 
 abbrev pub sphere_read : Contents → SphereValues → Result SphereRead (List ℕ)
 sphere_read m s =

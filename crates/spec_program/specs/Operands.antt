@@ -1,5 +1,5 @@
 -- The files that the words of a command name: one by its bytes, a log, and an image with a log of it.
-use Rattle.std.specs.Prelude.{◌≡◌, ℕ, List, [], ◌∷◌, Option, Some, Result, Ok}
+use Rattle.std.specs.Prelude.{◌≡◌, ℕ, List, [], ◌∷◌, Some, Result, Ok}
 use Rattle.std.specs.FinMap.{get}
 use Rattle.dl_elf.specs.Images.{Image}
 use Rattle.dl_elf.specs.Loading.{image_of}

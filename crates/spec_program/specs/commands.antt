@@ -3,6 +3,7 @@ pub mod Run
 pub mod Inspect
 pub mod Walk
 pub mod Query
+pub mod Interval
 pub mod Make
 pub mod Drill
 pub mod Asm

@@ -1,7 +1,6 @@
 -- `watch IMAGE MEMORY LOG ADDR`, `who IMAGE MEMORY LOG ADDR I` and `when IMAGE MEMORY LOG ADDR VALUE`: which commits of a log
 -- stored to a word, and what they left it.
 use Rattle.std.specs.Prelude.{◌≡◌, ℕ, ◌/◌, List, ◌++◌, Option, Some, if◌then◌else◌, Result, Ok}
-use Rattle.dl_entry.specs.declared.End.{End}
 use Rattle.dl_files.specs.Contents.{Contents}
 use Rattle.dl_words.specs.Commands.{QueryValues}
 use Rattle.dl_words.specs.declared.Question.{Question}
@@ -10,20 +9,17 @@ use Rattle.spec_query.specs.declared.Store.{Store}
 use Rattle.spec_query.specs.Stores.{stores_in}
 use Rattle.spec_query.specs.Queries.{watch, when_changed, who}
 use Rattle.spec_query.specs.Texts.{end_text, last_text, lines_text, when_text}
-use Rattle.spec_run.specs.Runs.{end_of, has_diverged}
+use Rattle.spec_run.specs.Runs.{has_diverged}
 use Rattle.spec_program.specs.declared.status.Status.{Status}
-use Rattle.spec_program.specs.commands.Walk.{played}
+use Rattle.spec_program.specs.commands.Walk.{end}
 use Rattle.spec_program.specs.Ends.{TookAll}
 use Rattle.spec_program.specs.Operands.{IsPairAt, PairRead, pair_at}
 use Rattle.spec_program.specs.Outcomes.{Finish, said}
 use Rattle.spec_program.specs.Stages.{Refused, ◌>>◌}
 
--- the stores of the play of the log on the image, and how that play ends
+-- the stores of the play of the log on the image
 abbrev pub stores : PairRead → List Store
 stores read = stores_in read.log read.image.bytes read.image.entry read.log.count
-
-abbrev pub end : PairRead → End
-end read = end_of (played read).now
 
 -- what is answered about the word at that address
 abbrev pub answer : Question → (addr : ℕ) → PairRead → List ℕ

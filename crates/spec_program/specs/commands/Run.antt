@@ -1,5 +1,5 @@
 -- `run PLAN`: the task of a plan is run.
-use Rattle.std.specs.Prelude.{◌≡◌, ℕ, List, [], ◌∷◌, Result, Ok, Err}
+use Rattle.std.specs.Prelude.{ℕ, List, [], ◌∷◌, Result, Ok, Err}
 use Rattle.dl_files.specs.Contents.{Contents}
 use Rattle.dl_plan.specs.Files.{input_names}
 use Rattle.dl_plan.specs.Values.{PlanValues}

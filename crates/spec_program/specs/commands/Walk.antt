@@ -1,5 +1,6 @@
 -- `walk IMAGE MEMORY LOG`: a log played on an image, as an account.
 use Rattle.std.specs.Prelude.{◌≡◌, ℕ, List, Option, Some, if◌then◌else◌, Result, Ok}
+use Rattle.dl_entry.specs.declared.End.{End}
 use Rattle.dl_files.specs.Contents.{Contents}
 use Rattle.dl_words.specs.Commands.{PairValues}
 use Rattle.spec_play.specs.Plays.{Played, play}
@@ -15,8 +16,15 @@ use Rattle.spec_program.specs.Stages.{Refused, ◌>>◌}
 abbrev pub played : PairRead → Played
 played read = play read.log read.image.bytes read.image.entry
 
+-- how it ends
+abbrev pub end : PairRead → End
+end read = end_of (played read).now
+
+abbrev pub account : PairRead → List ℕ
+account read = played_account (played read) (end read)
+
 abbrev pub finish : PairRead → Finish
-finish read = said (played_account (played read)) (has_diverged (end_of (played read).now))
+finish read = said (account read) (has_diverged (end read))
 
 abbrev pub outcome : Contents → PairValues → Result Finish Refused
 outcome m pair = pair_at m pair >> λ read. Ok (finish read)
@@ -25,6 +33,6 @@ outcome m pair = pair_at m pair >> λ read. Ok (finish read)
 pub record IsWalked (pair : PairValues) (m : Contents) (known : Option Contents) (old new : Option (List ℕ)) (s : Status) : Type 0 where
   pub read : PairRead
   pub pair_read : IsPairAt pair m read
-  pub output : TookAll (played_account (played read)) old new
+  pub output : TookAll (account read) old new
   pub files : known ≡ Some m
-  pub status : s ≡ (if has_diverged (end_of (played read).now) then Status.Diverged else Status.Done)
+  pub status : s ≡ (if has_diverged (end read) then Status.Diverged else Status.Done)

@@ -138,18 +138,18 @@ over-is log p u ts l =
     ap (λ (b : Bool). cond b (turn_of (position p) ts (next_actor log p ts)) (at_end (position p) (has_left_over log u ts))) (le-ltb (position p) log.count l)
 
 -- a turn is of a live thread or of a DMA, or there is none, and the play has left its log
-live-complete : {A : Type 0} (i k n : ℕ) (b : Bool) → cond b (Turn k) (Ended (End.Diverged i Why.NoThread)) ≡ Ended (End.Complete n) → A
-live-complete i k n true e = cc
-live-complete i k n false e = cc
+live-diverged : (i k : ℕ) (how : End) (b : Bool) → cond b (Turn k) (Ended (End.Diverged i Why.NoThread)) ≡ Ended how → End.Diverged i Why.NoThread ≡ how
+live-diverged i k how true e = cc
+live-diverged i k how false e = cc
 
-thread-complete : {A : Type 0} (i k n : ℕ) (o : Option Parts) → turn_of_thread i k o ≡ Ended (End.Complete n) → A
-thread-complete i k n None e = cc
-thread-complete i k n (Some t) e = live-complete i k n (is_live t) e
+thread-diverged : (i k : ℕ) (how : End) (o : Option Parts) → turn_of_thread i k o ≡ Ended how → End.Diverged i Why.NoThread ≡ how
+thread-diverged i k how None e = cc
+thread-diverged i k how (Some t) e = live-diverged i k how (is_live t) e
 
-turn-complete : {A : Type 0} (i n : ℕ) (ts : List Parts) (o : Option Actor) → turn_of i ts o ≡ Ended (End.Complete n) → A
-turn-complete i n ts None e = cc
-turn-complete i n ts (Some Actor.Dma) e = cc
-turn-complete i n ts (Some (Actor.Thread k)) e = thread-complete i k n (slice_get ts k) e
+turn-diverged : (i : ℕ) (how : End) (ts : List Parts) (o : Option Actor) → turn_of i ts o ≡ Ended how → End.Diverged i Why.NoThread ≡ how
+turn-diverged i how ts None e = cc
+turn-diverged i how ts (Some Actor.Dma) e = cc
+turn-diverged i how ts (Some (Actor.Thread k)) e = thread-diverged i k how (slice_get ts k) e
 
 pub end-complete : (i n : ℕ) (b : Bool) → at_end i b ≡ Ended (End.Complete n) → i ≡ n
 end-complete i n true e = cc
@@ -283,10 +283,10 @@ dma-on log y n c (DmaGoes words) going looked sum complete turn is =
     (going z c refl (omega (arith, sum, next)) (next-plays log y z n c one complete))
 
 ended-on : (log : LogParts) (y : Played) (n c : ℕ) (how : End) → IsLooked log y → position y.progress + suc n ≡ log.count → (plays log y (suc n)).now ≡ Ended (End.Complete c) → y.now ≡ Ended how → Rest log y (suc n)
-ended-on log y n c (End.Diverged i why) looked sum complete is = stays log y (suc n) c i why is complete
-ended-on log y n c (End.Complete i) looked sum complete is =
-    turn-complete (position y.progress) i y.threads (next_actor log y.progress y.threads)
-    (sym (below-is log y.progress y.used y.threads (omega (arith, sum))) ∙ sym looked ∙ is)
+ended-on log y n c how looked sum complete is =
+    let diverged = turn-diverged (position y.progress) how y.threads (next_actor log y.progress y.threads)
+    (sym (below-is log y.progress y.used y.threads (omega (arith, sum))) ∙ sym looked ∙ is) in
+    stays log y (suc n) c (position y.progress) Why.NoThread (is ∙ ap Ended (sym diverged)) complete
 
 now-on : (log : LogParts) (y : Played) (n c : ℕ) (now : TurnOrEnd) → Going log n → IsLooked log y → position y.progress + suc n ≡ log.count → (plays log y (suc n)).now ≡ Ended (End.Complete c) → y.now ≡ now → Rest log y (suc n)
 now-on log y n c (Ended how) going looked sum complete is = ended-on log y n c how looked sum complete is

@@ -7,7 +7,7 @@ use Rattle.dl_plan.specs.Values.{plan_view, sphere_view}
 use Rattle.spec_program.specs.Files.{plan_read, schedule_read, input_read, spheres_read}
 use Rattle.spec_program.proofs.Turns.{next_before, next_behind}
 use Rattle.dl_gather.specs.Halts.{Unread}
-use Rattle.dl_gather.specs.Inputs.{ArePlansRecordable, schedule_view, sphere_view as sphere_inputs}
+use Rattle.dl_gather.specs.Inputs.{ArePlannedRoles, schedule_view, sphere_view as sphere_inputs}
 use Rattle.dl_gather.specs.Reads.{read_for_schedule, read_for_sphere}
 use Rattle.dl_gather.proofs.Named.{named_by_parts, unread_by_parts}
 use Rattle.dl_gather.proofs.Recordable.{plan_recordable}
@@ -85,7 +85,7 @@ returns-clause-limits g c =
           ∙ ap (λ (ss : List Sphere). length ss) c.deref.ensures.value
           ∙ sym (length-map c.args.plan.now.spheres.items sphere_view);
       memories = c.in_ok-spheres.ensures.memories;
-      recordable =
-          c.in_ok-spheres.ensures.recordable p.sizes.chunk
-          (subst (λ (ss : List Sphere). ArePlansRecordable p.sizes.chunk (map sphere_view ss)) (sym c.deref.ensures.value) (plan_recordable p c.requires));
+      roles =
+          c.in_ok-spheres.ensures.roles p.sizes.chunk
+          (subst (λ (ss : List Sphere). ArePlannedRoles p.sizes.chunk (map sphere_view ss)) (sym c.deref.ensures.value) (plan_recordable p c.requires));
     }

@@ -5,7 +5,7 @@ use Rattle.dl_plan.specs.declared.Sphere.{Sphere}
 use Rattle.dl_plan.specs.Values.{SphereValues, IsMemory, role_view, sphere_view}
 use Rattle.spec_program.specs.Files.{sphere_read, spheres_read}
 use Rattle.dl_gather.specs.declared.inputs.SphereInputs.{SphereInputs}
-use Rattle.dl_gather.specs.Inputs.{IsPlanRecordable, AreReadRecordable, HaveMemories, sphere_view as sphere_inputs}
+use Rattle.dl_gather.specs.Inputs.{IsPlannedRole, AreReadRoles, HaveMemories, sphere_view as sphere_inputs}
 use Rattle.dl_gather.specs.Halts.{Unread}
 use Rattle.dl_gather.specs.Reads.{read_for_sphere}
 use Rattle.dl_gather.proofs.Spheres.{sphere_part, spheres_more, turns_more}
@@ -53,8 +53,8 @@ loop-sphere-preserved g c =
       seen = c.in_ok-sphere.ensures.same ∙ inv.seen;
       count = ap length pushed ∙ length_pushed done x ∙ ap (λ (n : ℕ). n + 1) inv.count;
       memories = subst (λ (xs : List SphereInputs). HaveMemories (map sphere_inputs xs)) (sym pushed) (more_memories done x inv.memories has);
-      recordable =
+      roles =
           λ s are.
-          let is = subst (λ (y : Sphere). IsPlanRecordable s (role_view y.role)) (sym c.sphere-item.is) (planned_recordable s ss i d are c.loop-sphere-test.true) in
-          subst (λ (xs : List SphereInputs). AreReadRecordable s (map sphere_inputs xs)) (sym pushed) (more_recordable s done x (inv.recordable s are) (c.in_ok-sphere.ensures.recordable s is));
+          let is = subst (λ (y : Sphere). IsPlannedRole s (role_view y.role)) (sym c.sphere-item.is) (planned_recordable s ss i d are c.loop-sphere-test.true) in
+          subst (λ (xs : List SphereInputs). AreReadRoles s (map sphere_inputs xs)) (sym pushed) (more_recordable s done x (inv.roles s are) (c.in_ok-sphere.ensures.roles s is));
     }

@@ -3,7 +3,7 @@ use Rattle.dl_files.specs.Contents.{Contents}
 use Rattle.dl_plan.specs.Values.{sphere_view}
 use Rattle.spec_program.specs.Ends.{IsReadNext}
 use Rattle.spec_program.specs.Files.{spheres_read}
-use Rattle.dl_gather.specs.Inputs.{ArePlansRecordable, AreReadRecordable, HaveMemories, sphere_view as sphere_inputs}
+use Rattle.dl_gather.specs.Inputs.{ArePlannedRoles, AreReadRoles, HaveMemories, sphere_view as sphere_inputs}
 use Rattle.dl_gather.specs.Reads.{read_for_sphere}
 use Rattle.dl_gather.proofs.Stages.{after}
 use Rattle.dl_gather.proofs.gathering.read_spheres.Given as goal
@@ -16,5 +16,5 @@ invariant-loop-sphere g l = record {
   seen : g.F.Files.seen l.files ≡ g.F.Files.seen l.fn.files;
   count : length l.read.items ≡ l.sphere-index;
   memories : HaveMemories (map sphere_inputs l.read.items);
-  recordable : (s : ℕ) → ArePlansRecordable s (map sphere_view l.spheres) → AreReadRecordable s (map sphere_inputs l.read.items);
+  roles : (s : ℕ) → ArePlannedRoles s (map sphere_view l.spheres) → AreReadRoles s (map sphere_inputs l.read.items);
 }

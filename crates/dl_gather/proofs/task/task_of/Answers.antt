@@ -7,4 +7,4 @@ use Rattle.dl_gather.proofs.task.task_of.Goals as goal
 pub setup_of-setup-requires-clause-recorded : goal.setup_of-setup-requires-clause-recorded
 setup_of-setup-requires-clause-recorded c =
     set_up_recordable c.args.plan.now.sizes.chunk 0 (map sphere_view c.args.inputs.spheres.items) c.in_ok-images.images.items (map sphere_setup c.in_ok-spheres.spheres.items)
-    c.requires.inputs.recordable c.in_ok-spheres.ensures.spheres
+    c.requires.inputs.roles c.in_ok-spheres.ensures.spheres
