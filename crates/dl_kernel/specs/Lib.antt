@@ -4,3 +4,4 @@ pub mod Wants
 pub mod Outside
 pub mod StepResults
 pub mod Threads
+pub mod States

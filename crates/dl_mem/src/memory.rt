@@ -91,6 +91,14 @@ impl Memory {
         self.pages[at / PAGE].put(at % PAGE, mask, value);
     }
 
+    /// The memory as it is now, for a memory that can't be changed. The next snapshot copies the pages with a mark again.
+    pub fn shared(&self) -> Result<Snapshot, AllocError>
+        ensures { IfOk result (λ snapshot. snapshot ≡ self.now) }
+    {
+        let alloc = *self.pages.allocator();
+        Ok(Snapshot::from_pages(shared_pages(alloc, &self.pages)?))
+    }
+
     /// The memory as it is now. It copies the pages that were put to since the last snapshot, and shares the others with it.
     pub fn snapshot(&mut self) -> Result<Snapshot, AllocError>
         ensures ok { IfOk result (λ snapshot. snapshot ≡ self.old) }

@@ -1,11 +1,10 @@
 mod Rising
 mod Lookups
 pub mod Counts
-pub mod Answered
 mod Turns
 mod Verdicts
 mod Kept
 mod Lists
 mod Limits
+mod Requests
 mod Advancing
-pub mod PutBack

@@ -1,5 +1,5 @@
 -- No whole chunk is larger than a standard chunk.
-use Rattle.std.proofs.Common.{◌≡◌, ℕ, zero, suc, ◌+◌, ◌-◌, ◌<◌, ◌≤◌, ◌^◌, ◌==◌, ◌&&◌, max, List, [], ◌∷◌, All, length, find, option_map, slice_get, slice_index, Option, Some, None, inl, inr, refl, ap, ◌∙◌, arith}
+use Rattle.std.proofs.Common.{◌≡◌, ℕ, zero, suc, ◌+◌, ◌-◌, ◌<◌, ◌≤◌, ◌^◌, ◌==◌, ◌&&◌, max, List, [], ◌∷◌, All, length, find, option_map, slice_get, Option, Some, None, inl, inr, refl, ap, sym, ◌∙◌, arith}
 use Rattle.std.proofs.lemmas.Bool.{cases_Bool, eq-eqb}
 use Rattle.std.proofs.lemmas.List.Elements.{All-head, All-tail}
 use Rattle.dl_entry.specs.declared.actor.Actor.{Actor}
@@ -17,8 +17,8 @@ use Rattle.spec_log.specs.Size.{is_thread, sizes_of_thread, thread_size}
 use Rattle.spec_play.specs.Effects.{counted}
 use Rattle.spec_play.specs.Turns.{Turn}
 use Rattle.spec_protocol.specs.machine.Spheres.{Replay, limit_in, limit_of, limit_after, whole_limit, pieces_of}
-use Rattle.dl_replay.specs.Replaying.{Replaying, commits_at, commits_of, cursor_of}
-use Rattle.dl_replay.proofs.Counts.{commits-found}
+use Rattle.spec_play.specs.declared.used.Used.{Used}
+use Rattle.dl_replay.specs.Following.{Following, cursor_of}
 
 first-few : (s x z : ℕ) (xs : List ℕ) (i : ℕ) → x ≤ s → ((j : ℕ) → slice_get xs j ≡ Some z → z ≤ s) → slice_get (x ∷ xs) i ≡ Some z → z ≤ s
 first-few s x z xs zero head tail e = let same : x ≡ z = cc in omega arith
@@ -65,31 +65,28 @@ limit-few log k i is =
     limit-by log.s (thread_size log.order log.sizes k i) (omega (arith, is.s.0))
     (λ z e. sizes-few log.mode log.threads log.s log.count log.order log.sizes k i z is.sizes e)
 
--- the instructions of a commit's pieces are few enough to be counted
-pub pieces-fit : (r : Replaying) (k i n : ℕ) → IsLog r.log → r.now ≡ Turn k → 1 ≤ n → n < limit_in (Replay (cursor_of r [])) 0 k i → r.total + n < 2 ^ 32
-pieces-fit r k i n is e one few =
+-- if a piece of the present commit is shorter than its limit, the commit's pieces have no more instructions than a standard
+-- chunk
+pub pieces-fit : (r : Following) (u : Used) (loads : List Load) (s k i n : ℕ) → IsLog r.log → r.now ≡ Turn k → 1 ≤ n → n < limit_in (Replay (cursor_of r u loads)) s k i
+    → r.total + n ≤ r.log.s
+pieces-fit r u loads s k i n is e one few =
     let own : pieces_of r.now k r.total ≡ r.total = rw (e, eq-eqb k k refl) refl in
-    omega (arith, limit-few r.log k i is, (log-among r.log is).most, own, few)
+    omega (arith, limit-few r.log k i is, own, few)
 
--- Thread k of the replayed threads ts is t, and the replay r counts the commits of these threads.
-module _ (r : Replaying) (k : ℕ) (ts : List Parts) (t : Parts) where
-  thread-commits : length ts ≤ 63 → r.commits ≡ commits_of ts → slice_get ts k ≡ Some t → slice_index r.commits k ≡ t.commits
-  thread-commits few e is = ap (λ (xs : List ℕ). slice_index xs k) e ∙ commits-found ts k few ∙ ap commits_at is
-
+-- Thread k of the replay r is t.
+module _ (r : Following) (u : Used) (loads : List Load) (s k : ℕ) (t : Parts) where
   -- what pieces have left of a whole commit, and at least 1, is the limit of the replayed thread
-  pub limit-is : (s : ℕ) (loads : List Load) (commits whole pieces rest limit : ℕ) → commits ≡ slice_index r.commits k
-      → whole ≡ whole_limit r.log k commits → pieces ≡ pieces_of r.now k r.total → rest ≡ whole - pieces → limit ≡ max rest 1
-      → length ts ≤ 63 → r.commits ≡ commits_of ts → slice_get ts k ≡ Some t → limit ≡ limit_of s (Replay (cursor_of r loads)) k t
+  pub limit-is : (commits whole pieces rest limit : ℕ) → t.commits ≡ commits → whole ≡ whole_limit r.log k commits
+      → pieces ≡ pieces_of r.now k r.total → rest ≡ whole - pieces → limit ≡ max rest 1 → limit ≡ limit_of s (Replay (cursor_of r u loads)) k t
   unfolding limit_of
-  limit-is s loads commits whole pieces rest limit c w p d m few e is =
-      let size : whole ≡ whole_limit r.log k t.commits = w ∙ ap (whole_limit r.log k) (c ∙ thread-commits few e is) in
+  limit-is commits whole pieces rest limit c w p d m =
+      let size : whole ≡ whole_limit r.log k t.commits = w ∙ ap (whole_limit r.log k) (sym c) in
       omega (arith, size, p, d, m)
 
   -- the whole commit after the present one is the limit of a chunk of it
-  pub after-is : (s : ℕ) (loads : List Load) (commits whole limit : ℕ) → commits ≡ slice_index r.commits k
-      → whole ≡ whole_limit r.log k (commits + 1) → limit ≡ max whole 1
-      → length ts ≤ 63 → r.commits ≡ commits_of ts → slice_get ts k ≡ Some t → limit ≡ limit_after s (Replay (cursor_of r loads)) k (counted t)
+  pub after-is : (commits whole limit : ℕ) → t.commits ≡ commits → whole ≡ whole_limit r.log k (commits + 1) → limit ≡ max whole 1
+      → limit ≡ limit_after s (Replay (cursor_of r u loads)) k (counted t)
   unfolding limit_after
-  after-is s loads commits whole limit c w m few e is =
-      let size : whole ≡ whole_limit r.log k (t.commits + 1) = w ∙ ap (λ (n : ℕ). whole_limit r.log k (n + 1)) (c ∙ thread-commits few e is) in
+  after-is commits whole limit c w m =
+      let size : whole ≡ whole_limit r.log k (t.commits + 1) = w ∙ ap (λ (n : ℕ). whole_limit r.log k (n + 1)) (sym c) in
       omega (arith, size, m)

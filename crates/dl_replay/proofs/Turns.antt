@@ -9,7 +9,7 @@ use Rattle.spec_log.specs.Log.{IsSizes}
 use Rattle.spec_log.specs.Noting.{sizes_used}
 use Rattle.dl_entry.specs.declared.actor.Actor.{Actor}
 use Rattle.spec_play.specs.Turns.{are_sizes_used}
-use Rattle.dl_replay.specs.Replaying.{commits_of}
+use Rattle.dl_replay.specs.Counts.{commits_of}
 use Rattle.dl_replay.proofs.Counts.{sizes-used}
 
 -- where each commit has its size, all are used

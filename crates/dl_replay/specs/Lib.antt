@@ -1,9 +1,8 @@
-pub mod Seen
+pub mod Following
 pub mod Lists
+pub mod Counts
 pub mod Judging
-pub mod Replaying
 pub mod Replays
-pub mod Served
 pub mod Judged
 pub mod Left
 pub mod Limits

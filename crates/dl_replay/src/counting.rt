@@ -1,7 +1,7 @@
 //! How many commits each thread has done.
 ghost use Rattle.std.specs.Prelude.{◌≡◌, ◌≤◌, length, slice_get};
 ghost use Rattle.dl_entry.specs.Numbers.{most_threads};
-ghost use Rattle.dl_replay.specs.Replaying.{commits_at, commits_of};
+ghost use Rattle.dl_replay.specs.Counts.{commits_at, commits_of};
 
 use dl_thread::{PLACES, Threads};
 

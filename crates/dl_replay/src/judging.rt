@@ -4,26 +4,26 @@ ghost use Rattle.dl_entry.specs.Numbers.{most_bytes, most_threads};
 ghost use Rattle.spec_isa.specs.Runs.{Run};
 ghost use Rattle.spec_kernel.specs.Needs.{need};
 ghost use Rattle.spec_play.specs.Effects.{Effect, chunk_effect};
-ghost use Rattle.spec_play.specs.Progress.{Progress, position};
+ghost use Rattle.spec_play.specs.Progress.{Progress};
 ghost use Rattle.spec_play.specs.Verdicts.{ended, chunk_why, chunk_verdict, serial_why, given, serial_verdict};
 ghost use Rattle.spec_play.specs.Transfers.{is_for, dma_verdict};
-ghost use Rattle.spec_protocol.specs.promises.Standing.{AreNew};
+ghost use Rattle.spec_play.specs.Spawned.{AreNew};
 ghost use Rattle.dl_kernel.specs.Calls.{spawned_list};
-ghost use Rattle.dl_replay.specs.Seen.{used_seen};
+ghost use Rattle.dl_replay.specs.Replays.{Agrees, IsInside};
 ghost use Rattle.dl_replay.specs.Judging.{verdict_of, given_by, step_verdict, transfer_seen, transfer_verdict};
 
 use crate::lookup::Lookup;
-use crate::place::{LogPlace, Used};
 use dl_entry::{Actor, Input, OutOfMemory, Request, Why};
 use dl_kernel::{
-    Injected, Step, StepResult, counted, dma_words, inject, interrupted, serve, takes_interrupt,
-    wants_record,
+    Injected, State, Step, StepResult, counted, dma_words, inject, interrupted, serve,
+    takes_interrupt, wants_record,
 };
 use dl_mem::Memory;
 use dl_mode::Mode;
 use dl_thread::Thread;
 use dl_wbuf::Buffer;
 use spec_log::DmaRecord;
+use spec_play::Used;
 use std::alloc::Global;
 
 /// The thread at the end of its commit, and what of the log is used then.
@@ -36,7 +36,7 @@ pub struct Finish {
 // An interrupt that is logged for the end of a thread's commit must be one that the thread takes.
 fn ended<M: Mode>(log: &Lookup<M>, number: u8, thread: &Thread, used: Used) -> Result<Finish, Why>
     requires { used.interrupts + 1 < 2 ^ 32 }
-    ensures verdict { (e : Effect) → e.thread ≡ thread.now → verdict_of result e ≡ ended log.now number e (used_seen used) }
+    ensures verdict { (e : Effect) → e.thread ≡ thread.now → verdict_of result e ≡ ended log.now number e used }
     ensures commits { IfOk result (λ f. f.thread.commits ≡ thread.now.commits) }
     ensures interrupts { IfOk result (λ f. f.used.interrupts ≤ used.interrupts + 1) }
 {
@@ -71,7 +71,7 @@ pub fn judge_chunk<M: Mode>(
     requires few { used.interrupts + 1 < 2 ^ 32 }
     requires commits { thread.now.commits + 1 < 2 ^ 32 }
     ensures verdict { (p : Progress) (r : Run) → r.thread ≡ thread.now → r.n ≡ total →
-        verdict_of result (chunk_effect number p.request r) ≡ chunk_verdict log.now p (used_seen used) number r }
+        verdict_of result (chunk_effect number p.request r) ≡ chunk_verdict log.now p used number r }
     ensures commits { IfOk result (λ f. f.thread.commits ≡ thread.now.commits + 1) }
     ensures interrupts { IfOk result (λ f. f.used.interrupts ≤ used.interrupts + 1) }
 {
@@ -118,12 +118,14 @@ pub fn judge_step<M: Mode>(
 ) -> Result<Result<Done, Why>, OutOfMemory>
     requires few { used.interrupts + 1 < 2 ^ 32 }
     requires commits { step.now.thread.commits + 1 < 2 ^ 32 }
+    requires request { IsInside (length step.now.memory.now) step.now.request }
     ensures verdict { let s = step.now in (p : Progress) → p.request ≡ s.request →
-        IfOk result (λ r. step_verdict s.number r ≡ serial_verdict log.now p (used_seen used) s.number s.threads.now s.thread s.memory.now) }
+        IfOk result (λ r. step_verdict s.number r ≡ serial_verdict log.now p used s.number s.threads.now s.thread s.memory.now) }
     ensures commits { IfOk result (λ r. IfOk r (λ d. d.finish.thread.commits ≡ step.now.thread.commits + 1)) }
     ensures interrupts { IfOk result (λ r. IfOk r (λ d. d.finish.used.interrupts ≤ used.interrupts + 1)) }
     ensures spawned { IfOk result (λ r. IfOk r (λ d. AreNew (spawned_list d.left.spawned))) }
     ensures room { IfOk result (λ r. IfOk r (λ d. OnSome d.left.spawned (length step.now.threads.now < most_threads))) }
+    ensures request { IfOk result (λ r. IfOk r (λ d. IsInside (length step.now.memory.now) d.left.request)) }
 {
     let size = log.size(Actor::Thread(step.number), step.thread.commits());
     if let Some(why) = serial_why(size) {
@@ -156,7 +158,7 @@ fn given<'a, M: Mode>(
     thread: &Thread,
     memory: &Memory,
 ) -> Option<Taken<'a>>
-    ensures value { option_map given_by result ≡ given (need thread.now memory.now) (slice_get log.now.inputs used.inputs) (used_seen used) }
+    ensures value { option_map given_by result ≡ given (need thread.now memory.now) (slice_get log.now.inputs used.inputs) used }
     ensures few { IfSome result (λ g. IfSome g.input (λ r. length r.now.bytes ≤ most_bytes)) }
     ensures interrupts { IfSome result (λ g. g.used.interrupts ≡ used.interrupts) }
 {
@@ -186,25 +188,20 @@ pub struct Transfer<'a> {
 }
 
 /// Judges a DMA.
-pub fn transfer_of<'a, M: Mode>(
-    log: &'a Lookup<M>,
-    place: &LogPlace,
-    request: Option<Request>,
-) -> Result<Transfer<'a>, Why>
-    ensures verdict { (p : Progress) → position p ≡ place.now.done → p.request ≡ request →
-        transfer_seen result ≡ dma_verdict log.now p (used_seen place.now.used) }
-    ensures few { OnOk result (place.now.used.dmas + 1 < 2 ^ 32) }
-    ensures request { IfOk result (λ t. request ≡ Some t.request) }
+pub fn transfer_of<'a, M: Mode>(log: &'a Lookup<M>, state: &State) -> Result<Transfer<'a>, Why>
+    ensures verdict { (p : Progress) → Agrees state.now p → transfer_seen result ≡ dma_verdict log.now p state.now.used }
+    ensures few { OnOk result (state.now.used.dmas + 1 < 2 ^ 32) }
+    ensures request { IfOk result (λ t. state.now.request ≡ Some t.request) }
     ensures bytes { IfOk result (λ t. length t.bytes.now ≤ t.request.len) }
     ensures short { IfOk result (λ t. length t.bytes.now ≤ most_bytes) }
 {
-    if let Some(why) = serial_why(log.size(Actor::Dma, place.done)) {
+    if let Some(why) = serial_why(log.size(Actor::Dma, state.commits)) {
         return Err(why);
     }
-    let (Some(request), Some(dma)) = (request, log.dma(place.used.dmas)) else {
+    let (Some(request), Some(dma)) = (state.request, log.dma(state.used.dmas)) else {
         return Err(Why::Dma);
     };
-    if !is_for(place.done, request, dma) {
+    if !is_for(state.commits, request, dma) {
         return Err(Why::Dma);
     }
     Ok(Transfer {
@@ -217,23 +214,24 @@ pub fn transfer_of<'a, M: Mode>(
 pub fn judge_dma<M: Mode>(
     alloc: Global,
     log: &Lookup<M>,
-    place: &LogPlace,
-    request: Option<Request>,
+    state: &State,
 ) -> Result<Result<Buffer, Why>, OutOfMemory>
-    requires { IfSome request (λ q. q.buf + 4 + q.len < 2 ^ 32) }
-    ensures verdict { (p : Progress) → position p ≡ place.now.done → p.request ≡ request →
-        IfOk result (λ r. transfer_verdict r ≡ dma_verdict log.now p (used_seen place.now.used)) }
-    ensures few { IfOk result (λ r. OnOk r (place.now.used.dmas + 1 < 2 ^ 32)) }
+    requires { IsInside (length state.now.memory) state.now.request }
+    ensures verdict { (p : Progress) → Agrees state.now p →
+        IfOk result (λ r. transfer_verdict r ≡ dma_verdict log.now p state.now.used) }
+    ensures few { IfOk result (λ r. OnOk r (state.now.used.dmas + 1 < 2 ^ 32)) }
 {
-    match transfer_of(log, place, request) {
+    // a memory ends below 2^32
+    let _ = state.memory.size();
+    match transfer_of(log, state) {
         Ok(transfer) => Ok(Ok(dma_words(alloc, &transfer.request, transfer.bytes)?)),
         Err(why) => Ok(Err(why)),
     }
 }
 
 // The record is for this commit, and no longer than the request.
-fn is_for(done: u32, request: Request, dma: &DmaRecord) -> bool
-    ensures { result ≡ is_for done request dma.now }
+fn is_for(commits: u32, request: Request, dma: &DmaRecord) -> bool
+    ensures { result ≡ is_for commits request dma.now }
 {
-    dma.position == done && dma.bytes.len() <= request.len as usize
+    dma.position == commits && dma.bytes.len() <= request.len as usize
 }

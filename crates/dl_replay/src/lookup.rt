@@ -8,7 +8,7 @@ ghost use Rattle.spec_log.specs.Head.{head};
 ghost use Rattle.spec_play.specs.Turns.{are_sizes_used};
 ghost use Rattle.spec_play.specs.Verdicts.{interrupt_at};
 ghost use Rattle.spec_protocol.specs.machine.Spheres.{whole_limit};
-ghost use Rattle.dl_replay.specs.Replaying.{commits_of};
+ghost use Rattle.dl_replay.specs.Counts.{commits_of};
 
 use crate::copying::{dmas_of, inputs_of, interrupts_of, kept_of};
 use dl_entry::{Actor, Input, OutOfMemory};

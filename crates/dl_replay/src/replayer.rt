@@ -1,83 +1,90 @@
-//! The replayer of a sphere.
-ghost use Rattle.std.specs.Prelude.{◌≡◌, ℕ, List, Option, ◌+◌, ◌<◌, ◌≤◌, ◌^◌, [], ◌++◌, false, true, length, slice_get, slice_index, slice_set, Some};
-ghost use Rattle.std.specs.Prelude.{IfOk, IsOk, OnErr, OnSome};
+//! The replayer of a sphere. The sphere's state is the caller's, who hands it in. A commit is judged before anything changes;
+//! if it goes, it is taken into the state, except for the words that it stores: those are for the caller to lay.
+ghost use Rattle.std.specs.Prelude.{◌≡◌, ℕ, List, ◌+◌, ◌<◌, ◌≤◌, ◌^◌, false, length, slice_get, Some};
+ghost use Rattle.std.specs.Prelude.{IfOk, OnErr, OnSome};
 ghost use Rattle.dl_entry.specs.Numbers.{most_threads};
+ghost use Rattle.dl_entry.specs.declared.Why.{Why};
+ghost use Rattle.spec_isa.specs.Words.{Stored};
 ghost use Rattle.spec_isa.specs.declared.thread.Parts.{Parts};
 ghost use Rattle.spec_isa.specs.declared.thread.Load.{Load};
 ghost use Rattle.spec_isa.specs.Runs.{Run};
-ghost use Rattle.dl_entry.specs.declared.Why.{Why};
+ghost use Rattle.spec_play.specs.declared.used.Used.{Used};
+ghost use Rattle.spec_play.specs.Effects.{Effect};
 ghost use Rattle.spec_play.specs.Progress.{Progress};
+ghost use Rattle.spec_play.specs.Resuming.{IsBounded};
+ghost use Rattle.spec_play.specs.Spawned.{AreNew};
 ghost use Rattle.spec_play.specs.Turns.{Turn, TurnOfDma};
-ghost use Rattle.spec_play.specs.Verdicts.{chunk_verdict, serial_verdict};
-ghost use Rattle.spec_play.specs.Transfers.{dma_verdict};
-ghost use Rattle.spec_protocol.specs.machine.Spheres.{Replay, actor_of, limit_in, pieces_of};
-ghost use Rattle.spec_protocol.specs.promises.Standing.{AreNew};
+ghost use Rattle.spec_play.specs.Transfers.{DmaGoes, dma_verdict};
+ghost use Rattle.spec_play.specs.Verdicts.{Goes, chunk_verdict, serial_verdict};
+ghost use Rattle.spec_protocol.specs.machine.Spheres.{Replay, actor_of, is_over, pieces_of};
+ghost use Rattle.dl_kernel.specs.declared.state.State.{State};
 ghost use Rattle.dl_kernel.specs.Calls.{spawned_list};
-ghost use Rattle.dl_replay.specs.Seen.{used_seen};
-ghost use Rattle.dl_replay.specs.Replaying.{Agrees, replay_start, commits_of, cursor_of, end_of};
-ghost use Rattle.dl_replay.specs.Replays.{advanced};
-ghost use Rattle.dl_replay.specs.Judging.{transfer_verdict};
+ghost use Rattle.dl_kernel.specs.States.{state_in};
+ghost use Rattle.dl_replay.specs.Following.{cursor_of, diverged, end_of, followed, followed_from};
+ghost use Rattle.dl_replay.specs.Judged.{dma_judged, judged};
+ghost use Rattle.dl_replay.specs.Judging.{step_verdict, transfer_verdict};
+ghost use Rattle.dl_replay.specs.Left.{SaysSize, served_by, served_left, verdict_left, verdict_stored};
 ghost use Rattle.dl_replay.specs.Limits.{chunk_limit, chunk_limit_in};
-ghost use Rattle.dl_replay.specs.Left.{SaysSize, verdict_left, verdict_stored};
-ghost use Rattle.dl_replay.specs.Judged.{HasRun, IsInside, chunk_judged, diverged, dma_judged, serial_judged};
-ghost use Rattle.dl_replay.specs.Served.{Served, nothing_served, served_left, served_stored};
+ghost use Rattle.dl_replay.specs.Replays.{Agrees, IsInside, IsReplaying};
 
-use crate::counting::commits_of;
-use crate::judging::{Finish, judge_chunk, judge_dma, judge_step, transfer_of};
+use crate::judging::{Done, Finish, judge_chunk, judge_dma, judge_step, transfer_of};
 use crate::lookup::Lookup;
-use crate::place::{LogPlace, Used};
 use crate::turn_or_end::TurnOrEnd;
-use crate::turning::now_at;
+use crate::turning::now_in;
 use crate::verdict::Verdict;
 use dl_entry::{Actor, End, OutOfMemory, Request, Why};
-use dl_kernel::{Step, StepResult, settle, thread_at};
-use dl_mem::Memory;
+use dl_kernel::{State, Step, StepResult, settle, thread_at};
 use dl_mode::{Mode, Noting};
-use dl_thread::{PLACES, Thread, Threads};
+use dl_thread::Thread;
 use dl_wbuf::Buffer;
 use spec_log::Log;
+use spec_play::Interval;
 use std::alloc::Global;
 use std::marker::Model;
 
-/// Follows a log, by which its sphere's commits are judged.
+/// Follows a log, or an interval of its commits, by which its sphere's commits are judged.
 #[derive(Drop)]
 pub struct Replayer<M: Mode> {
     alloc: Global,
     log: Lookup<M>,
-    place: LogPlace,
+    interval: Option<Interval>,
     turn: TurnOrEnd,
     total: u32,
-    commits: [u32; PLACES],
 }
 
 impl<M: Mode> Model for Replayer<M> {
-    ghost use Rattle.dl_replay.specs.Replaying.{Replaying};
-    ghost use Rattle.dl_replay.specs.Replays.{replaying, IsReplaying};
+    ghost use Rattle.spec_log.specs.Log.{IsLog};
+    ghost use Rattle.dl_replay.specs.Following.{Following, following};
 
-    ghost Value = { Replaying };
+    ghost Value = { Following };
 
-    ghost view = { λ r. replaying r.log r.place r.turn r.total r.commits };
+    ghost view = { λ r. following r.log r.interval r.turn r.total };
 
-    ghost invariant = { λ r. IsReplaying (replaying r.log r.place r.turn r.total r.commits) };
+    ghost invariant = { λ r. IsLog r.log };
 }
 
 impl<M: Noting> Replayer<M> {
-    /// The replay of a log from its first commit on. Thread 0 stands alone, at whatever entry.
-    pub fn new(alloc: Global, log: &Log) -> Result<Replayer<M>, OutOfMemory>
+    /// The replay of a log, or of an interval of its commits, from a state of the log's play on.
+    pub fn at(
+        alloc: Global,
+        log: &Log,
+        interval: Option<Interval>,
+        state: &State,
+    ) -> Result<Replayer<M>, OutOfMemory>
         requires mode { log.now.mode ≡ M.mode }
-        ensures { (entry : ℕ) → IfOk result (λ replayer. replayer ≡ replay_start log.now entry) }
+        requires state { IsBounded log.now (state_in state.now) }
+        requires request { IsInside (length state.now.memory) state.now.request }
+        ensures value { IfOk result (λ replayer. replayer ≡ followed_from log.now interval (state_in state.now)) }
+        ensures at { IfOk result (λ replayer. IsReplaying replayer state.now) }
     {
         let log = Lookup::new(alloc, log)?;
-        let place = LogPlace::first();
-        let threads = Threads::start(0);
-        let turn = now_at(&log, &place, &threads);
+        let turn = now_in(&log, interval, state);
         Ok(Replayer {
             alloc,
             log,
-            place,
+            interval,
             turn,
             total: 0,
-            commits: commits_of(&threads),
         })
     }
 }
@@ -119,31 +126,31 @@ impl<M: Mode> Replayer<M> {
         self.log.standard()
     }
 
-    /// How many instructions a chunk of the thread may run: the logged size, or else a standard chunk's, and 1 at least. It is
-    /// of the thread's present commit, less the pieces before it; or of the commit after that one.
-    pub fn limit(&self, thread: u8, after: bool) -> u32
-        ensures value { (s : ℕ) (loads : List Load) →
-            result ≡ chunk_limit_in after (Replay (cursor_of self.now loads)) s thread (slice_index self.now.commits thread) }
-        ensures of_thread { (s : ℕ) (loads : List Load) (threads : List Parts) (t : Parts) →
-            length threads ≤ most_threads → self.now.commits ≡ commits_of threads → slice_get threads thread ≡ Some t →
-            result ≡ chunk_limit after s (Replay (cursor_of self.now loads)) thread t }
+    /// The instructions of the present commit's pieces.
+    pub fn pieces(&self) -> u32
+        ensures { result ≡ self.now.total }
+    {
+        self.total
+    }
+
+    // ---- chunks
+
+    /// How many instructions a chunk of a thread that has done so many commits may run: the logged size, or else a standard
+    /// chunk's, and 1 at least. It is of the thread's present commit, less the pieces before it; or of the commit after that
+    /// one.
+    pub fn limit(&self, thread: u8, commits: u32, after: bool) -> u32
+        requires { commits ≤ self.now.log.count }
+        ensures value { (s : ℕ) (used : Used) (loads : List Load) →
+            result ≡ chunk_limit_in after (Replay (cursor_of self.now used loads)) s thread commits }
+        ensures of_thread { (s : ℕ) (used : Used) (loads : List Load) (t : Parts) → t.commits ≡ commits →
+            result ≡ chunk_limit after s (Replay (cursor_of self.now used loads)) thread t }
         ensures most { result ≤ self.now.log.s }
     {
-        let commits = self.commits_of(thread);
         if after {
             return self.log.limit(thread, commits + 1).max(1);
         }
         let whole = self.log.limit(thread, commits);
         whole.saturating_sub(self.pieces_of(thread)).max(1)
-    }
-
-    fn commits_of(&self, thread: u8) -> u32
-        ensures { result ≡ slice_index self.now.commits thread }
-    {
-        match self.commits.get(usize::from(thread)) {
-            Some(commits) => *commits,
-            None => 0,
-        }
     }
 
     // The instructions of the pieces of the thread's present commit.
@@ -156,206 +163,225 @@ impl<M: Mode> Replayer<M> {
         }
     }
 
-    /// A piece of the present commit went, of `n` instructions.
-    pub fn accept_piece(&mut self, thread: u8, n: u32)
-        requires turn { self.old.now ≡ Turn thread }
-        requires some { 1 ≤ n }
-        requires few { n < limit_in (Replay (cursor_of self.old [])) 0 thread (slice_index self.old.commits thread) }
-        ensures { self.new ≡ record self.old { total = self.old.total + n } }
+    /// A piece of the present commit went, of `n` instructions. All pieces of a commit are less than a standard chunk.
+    pub fn accept_piece(&mut self, n: u32)
+        requires { self.old.total + n ≤ self.old.log.s }
+        ensures value { self.new ≡ record self.old { total = self.old.total + n } }
+        ensures at { (s : State) → IsReplaying self.old s → IsReplaying self.new s }
     {
         self.total += n;
     }
 
-    /// Judges a chunk of so many instructions of the thread whose turn it is. The threads hold the state behind it already,
-    /// which ends here as a commit does. Where the replay diverges, only its end is noted.
-    pub fn end_chunk(&mut self, number: u8, total: u32, threads: &mut Threads) -> Verdict
+    /// Judges a chunk of so many instructions of the thread whose turn it is, which has left the thread in this state. If the
+    /// replay diverges, only its end is noted.
+    pub fn end_chunk(
+        &mut self,
+        number: u8,
+        thread: &Thread,
+        total: u32,
+        state: &mut State,
+    ) -> Verdict
+        requires at { IsReplaying self.old state.old }
         requires turn { self.old.now ≡ Turn number }
-        requires thread { number < length threads.old }
-        requires commits { self.old.commits ≡ commits_of threads.old }
-        ensures log { self.new.log ≡ self.old.log }
-        ensures threads_left { (why : Why) → result ≡ Verdict.Diverged why → threads.new ≡ threads.old }
-        ensures judged { (p : Progress) (before : List Parts) (r : Run) (request : Option Request) (served : Served) →
-            Agrees self.old p → p.request ≡ request → HasRun before threads.old number total r →
-            record { verdict = result; replay = self.new; threads = threads.new; request = request; served = served }
-            ≡ chunk_judged self.old p number before threads.old request served (chunk_verdict self.old.log p self.old.used number r) }
+        requires thread { number < length state.old.threads }
+        requires commits { thread.now.commits ≤ state.old.commits }
+        ensures at { IsReplaying self.new state.new }
+        ensures judged { (p : Progress) (r : Run) → Agrees state.old p → r.thread ≡ thread.now → r.n ≡ total →
+            record { verdict = result; replay = self.new; state = state.new }
+            ≡ judged self.old state.old p number (chunk_verdict self.old.log p state.old.used number r) }
     {
-        let thread = thread_at(threads, number);
-        match judge_chunk(&self.log, self.place.used, number, &thread, total) {
-            Ok(finish) => self.commit(number, &finish, None, threads),
-            Err(why) => self.diverge(why),
+        match judge_chunk(&self.log, state.used, number, thread, total) {
+            Ok(finish) => {
+                let change = Change {
+                    finish,
+                    spawned: None,
+                    request: state.request,
+                };
+                self.commit(number, &change, state)
+            }
+            Err(why) => self.diverge(why, state),
         }
     }
 
-    /// Judges the serial step of a thread whose turn it is, and does it. It gives what the step leaves, of which the thread at
-    /// the end of its commit, a spawned one and the request stand in the sphere already; or why the replay leaves its log,
-    /// of which only the end is noted. After want of memory all is as before.
+    // ---- serial steps
+
+    /// Judges the serial step of the thread whose turn it is, and does it. It gives what the step leaves, of which all but the
+    /// words is in the state already; or why the replay leaves its log, of which only the end is noted. If memory runs out, all
+    /// is as before.
     pub fn serve_step(
         &mut self,
         number: u8,
-        threads: &mut Threads,
-        request: &mut Option<Request>,
-        memory: &Memory,
+        state: &mut State,
     ) -> Result<Result<StepResult, Why>, OutOfMemory>
+        requires at { IsReplaying self.old state.old }
         requires turn { self.old.now ≡ Turn number }
-        requires thread { number < length threads.old }
-        requires commits { self.old.commits ≡ commits_of threads.old }
-        ensures judged { (p : Progress) (t : Parts) → Agrees self.old p →
-            p.request ≡ request.old → slice_get threads.old number ≡ Some t →
-            let v = serial_verdict self.old.log p self.old.used number threads.old t memory.now in
-            IfOk result (λ r. record { verdict = verdict_left r; replay = self.new; threads = threads.new; request = request.new; served = served_left r }
-            ≡ serial_judged self.old p number threads.old request.old nothing_served v) }
-        ensures log { self.new.log ≡ self.old.log }
-        ensures replay_still { OnErr result (self.new ≡ self.old) }
-        ensures threads_still { OnErr result (threads.new ≡ threads.old) }
-        ensures request_still { OnErr result (request.new ≡ request.old) }
+        requires thread { number < length state.old.threads }
+        ensures at { IsReplaying self.new state.new }
+        ensures judged { (p : Progress) (t : Parts) → let s = state.old in Agrees s p → slice_get s.threads number ≡ Some t →
+            let v = serial_verdict self.old.log p s.used number s.threads t s.memory in
+            IfOk result (λ r. record { verdict = verdict_left r; replay = self.new; state = state.new } ≡ judged self.old s p number v) }
+        ensures served { (p : Progress) (t : Parts) → let s = state.old in Agrees s p → slice_get s.threads number ≡ Some t →
+            IfOk result (λ r. served_left r ≡ served_by (serial_verdict self.old.log p s.used number s.threads t s.memory)) }
+        ensures still { OnErr result ((self.new ≡ self.old) × (state.new ≡ state.old)) }
     {
-        let step = Step {
-            number,
-            thread: thread_at(threads, number),
-            threads,
-            request: *request,
-            memory,
-        };
-        match judge_step(self.alloc, &self.log, self.place.used, &step)? {
+        match self.judge_step(number, state)? {
             Ok(done) => {
-                *request = done.left.request;
-                self.commit(number, &done.finish, done.left.spawned, threads);
+                let change = Change {
+                    finish: done.finish,
+                    spawned: done.left.spawned,
+                    request: done.left.request,
+                };
+                self.commit(number, &change, state);
                 Ok(Ok(done.left))
             }
             Err(why) => {
-                self.diverge(why);
+                self.diverge(why, state);
                 Ok(Err(why))
             }
         }
     }
 
-    /// Judges a DMA whose turn it is, and gives the words that it stores, or why the replay leaves its log. After want of
-    /// memory all is as before.
-    pub fn serve_dma(
-        &mut self,
-        threads: &Threads,
-        request: &mut Option<Request>,
-        memory: &Memory,
-    ) -> Result<Result<Buffer, Why>, OutOfMemory>
-        requires turn { self.old.now ≡ TurnOfDma }
-        requires commits { self.old.commits ≡ commits_of threads.now }
-        requires request { IsInside (length memory.now) request.old }
-        ensures judged { (p : Progress) → Agrees self.old p → p.request ≡ request.old →
-            let v = dma_verdict self.old.log p self.old.used in
-            IfOk result (λ r. record { verdict = verdict_stored r; replay = self.new; threads = threads.now; request = request.new; served = served_stored r }
-            ≡ dma_judged self.old p threads.now request.old nothing_served v) }
-        ensures log { self.new.log ≡ self.old.log }
-        ensures replay_still { OnErr result (self.new ≡ self.old) }
-        ensures request_still { OnErr result (request.new ≡ request.old) }
+    // Judges a serial step, and changes nothing.
+    fn judge_step(&self, number: u8, state: &State) -> Result<Result<Done, Why>, OutOfMemory>
+        requires at { IsReplaying self.now state.now }
+        requires thread { number < length state.now.threads }
+        ensures verdict { (p : Progress) (t : Parts) → let s = state.now in Agrees s p → slice_get s.threads number ≡ Some t →
+            IfOk result (λ r. step_verdict number r ≡ serial_verdict self.now.log p s.used number s.threads t s.memory) }
+        ensures commits { IfOk result (λ r. IfOk r (λ d. d.finish.thread.commits ≤ state.now.commits + 1)) }
+        ensures interrupts { IfOk result (λ r. IfOk r (λ d. d.finish.used.interrupts ≤ state.now.used.interrupts + 1)) }
+        ensures spawned { IfOk result (λ r. IfOk r (λ d. AreNew (spawned_list d.left.spawned))) }
+        ensures room { IfOk result (λ r. IfOk r (λ d. OnSome d.left.spawned (length state.now.threads < most_threads))) }
+        ensures request { IfOk result (λ r. IfOk r (λ d. IsInside (length state.now.memory) d.left.request)) }
     {
-        // a memory ends below 2^32
-        let _ = memory.size();
-        let place = self.place;
-        match judge_dma(self.alloc, &self.log, &place, *request)? {
+        let step = Step {
+            number,
+            thread: thread_at(&state.threads, number),
+            threads: &state.threads,
+            request: state.request,
+            memory: &state.memory,
+        };
+        judge_step(self.alloc, &self.log, state.used, &step)
+    }
+
+    // ---- DMAs
+
+    /// Judges the DMA whose turn it is, and gives the words that it stores, or why the replay leaves its log. If memory runs
+    /// out, all is as before.
+    pub fn serve_dma(&mut self, state: &mut State) -> Result<Result<Buffer, Why>, OutOfMemory>
+        requires at { IsReplaying self.old state.old }
+        requires turn { self.old.now ≡ TurnOfDma }
+        ensures at { IsReplaying self.new state.new }
+        ensures judged { (p : Progress) → let s = state.old in Agrees s p → let v = dma_verdict self.old.log p s.used in
+            IfOk result (λ r. record { verdict = verdict_stored r; replay = self.new; state = state.new } ≡ dma_judged self.old s p v) }
+        ensures stored { (p : Progress) → Agrees state.old p →
+            IfOk result (λ r. transfer_verdict r ≡ dma_verdict self.old.log p state.old.used) }
+        ensures still { OnErr result ((self.new ≡ self.old) × (state.new ≡ state.old)) }
+    {
+        match judge_dma(self.alloc, &self.log, state)? {
             Ok(words) => {
-                *request = None;
-                let used = Used {
-                    dmas: place.used.dmas + 1,
-                    ..place.used
-                };
-                self.advance(used, threads);
+                self.commit_dma(state);
                 Ok(Ok(words))
             }
             Err(why) => {
-                self.diverge(why);
+                self.diverge(why, state);
                 Ok(Err(why))
             }
         }
     }
 
     /// The words that the DMA whose turn it is stores, or why the replay leaves its log there. Nothing changes.
-    pub fn dma_words(
-        &self,
-        request: Option<Request>,
-        memory: &Memory,
-    ) -> Result<Result<Buffer, Why>, OutOfMemory>
-        requires { IsInside (length memory.now) request }
-        ensures { (p : Progress) → Agrees self.now p → p.request ≡ request →
-            IfOk result (λ r. transfer_verdict r ≡ dma_verdict self.now.log p self.now.used) }
+    pub fn dma_words(&self, state: &State) -> Result<Result<Buffer, Why>, OutOfMemory>
+        requires { IsReplaying self.now state.now }
+        ensures { (p : Progress) → Agrees state.now p →
+            IfOk result (λ r. transfer_verdict r ≡ dma_verdict self.now.log p state.now.used) }
     {
-        let _ = memory.size();
-        judge_dma(self.alloc, &self.log, &self.place, request)
+        judge_dma(self.alloc, &self.log, state)
     }
 
-    /// How many bytes the DMA whose turn it is stores behind their number, or why the replay leaves its log there. Nothing
+    /// How many bytes the DMA whose turn it is stores after their number, or why the replay leaves its log there. Nothing
     /// changes.
-    pub fn dma_size(&self, request: Option<Request>) -> Result<u32, Why>
-        ensures { (p : Progress) → Agrees self.now p → p.request ≡ request →
-            SaysSize result request (dma_verdict self.now.log p self.now.used) }
+    pub fn dma_size(&self, state: &State) -> Result<u32, Why>
+        ensures { (p : Progress) → Agrees state.now p →
+            SaysSize result state.now.request (dma_verdict self.now.log p state.now.used) }
     {
-        match transfer_of(&self.log, &self.place, request) {
+        match transfer_of(&self.log, state) {
             Ok(transfer) => Ok(transfer.bytes.len() as u32),
             Err(why) => Err(why),
         }
     }
 
-    /// The instructions of the present commit's pieces.
-    pub fn pieces(&self) -> u32
-        ensures { result ≡ self.now.total }
+    // ---- what becomes of the replay
+
+    /// The replay ends here, diverged for this reason.
+    pub fn diverge(&mut self, why: Why, state: &State) -> Verdict
+        ensures verdict { result ≡ Verdict.Diverged why }
+        ensures replay { self.new ≡ diverged why state.now.commits self.old }
+        ensures at { (s : State) → IsReplaying self.old s → IsReplaying self.new s }
     {
-        self.total
+        self.turn = TurnOrEnd::Ended(End::Diverged(state.commits, why));
+        Verdict::Diverged(why)
     }
 
-    // A thread's commit went: here is its end, and the thread that it spawned.
-    fn commit(
-        &mut self,
-        number: u8,
-        finish: &Finish,
-        spawned: Option<Thread>,
-        threads: &mut Threads,
-    ) -> Verdict
-        requires left { self.old.done < self.old.log.count }
-        requires thread { number < length threads.old }
-        requires few { length threads.old ≤ most_threads }
-        requires commits { self.old.commits ≡ commits_of threads.old }
-        requires below { (k : ℕ) → slice_index self.old.commits k ≤ self.old.done }
-        requires counted { finish.now.thread.commits ≤ self.old.done + 1 }
-        requires interrupts { finish.now.used.interrupts ≤ self.old.used.interrupts + 1 }
-        requires spawned { AreNew (spawned_list spawned) }
-        requires room { OnSome spawned (length threads.old < most_threads) }
+    // A thread's commit went.
+    fn commit(&mut self, number: u8, change: &Change, state: &mut State) -> Verdict
+        requires at { IsReplaying self.old state.old }
+        requires left { is_over self.old.now ≡ false }
+        requires thread { number < length state.old.threads }
+        requires counted { change.now.finish.thread.commits ≤ state.old.commits + 1 }
+        requires interrupts { change.now.finish.used.interrupts ≤ state.old.used.interrupts + 1 }
+        requires spawned { AreNew (spawned_list change.now.spawned) }
+        requires room { OnSome change.now.spawned (length state.old.threads < most_threads) }
+        requires request { IsInside (length state.old.memory) change.now.request }
+        ensures at { IsReplaying self.new state.new }
+        ensures judged { (p : Progress) (e : Effect) → Agrees state.old p → let c = change.now in
+            e.thread ≡ c.finish.thread → e.spawned ≡ spawned_list c.spawned → e.request ≡ c.request →
+            record { verdict = result; replay = self.new; state = state.new } ≡ judged self.old state.old p number (Goes e c.finish.used) }
         ensures verdict { result ≡ Verdict.Went }
-        ensures threads { threads.new ≡ slice_set threads.old number finish.now.thread ++ spawned_list spawned }
-        ensures replay { self.new ≡ advanced self.old.log (self.old.done + 1) (Some number) (used_seen finish.now.used) threads.new }
     {
-        settle(threads, number, &finish.thread, spawned);
-        // no other thread has done more than before, and one that was spawned has done none
-        self.commits[usize::from(number)] = finish.thread.commits();
-        self.place = LogPlace {
-            used: finish.used,
-            done: self.place.done + 1,
-            last: Some(number),
-        };
-        self.total = 0;
-        self.turn = now_at(&self.log, &self.place, threads);
+        settle(
+            &mut state.threads,
+            number,
+            &change.finish.thread,
+            change.spawned,
+        );
+        state.request = change.request;
+        state.last = Some(number);
+        state.used = change.finish.used;
+        self.go_on(state);
         Verdict::Went
     }
 
-    // A DMA went, after which the end is looked at. The threads are as they were.
-    fn advance(&mut self, used: Used, threads: &Threads)
-        requires left { self.old.done < self.old.log.count }
-        requires commits { self.old.commits ≡ commits_of threads.now }
-        requires interrupts { used.interrupts ≤ self.old.used.interrupts + 1 }
-        ensures { self.new ≡ advanced self.old.log (self.old.done + 1) self.old.last (used_seen used) threads.now }
+    // A DMA went, which moves no turn.
+    fn commit_dma(&mut self, state: &mut State)
+        requires at { IsReplaying self.old state.old }
+        requires left { is_over self.old.now ≡ false }
+        requires few { state.old.used.dmas + 1 < 2 ^ 32 }
+        ensures at { IsReplaying self.new state.new }
+        ensures judged { (p : Progress) (words : List Stored) → Agrees state.old p →
+            record { verdict = Verdict.Went; replay = self.new; state = state.new } ≡ dma_judged self.old state.old p (DmaGoes words) }
     {
-        self.place = LogPlace {
-            used,
-            done: self.place.done + 1,
-            ..self.place
-        };
-        self.total = 0;
-        self.turn = now_at(&self.log, &self.place, threads);
+        state.request = None;
+        state.used.dmas += 1;
+        self.go_on(state);
     }
 
-    fn diverge(&mut self, why: Why) -> Verdict
-        ensures verdict { result ≡ Verdict.Diverged why }
-        ensures replay { self.new ≡ diverged why self.old }
+    // One commit more is done, after which the end is looked at.
+    fn go_on(&mut self, state: &mut State)
+        requires { state.old.commits + 1 < 2 ^ 32 }
+        ensures state { state.new ≡ record state.old { commits = state.old.commits + 1 } }
+        ensures replay { (p : Progress) → Agrees state.new p →
+            self.new ≡ followed self.old.log self.old.interval p state.new.used state.new.threads }
     {
-        self.turn = TurnOrEnd::Ended(End::Diverged(self.place.done, why));
-        Verdict::Diverged(why)
+        state.commits += 1;
+        self.total = 0;
+        self.turn = now_in(&self.log, self.interval, state);
     }
+}
+
+/// What a thread's commit leaves in its sphere.
+#[derive(Clone, Copy)]
+struct Change {
+    finish: Finish,
+    spawned: Option<Thread>,
+    request: Option<Request>,
 }

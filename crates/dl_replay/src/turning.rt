@@ -1,40 +1,69 @@
 //! Whose turn it is, or how the replay ends: looked at before the first commit and after each whole one.
 ghost use Rattle.std.specs.Prelude.{◌≡◌, map};
 ghost use Rattle.spec_log.specs.Head.{head};
-ghost use Rattle.spec_log.specs.Log.{IsLog};
 ghost use Rattle.spec_kernel.specs.Interrupts.{is_live};
-ghost use Rattle.spec_play.specs.Turns.{turn_of, at_end, has_left_over};
-ghost use Rattle.dl_replay.specs.Seen.{now_seen, used_seen};
-ghost use Rattle.dl_replay.specs.Replays.{now_for};
+ghost use Rattle.spec_play.specs.Progress.{Progress};
+ghost use Rattle.spec_play.specs.Turns.{now_at, turn_of, at_end, has_left_over};
+ghost use Rattle.spec_play.specs.Intervals.{at_end_of_log, now_in};
+ghost use Rattle.dl_replay.specs.Following.{now_seen};
+ghost use Rattle.dl_replay.specs.Replays.{Agrees};
 
 use crate::counting::commits_of;
 use crate::lookup::Lookup;
-use crate::place::{LogPlace, Used};
 use crate::turn_or_end::TurnOrEnd;
 use dl_entry::{Actor, End, Why};
-use dl_kernel::{live_of, lives};
+use dl_kernel::{State, live_of, lives};
 use dl_mode::Mode;
 use dl_thread::Threads;
+use spec_play::{Interval, Used};
 
-/// Whose turn it is at a place in the log, with these threads.
-pub fn now_at<M: Mode>(log: &Lookup<M>, place: &LogPlace, threads: &Threads) -> TurnOrEnd
-    ensures now { let at = place.now in now_seen result ≡ now_for log.now at.done at.last (used_seen at.used) threads.now }
-    ensures log { IsLog log.now }
+/// Whose turn it is at a state of the log's play, if all commits are replayed or those of an interval.
+pub fn now_in<M: Mode>(log: &Lookup<M>, interval: Option<Interval>, state: &State) -> TurnOrEnd
+    ensures { (p : Progress) → Agrees state.now p →
+        let s = state.now in now_seen result ≡ now_in interval log.now.count s.commits (now_at log.now p s.used s.threads) }
 {
-    if place.done < log.count() {
-        turn_of(place.done, threads, next_actor(log, place, threads))
+    match interval {
+        None => now_at(log, state),
+        // the next turn isn't looked at if the log has more
+        Some(interval) if interval.last <= state.commits && state.commits < log.count() => {
+            TurnOrEnd::Ended(End::At(state.commits))
+        }
+        Some(_) => at_end_of_log(now_at(log, state)),
+    }
+}
+
+// An interval that has all its commits ends so, whether or not the log has more.
+fn at_end_of_log(turn: TurnOrEnd) -> TurnOrEnd
+    ensures { now_seen result ≡ at_end_of_log (now_seen turn) }
+{
+    match turn {
+        TurnOrEnd::Ended(End::Complete(commits)) => TurnOrEnd::Ended(End::At(commits)),
+        TurnOrEnd::Turn(_) | TurnOrEnd::TurnOfDma | TurnOrEnd::Ended(_) => turn,
+    }
+}
+
+// In the log's own play.
+fn now_at<M: Mode>(log: &Lookup<M>, state: &State) -> TurnOrEnd
+    ensures { (p : Progress) → Agrees state.now p →
+        now_seen result ≡ now_at log.now p state.now.used state.now.threads }
+{
+    if state.commits < log.count() {
+        turn_of(state.commits, &state.threads, next_actor(log, state))
     } else {
-        at_end(place.done, has_left_over(log, place.used, threads))
+        at_end(
+            state.commits,
+            has_left_over(log, state.used, &state.threads),
+        )
     }
 }
 
 // The actor that the log names next.
-fn next_actor<M: Mode>(log: &Lookup<M>, place: &LogPlace, threads: &Threads) -> Option<Actor>
-    ensures { result ≡ head log.now place.now.done place.now.last (map is_live threads.now) }
+fn next_actor<M: Mode>(log: &Lookup<M>, state: &State) -> Option<Actor>
+    ensures { let s = state.now in result ≡ head log.now s.commits s.last (map is_live s.threads) }
 {
-    let live = live_of(threads);
-    let live = &live[..usize::from(threads.len())];
-    log.head(place.done, place.last, live)
+    let live = live_of(&state.threads);
+    let live = &live[..usize::from(state.threads.len())];
+    log.head(state.commits, state.last, live)
 }
 
 // A thread whose turn it is must live.
@@ -61,7 +90,7 @@ fn at_end(done: u32, left_over: bool) -> TurnOrEnd
 // Whether a size, an interrupt, an input or a DMA was never used.
 #[tactic(auto, unfolding(spec_play::specs::Turns::has_left_over))]
 fn has_left_over<M: Mode>(log: &Lookup<M>, used: Used, threads: &Threads) -> bool
-    ensures { result ≡ has_left_over log.now (used_seen used) threads.now }
+    ensures { result ≡ has_left_over log.now used threads.now }
 {
     if !log.are_sizes_used(&commits_of(threads)) {
         return true;

@@ -40,6 +40,16 @@ impl Threads {
         }
     }
 
+    /// The same threads again.
+    pub fn again(&self) -> Threads
+        ensures { result ≡ self.now }
+    {
+        Threads {
+            row: self.row,
+            len: self.len,
+        }
+    }
+
     /// How many there are.
     pub fn len(&self) -> u8
         ensures value { result ≡ length self.now }

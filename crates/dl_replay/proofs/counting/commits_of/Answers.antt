@@ -1,6 +1,6 @@
 use Rattle.std.proofs.Common.{◌<◌, ◌≤◌, length, arith}
 use Rattle.dl_kernel.proofs.Rows.{row-next}
-use Rattle.dl_replay.specs.Replaying.{commits_at}
+use Rattle.dl_replay.specs.Counts.{commits_at}
 use Rattle.dl_replay.proofs.counting.commits_of.Goals as goal
 
 pub loop-number-preserved : goal.loop-number-preserved
