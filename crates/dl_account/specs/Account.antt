@@ -7,14 +7,14 @@ use Rattle.dl_entry.specs.declared.input.Request.{Request}
 use Rattle.spec_isa.specs.declared.thread.Parts.{Parts}
 use Rattle.dl_account.specs.Commits.{commit_lines}
 use Rattle.dl_account.specs.Lines.{line, numbered}
-use Rattle.dl_account.specs.Replays.{why_fields}
+use Rattle.dl_account.specs.Replays.{diverged_fields}
 use Rattle.dl_account.specs.States.{state_lines}
 
 -- `end complete N`, `end at N`, or `end diverged I WHY` with the sizes that belong to the reason
 abbrev pub end_fields : End → List (List ℕ)
 end_fields (Complete commits) = codes "complete" ∷ decimal commits ∷ []
 end_fields (At commits) = codes "at" ∷ decimal commits ∷ []
-end_fields (Diverged index why) = codes "diverged" ∷ decimal index ∷ why_fields why
+end_fields (Diverged index why) = diverged_fields index why
 
 -- the state at the end, if the sphere did not diverge
 abbrev pub final_lines : List Parts → Option Request → (memory : List ℕ) → End → List ℕ

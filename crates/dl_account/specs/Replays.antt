@@ -1,5 +1,5 @@
 -- Why a replay left its log, as texts say it.
-use Rattle.std.specs.Prelude.{ℕ, List, [], ◌∷◌, map, decimal}
+use Rattle.std.specs.Prelude.{ℕ, List, [], ◌∷◌, map, codes, decimal}
 use Rattle.dl_entry.specs.declared.end.Why.{Why}
 use Rattle.dl_entry.specs.declared.end.Why.TheVariants.{NoThread, Short, NotSerial, Input, Interrupt, Dma, SizeOfSerial, LeftOver}
 
@@ -23,3 +23,7 @@ sizes_of why = []
 -- the fields of a reason
 abbrev pub why_fields : Why → List (List ℕ)
 why_fields why = map decimal (number_of why ∷ sizes_of why)
+
+-- of a replay that left its log at a commit, by its index
+abbrev pub diverged_fields : (index : ℕ) → Why → List (List ℕ)
+diverged_fields index why = codes "diverged" ∷ decimal index ∷ why_fields why

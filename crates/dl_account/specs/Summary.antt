@@ -5,7 +5,7 @@ use Rattle.dl_entry.specs.declared.end.End.{End}
 use Rattle.dl_entry.specs.declared.end.SphereLine.{SphereLine}
 use Rattle.dl_entry.specs.declared.end.SphereLine.TheVariants.{Record, Plain, Complete, Diverged, Interval}
 use Rattle.dl_account.specs.Lines.{line, numbered}
-use Rattle.dl_account.specs.Replays.{why_fields}
+use Rattle.dl_account.specs.Replays.{diverged_fields}
 
 -- a sphere's whole commits; the one at which a replay diverges is not among them
 abbrev pub commits_in : SphereLine → ℕ
@@ -19,14 +19,14 @@ commits_in (Interval commits end) = commits
 abbrev pub interval_fields : End → List (List ℕ)
 interval_fields (End.Complete commits) = codes "complete" ∷ decimal commits ∷ []
 interval_fields (End.At commits) = codes "complete" ∷ decimal commits ∷ []
-interval_fields (End.Diverged index why) = codes "diverged" ∷ decimal index ∷ why_fields why
+interval_fields (End.Diverged index why) = diverged_fields index why
 
 -- what the summary says of a sphere
 abbrev pub sphere_fields : SphereLine → List (List ℕ)
 sphere_fields (Record commits) = codes "record" ∷ decimal commits ∷ []
 sphere_fields (Plain commits) = codes "plain" ∷ decimal commits ∷ []
 sphere_fields (Complete commits) = codes "complete" ∷ decimal commits ∷ []
-sphere_fields (Diverged index why) = codes "diverged" ∷ decimal index ∷ why_fields why
+sphere_fields (Diverged index why) = diverged_fields index why
 sphere_fields (Interval commits end) = interval_fields end
 
 -- `s SPHERE record COMMITS`, or whatever its role and end are

@@ -6,7 +6,7 @@ ghost use Rattle.dl_account.specs.States.{request_lines, state_lines};
 
 use crate::commits::{put_commits, room_for};
 use crate::memory::put_memory;
-use crate::replays::put_why;
+use crate::replays::put_diverged;
 use crate::text::Text;
 use crate::threads::put_threads;
 use dl_entry::{Commit, End, OutOfMemory, Request};
@@ -15,7 +15,8 @@ use dl_thread::Threads;
 use std::alloc::Global;
 
 /// The account of a sphere: each whole commit with its loads and outputs; if its replay did not diverge, the threads,
-/// the outstanding DMA request and the rows of memory that are not all zero; and how it ended.
+/// the outstanding DMA request and the rows of memory that are not all zero; and how it ended. The first of the commits has
+/// the number `first` in the sphere's log.
 pub fn account_text(
     alloc: Global,
     commits: &[Commit],
@@ -23,12 +24,13 @@ pub fn account_text(
     request: &Option<Request>,
     memory: &Memory,
     end: &End,
+    first: u32,
 ) -> Result<Vec<u8>, OutOfMemory>
     ensures { IfOk result (λ text.
-        text.items ≡ account_of commits.now threads.now request.now memory.now end.now) }
+        text.items ≡ account_of first commits.now threads.now request.now memory.now end.now) }
 {
     let mut text = Text::with_room(alloc, room_for(commits))?;
-    put_commits(&mut text, 0, commits)?;
+    put_commits(&mut text, first, commits)?;
     put_final(&mut text, threads, *request, memory, *end)?;
     put_end(&mut text, *end)?;
     Ok(text.into_bytes())
@@ -45,7 +47,7 @@ fn put_final(
     ensures { OnOk result (text.new ≡ text.old ++ final_lines threads.now request memory.now end) }
 {
     match end {
-        End::Complete(_) => put_state(text, threads, request, memory),
+        End::Complete(_) | End::At(_) => put_state(text, threads, request, memory),
         End::Diverged(..) => Ok(()),
     }
 }
@@ -88,9 +90,7 @@ fn put_end_fields(text: &mut Text, end: End) -> Result<(), OutOfMemory>
 {
     match end {
         End::Complete(commits) => text.put_count(b"complete", commits),
-        End::Diverged(index, why) => {
-            text.put_count(b"diverged", index)?;
-            put_why(text, why)
-        }
+        End::At(commits) => text.put_count(b"at", commits),
+        End::Diverged(index, why) => put_diverged(text, index, why),
     }
 }

@@ -1,13 +1,21 @@
 //! Why a replay left its log, as texts say it.
 ghost use Rattle.std.specs.Prelude.{◌≡◌, ◌++◌, OnOk, flat_map};
 ghost use Rattle.dl_account.specs.Lines.{spaced};
-ghost use Rattle.dl_account.specs.Replays.{why_fields};
+ghost use Rattle.dl_account.specs.Replays.{diverged_fields, why_fields};
 
 use crate::text::Text;
 use dl_entry::{OutOfMemory, Why};
 
+// The fields of a replay that left its log: where, and why.
+pub(crate) fn put_diverged(text: &mut Text, index: u32, why: Why) -> Result<(), OutOfMemory>
+    ensures { OnOk result (text.new ≡ text.old ++ flat_map spaced (diverged_fields index why)) }
+{
+    text.put_count(b"diverged", index)?;
+    put_why(text, why)
+}
+
 // The fields of a reason: its number, and the sizes that belong to it.
-pub(crate) fn put_why(text: &mut Text, why: Why) -> Result<(), OutOfMemory>
+fn put_why(text: &mut Text, why: Why) -> Result<(), OutOfMemory>
     ensures { OnOk result (text.new ≡ text.old ++ flat_map spaced (why_fields why)) }
 {
     match why {

@@ -1,11 +1,11 @@
 //! The summary: the events, the commits of all spheres, and a line for each sphere.
-ghost use Rattle.std.specs.Prelude.{◌≡◌, ◌++◌, OnOk, IfOk, sum_by};
-ghost use Rattle.dl_account.specs.Lines.{numbered};
-ghost use Rattle.dl_account.specs.Summary.{commits_in, sphere_line, summary_of};
+ghost use Rattle.std.specs.Prelude.{◌≡◌, ◌++◌, OnOk, IfOk, flat_map, sum_by};
+ghost use Rattle.dl_account.specs.Lines.{numbered, spaced};
+ghost use Rattle.dl_account.specs.Summary.{commits_in, interval_fields, sphere_fields, sphere_line, summary_of};
 
-use crate::replays::put_why;
+use crate::replays::put_diverged;
 use crate::text::Text;
-use dl_entry::{Counts, OutOfMemory, SphereLine};
+use dl_entry::{Counts, End, OutOfMemory, SphereLine};
 use std::alloc::Global;
 
 /// The summary of a run: the number of events, that of the commits of all spheres, and a line for each sphere.
@@ -51,8 +51,10 @@ fn commits_in(sphere: &SphereLine) -> u32
     ensures { result ≡ commits_in sphere.now }
 {
     match *sphere {
-        SphereLine::Record(commits) | SphereLine::Plain(commits) | SphereLine::Complete(commits) =>
-            commits,
+        SphereLine::Record(commits)
+        | SphereLine::Plain(commits)
+        | SphereLine::Complete(commits)
+        | SphereLine::Interval(commits, _) => commits,
         SphereLine::Diverged(index, _) => index,
     }
 }
@@ -72,14 +74,29 @@ fn put_sphere(text: &mut Text, number: usize, sphere: SphereLine) -> Result<(), 
 {
     text.put(b"s")?;
     text.put_number(number as u64)?;
-    match sphere {
-        SphereLine::Record(commits) => text.put_count(b"record", commits)?,
-        SphereLine::Plain(commits) => text.put_count(b"plain", commits)?,
-        SphereLine::Complete(commits) => text.put_count(b"complete", commits)?,
-        SphereLine::Diverged(index, why) => {
-            text.put_count(b"diverged", index)?;
-            put_why(text, why)?;
-        }
-    }
+    put_sphere_fields(text, sphere)?;
     text.put(b"\n")
+}
+
+// Its role and its commits, or where and why its replay diverged.
+fn put_sphere_fields(text: &mut Text, sphere: SphereLine) -> Result<(), OutOfMemory>
+    ensures { OnOk result (text.new ≡ text.old ++ flat_map spaced (sphere_fields sphere)) }
+{
+    match sphere {
+        SphereLine::Record(commits) => text.put_count(b"record", commits),
+        SphereLine::Plain(commits) => text.put_count(b"plain", commits),
+        SphereLine::Complete(commits) => text.put_count(b"complete", commits),
+        SphereLine::Diverged(index, why) => put_diverged(text, index, why),
+        SphereLine::Interval(_, end) => put_interval(text, end),
+    }
+}
+
+// How the replay of an interval ended.
+fn put_interval(text: &mut Text, end: End) -> Result<(), OutOfMemory>
+    ensures { OnOk result (text.new ≡ text.old ++ flat_map spaced (interval_fields end)) }
+{
+    match end {
+        End::Complete(commits) | End::At(commits) => text.put_count(b"complete", commits),
+        End::Diverged(index, why) => put_diverged(text, index, why),
+    }
 }

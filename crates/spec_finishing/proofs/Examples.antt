@@ -26,7 +26,7 @@ use Rattle.spec_protocol.specs.machine.Asking.{grant_chunk, grant_serial, asking
 use Rattle.spec_protocol.specs.machine.Commits.{chunk_moved, serial_moved, dma_moved, raised}
 use Rattle.spec_protocol.specs.machine.Finishing.{next, Finishes}
 use Rattle.spec_protocol.specs.machine.Flying.{draining, delivering, retiring}
-use Rattle.spec_protocol.specs.machine.Machine.{IsReplayed, Setup, world_of, act, happens}
+use Rattle.spec_protocol.specs.machine.Machine.{IsReplayed, all_of, Setup, world_of, act, happens}
 use Rattle.spec_protocol.specs.machine.Placing.{placing, raising}
 use Rattle.spec_protocol.specs.machine.Spheres.{head_of, turn_against, limit_of}
 use Rattle.spec_protocol.specs.machine.Stepping.{stepping, cutting}
@@ -54,7 +54,7 @@ replay code log =
       numbers = record { s = 100; capacity = 1; bits = 64; depth = 1 };
       seed = 0;
       input = [];
-      spheres = record { memory = image 512 code; entry = 0; role = IsReplayed (record { log = log }) } ∷ [];
+      spheres = record { memory = image 512 code; entry = 0; role = IsReplayed (all_of log) } ∷ [];
     }
 
 -- in order-only, without sizes, of thread 0

@@ -1,9 +1,9 @@
 -- Slices that meet are one slice, and the slice of all commits is the account.
 use Rattle.std.proofs.Common.{◌≡◌, ℕ, zero, suc, ◌+◌, ◌≤◌, Bool, true, cond, List, [], ◌∷◌, ◌++◌, refl, sym, ap, ◌∙◌, arith}
-use Rattle.std.specs.Prelude.{take, drop, codes, decimal}
+use Rattle.std.specs.Prelude.{take, drop, codes}
 use Rattle.std.proofs.lemmas.Bool.{le-leb, or_right}
-use Rattle.std.proofs.lemmas.List.{append-nil, append_assoc}
-use Rattle.dl_account.specs.Account.{end_fields}
+use Rattle.std.proofs.lemmas.List.{append_assoc}
+use Rattle.dl_account.specs.Account.{end_fields, final_lines, account_of}
 use Rattle.dl_account.specs.Commits.{commit_lines}
 use Rattle.dl_account.specs.Lines.{line, numbered}
 use Rattle.dl_account.specs.States.{state_lines}
@@ -16,7 +16,7 @@ use Rattle.spec_play.specs.Turns.{TurnOrEnd, Ended}
 use Rattle.spec_play.specs.Plays.{Played, play}
 use Rattle.spec_play.specs.Walks.{is_looked_at, walk_end, walked}
 use Rattle.spec_play.proofs.Walking.{walks_are_plays}
-use Rattle.spec_interval.specs.Slices.{slice_end, last_lines, lines_between}
+use Rattle.spec_interval.specs.Slices.{slice_end, lines_between}
 use Rattle.spec_interval.specs.Promise.{SlicesAreAccounts, SlicesJoin}
 
 -- ---- joining
@@ -64,9 +64,14 @@ lines_join log memory entry i j k low high =
 pub slices_join : SlicesJoin
 slices_join log memory entry i j k low high =
     let v = walked log memory entry k in
-    let rest : List ℕ = last_lines v.threads v.request v.memory (slice_end v.end) in
-    ap (λ (t : List ℕ). t ++ rest) (lines_join log memory entry i j k low high)
-    ∙ append_assoc (lines_between log memory entry i j) (lines_between log memory entry j k) rest
+    let end : End = slice_end v.end in
+    let state : List ℕ = final_lines v.threads v.request v.memory end in
+    let last : List ℕ = line (codes "end") (end_fields end) in
+    let before : List ℕ = lines_between log memory entry i j in
+    let after : List ℕ = lines_between log memory entry j k in
+    ap (λ (t : List ℕ). t ++ state ++ last) (lines_join log memory entry i j k low high)
+    ∙ ap (λ (t : List ℕ). t ++ last) (append_assoc before after state)
+    ∙ append_assoc before (after ++ state) last
 
 -- ---- all commits
 
@@ -81,17 +86,15 @@ slices_are_accounts log memory entry =
     let y : Played = play log memory entry in
     let commits : List ℕ = numbered commit_lines 0 y.progress.commits in
     let state : List ℕ = state_lines y.threads y.progress.request y.memory in
-    let text : WalkEnd → List ℕ = (λ end. commits ++ last_lines y.threads y.progress.request y.memory (slice_end end)) in
+    let text : WalkEnd → List ℕ = (λ end. account_of 0 y.progress.commits y.threads y.progress.request y.memory (slice_end end)) in
     let ends : (how : End) → y.now ≡ Ended how → walk_end log log.count (position y.progress) y.now ≡ WalkEnd.Ended how =
     (λ how e. ends_at_count log log.count (position y.progress) y.now how (omega arith) e)
     in
     record {
       complete = λ count e. record {
         body = commits ++ state;
-        slice_is = ap text (ends (End.Complete count) e) ∙ sym (append_assoc commits state (line (codes "end") (codes "at" ∷ decimal count ∷ [])));
+        slice_is = ap text (ends (End.Complete count) e);
         account_is = refl;
       };
-      diverged = λ i why e.
-          ap text (ends (End.Diverged i why) e)
-          ∙ ap (λ (t : List ℕ). t ++ line (codes "end") (end_fields (End.Diverged i why))) (sym (append-nil commits));
+      diverged = λ i why e. ap text (ends (End.Diverged i why) e);
     }

@@ -9,12 +9,13 @@ use Rattle.spec_play.specs.Plays.{Played, opened, plays}
 use Rattle.spec_play.specs.Walks.{walk_end, walked_at}
 use Rattle.spec_play.proofs.Going.{plays-first}
 use Rattle.spec_play.specs.States.{State, state_of, resumed}
+use Rattle.spec_play.specs.Resuming.{IsResumed}
 use Rattle.spec_interval.specs.Slices.{Slice, slice_of}
-use Rattle.spec_interval.specs.Promise.{IsResumed, SlicesResume}
+use Rattle.spec_interval.specs.Promise.{SlicesResume}
 use Rattle.spec_play.proofs.Resuming.{plays_resume}
 
 -- past the first list, of two, the rest is the second's
-drop_over : (xs ys : List Commit) (i : ℕ) → length xs ≤ i → drop i (xs ++ ys) ≡ drop (i - length xs) ys
+pub drop_over : (xs ys : List Commit) (i : ℕ) → length xs ≤ i → drop i (xs ++ ys) ≡ drop (i - length xs) ys
 drop_over [] ys i over = let h : i ≡ i - 0 = omega arith in ap (λ (n : ℕ). drop n ys) h
 drop_over (x ∷ xs) ys zero over = absurd (omega (arith, over))
 drop_over (x ∷ xs) ys (suc i) over =

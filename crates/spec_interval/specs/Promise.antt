@@ -1,18 +1,15 @@
--- What is promised of plays that go on from a state, and of slices.
-use Rattle.std.specs.Prelude.{◌≡◌, ℕ, ◌+◌, ◌≤◌, min, List, [], ◌∷◌, ◌++◌, codes, decimal, Option, Some}
+-- What is promised of slices.
+use Rattle.std.specs.Prelude.{◌≡◌, ℕ, ◌≤◌, min, List, [], ◌∷◌, ◌++◌, codes, decimal}
 use Rattle.dl_account.specs.Account.{account_of}
 use Rattle.dl_account.specs.Lines.{line}
 use Rattle.dl_entry.specs.declared.End.{End}
 use Rattle.dl_entry.specs.declared.Why.{Why}
 use Rattle.spec_log.specs.declared.LogParts.{LogParts}
-use Rattle.spec_play.specs.Progress.{position}
 use Rattle.spec_play.specs.Turns.{Ended}
-use Rattle.spec_play.specs.Plays.{Played, opened, plays, play}
+use Rattle.spec_play.specs.Plays.{play}
 use Rattle.spec_play.specs.States.{state_after}
 use Rattle.spec_play.specs.Resuming.{HasDone}
 use Rattle.spec_interval.specs.Slices.{Slice, slice, lines_between, slice_from}
-
--- ---- slices
 
 -- from the state after any number of commits, none of them past the slice's first
 abbrev pub SlicesResume : Type 0

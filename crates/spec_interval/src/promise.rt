@@ -1,6 +1,5 @@
 //! What is promised of slices. Each promise is a clause of a function that does nothing.
-ghost use Rattle.spec_interval.specs.Promise.{SlicesResume};
-ghost use Rattle.spec_interval.specs.Promise.{SlicesAreAccounts, SlicesJoin, SlicesStopAtCount};
+ghost use Rattle.spec_interval.specs.Promise.{SlicesAreAccounts, SlicesJoin, SlicesResume, SlicesStopAtCount};
 
 /// A slice doesn't depend on the state from which it is played, at or before its first commit.
 pub fn slices_resume()

@@ -1,18 +1,16 @@
 -- A word that no store changed has had its value all along, and the other way round.
-use Rattle.std.proofs.Common.{◌≡◌, ◌≢◌, ◌↔◌, ℕ, zero, suc, ◌*◌, ◌/◌, ◌≤◌, ◌⊎◌, inl, inr, Bool, true, false, cond, not, eqb, List, [], ◌∷◌, ◌++◌, map, Option, Some, None, refl, sym, ap, ◌∙◌, subst, arith}
-use Rattle.std.specs.Prelude.{filter, find}
+use Rattle.std.proofs.Common.{◌≡◌, ℕ, zero, suc, ◌*◌, ◌/◌, ◌⊎◌, inl, inr, Bool, true, false, cond, not, eqb, List, [], ◌∷◌, ◌++◌, Option, Some, None, refl, sym, ap, ◌∙◌, arith}
+use Rattle.std.specs.Prelude.{find}
 use Rattle.std.specs.List.{AllByRecursion}
-use Rattle.std.proofs.lemmas.Bool.{true≢false}
 use Rattle.std.proofs.lemmas.Bool.Decides.{eqb_tells, leb_tells}
 use Rattle.std.proofs.lemmas.Option.{none-some}
-use Rattle.dl_entry.specs.declared.Actor.{Actor}
 use Rattle.spec_isa.specs.Words.{read}
 use Rattle.spec_log.specs.declared.LogParts.{LogParts}
 use Rattle.spec_play.specs.Plays.{Played, opened, play_one, plays}
 use Rattle.spec_query.specs.declared.store.Store.{Store}
 use Rattle.spec_query.specs.declared.line.Line.{Line}
 use Rattle.spec_query.specs.declared.when.When.{When}
-use Rattle.spec_query.specs.Stores.{next_stores, stores, stores_in}
+use Rattle.spec_query.specs.Stores.{next_stores, stores_in}
 use Rattle.spec_query.specs.Queries.{line_of, watch, change, at_change, when_changed}
 use Rattle.spec_query.specs.Promise.{IsOfCommit, Spares, TellCommit, IsAlways, NoChangeIsAlways}
 use Rattle.spec_query.proofs.Told.{stores_are_told}

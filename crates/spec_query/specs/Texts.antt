@@ -1,5 +1,5 @@
 -- Answers as text.
-use Rattle.std.specs.Prelude.{ℕ, List, [], ◌∷◌, ◌++◌, codes, decimal, flat_map, Option, Some, None}
+use Rattle.std.specs.Prelude.{ℕ, List, [], ◌∷◌, codes, decimal, flat_map, Option, Some, None}
 use Rattle.dl_account.specs.Lines.{hex_word, line}
 use Rattle.dl_account.specs.Replays.{why_fields}
 use Rattle.dl_entry.specs.Actor.{code}
@@ -31,4 +31,5 @@ when_text When.None = none_text
 -- `diverged COMMIT WHY`, if the play diverges: then the answer is over the commits before
 abbrev pub end_text : End → List ℕ
 end_text (End.Complete commits) = []
+end_text (End.At commits) = []
 end_text (End.Diverged index why) = line (codes "diverged") (decimal index ∷ why_fields why)

@@ -34,7 +34,7 @@ use Rattle.spec_protocol.specs.machine.Asking.{grant_chunk, grant_serial, asking
 use Rattle.spec_protocol.specs.machine.Commits.{chunk_moved, serial_moved, dma_moved, raised}
 use Rattle.spec_protocol.specs.machine.Finishing.{next}
 use Rattle.spec_protocol.specs.machine.Flying.{draining, delivering, retiring}
-use Rattle.spec_protocol.specs.machine.Machine.{IsReplayed, world_of, act, happens, world_after}
+use Rattle.spec_protocol.specs.machine.Machine.{ReplaySetup, all_of, IsReplayed, world_of, act, happens, world_after}
 use Rattle.spec_protocol.specs.machine.Placing.{placing, raising}
 use Rattle.spec_protocol.specs.machine.Serial.{do_point}
 use Rattle.spec_protocol.specs.machine.Shown.{shown}
@@ -49,9 +49,9 @@ use Rattle.spec_protocol.specs.machine.World.{World, sphere_at}
 abbrev code : List ℕ
 code = image 16 (0x00000893 ∷ 0x00700513 ∷ 0x00000073 ∷ [])
 
--- one core replays the log, with chunks of 100, buffers of 16, a window of 2 and signatures of 64
-abbrev replay : LogParts → World
-replay log =
+-- one core replays what it is asked for, with chunks of 100, buffers of 16, a window of 2 and signatures of 64
+abbrev replay_of : ReplaySetup → World
+replay_of asked =
     world_of
     (record {
       cores = 1;
@@ -59,8 +59,16 @@ replay log =
       numbers = record { s = 100; capacity = 16; bits = 64; depth = 1 };
       seed = 0;
       input = [];
-      spheres = record { memory = code; entry = 0; role = IsReplayed (record { log = log }) } ∷ [];
+      spheres = record { memory = code; entry = 0; role = IsReplayed asked } ∷ [];
     })
+
+-- a whole log
+abbrev replay : LogParts → World
+replay log = replay_of (all_of log)
+
+-- the commits of a log from the first up to the last
+abbrev replay_in : LogParts → (first last : ℕ) → World
+replay_in log first last = replay_of (record { log = log; interval = Some (record { first = first; last = last }) })
 
 abbrev replies : World → List Event → List Reply
 replies w [] = []
@@ -137,6 +145,13 @@ longer_events =
 abbrev serial_events : List Event
 serial_events = Event.Step 0 ∷ Event.Cut 0 ∷ Event.Ask 0 ∷ Event.Step 0 ∷ []
 
+-- the second commit alone, and the first alone
+abbrev second_events : List Event
+second_events = Event.Step 0 ∷ Event.Ask 0 ∷ Event.Step 0 ∷ []
+
+abbrev first_events : List Event
+first_events = Event.Step 0 ∷ Event.Step 0 ∷ Event.Ask 0 ∷ Event.Step 0 ∷ []
+
 -- what a replay refuses while it goes on
 abbrev refused_events : List Event
 refused_events =
@@ -144,10 +159,14 @@ refused_events =
     ∷ Event.Ask 0 ∷ []
 
 -- two instructions and the call
+abbrev two_instructions : Commit
+two_instructions = record { actor = Actor.Thread 0; kind = CommitKind.Chunk; size = 2; loads = []; outputs = [] }
+
+abbrev call : Commit
+call = record { actor = Actor.Thread 0; kind = CommitKind.Serial; size = 0; loads = []; outputs = [] }
+
 abbrev two_commits : List Commit
-two_commits =
-    record { actor = Actor.Thread 0; kind = CommitKind.Chunk; size = 2; loads = []; outputs = [] }
-    ∷ record { actor = Actor.Thread 0; kind = CommitKind.Serial; size = 0; loads = []; outputs = [] } ∷ []
+two_commits = two_instructions ∷ call ∷ []
 
 -- ---- rows
 
@@ -189,6 +208,18 @@ pub record AreReplayed : Type 0 where
       ≡ Reply.Ran ∷ Reply.Closed How.Cut ∷ Reply.Elsewhere 0 ∷ Reply.FromLog ∷ Reply.NotTurn (Actor.Thread 0) ∷ Reply.Waiting
       ∷ Reply.Piece ∷ []
   pub refused_now : now_after (replay whole_log) refused_events ≡ Some (Turn 0)
+  -- an interval begins after the commits before it, and stops after its last; it has ended at once if it has no commit, or
+  -- if the play diverges before its first
+  pub second_replies : replies (replay_in whole_log 1 2) second_events ≡ Reply.Closed How.Serial ∷ Reply.Granted ∷ Reply.Idle ∷ []
+  pub second_commits : commits_after (replay_in whole_log 1 2) second_events ≡ call ∷ []
+  pub second_now : now_after (replay_in whole_log 1 2) second_events ≡ Some (Ended (End.At 2))
+  pub first_replies : replies (replay_in whole_log 0 1) first_events ≡ Reply.Ran ∷ Reply.Closed How.Limit ∷ Reply.Granted ∷ Reply.Stopped ∷ []
+  pub first_commits : commits_after (replay_in whole_log 0 1) first_events ≡ two_instructions ∷ []
+  pub first_now : now_after (replay_in whole_log 0 1) first_events ≡ Some (Ended (End.At 1))
+  pub none_now : now_after (replay_in whole_log 1 1) [] ≡ Some (Ended (End.At 1))
+  pub none_next : next (replay_in whole_log 1 1) ≡ None
+  pub before_now : now_after (replay_in longer_log 1 2) [] ≡ Some (Ended (End.Diverged 0 (Why.Short 3 2)))
+  pub before_next : next (replay_in longer_log 1 2) ≡ None
 
 pub replays_end : AreReplayed
 unfolding serial_of loads_of next_of load_of store_of one lay read merged answer called bytes_put random_bytes random_after next_kind next_operation need fits serve console_written play_one dma_verdict has_left_over now_at chunk_verdict serial_verdict on_option choose at_limit reading storing loading running step first_slot free_slot meets grant_chunk grant_serial asking chunk_moved serial_moved dma_moved raised next draining delivering retiring act happens placing raising do_point shown head_of turn_against limit_of stepping cutting transfer transferring
@@ -215,4 +246,14 @@ replays_end =
       serial_replies = refl;
       refused_replies = refl;
       refused_now = refl;
+      second_replies = refl;
+      second_commits = refl;
+      second_now = refl;
+      first_replies = refl;
+      first_commits = refl;
+      first_now = refl;
+      none_now = refl;
+      none_next = refl;
+      before_now = refl;
+      before_next = refl;
     }

@@ -1,3 +1,4 @@
+pub mod Intervals
 pub mod Commits
 pub mod Replays
 mod Examples

@@ -12,10 +12,10 @@ use Rattle.spec_run.specs.Runs.{points_of, executed}
 use Rattle.spec_run.specs.Texts.{account_as, account_text, console_text, log_as, log_of_points, log_text}
 use Rattle.spec_run.specs.Promise.{AccountsAgree, AreAlike, TextsAreOfPoints}
 
--- two runs that agree on a replayed sphere's image and log write the same account of it
+-- two runs that agree on a replayed sphere's image, log and interval write the same account of it
 pub accounts_agree : AccountsAgree
 unfolding account_text
-accounts_agree s z es fs i j log role same =
+accounts_agree s z es fs i j asked role same =
     ap (λ (image : SphereSetup). account_as image (sphere_in (executed z fs) j) image.role) same
     ∙ ap (account_as (image_at s i) (sphere_in (executed z fs) j)) role
     ∙ sym (ap (account_as (image_at s i) (sphere_in (executed s es) i)) role)

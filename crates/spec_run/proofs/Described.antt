@@ -13,7 +13,7 @@ use Rattle.spec_protocol.specs.declared.event.Event.{Event}
 use Rattle.spec_protocol.specs.machine.Spheres.{Recording, Role, Plain, Record, Replay, Cursor, Sphere, no_sphere, is_over}
 use Rattle.spec_protocol.specs.machine.Placing.{replays}
 use Rattle.spec_protocol.specs.machine.World.{World, sphere_at}
-use Rattle.spec_protocol.specs.machine.Machine.{last_played, ReplaySetup, RecordSetup, RoleSetup, IsPlain, IsRecorded, IsReplayed, SphereSetup, Setup, world_of, happens, world_after}
+use Rattle.spec_protocol.specs.machine.Machine.{all_of, last_played, ReplaySetup, RecordSetup, RoleSetup, IsPlain, IsRecorded, IsReplayed, SphereSetup, Setup, world_of, happens, world_after}
 use Rattle.spec_protocol.specs.machine.Serial.{serial_start, serial, CanDoAll}
 use Rattle.spec_protocol.specs.machine.Logged.{sphere_in, supplied, logged}
 use Rattle.spec_protocol.specs.promises.Logs.{IsLogFresh}
@@ -22,6 +22,7 @@ use Rattle.spec_protocol.specs.machine.Finishing.{next, Finishes}
 use Rattle.spec_protocol.specs.promises.Promises.{IsSetup, after, WillRecord}
 use Rattle.spec_protocol.specs.promises.PlayingBack.{PlaysBack}
 use Rattle.spec_replay.specs.Promises.{IsPlayed}
+use Rattle.spec_replay.proofs.Intervals.{now_as}
 use Rattle.spec_finishing.specs.Ending.{Ends, CanFinish, IsAtEnd}
 use Rattle.spec_finishing.specs.Function.{finished, finishing_of, most_events}
 use Rattle.spec_protocol.proofs.Points.Serial.{commits_are}
@@ -34,7 +35,7 @@ use Rattle.spec_finishing.proofs.Ending.Knowing.{within, there_is, kinds_after}
 use Rattle.spec_finishing.proofs.Next.All.{next-stands}
 use Rattle.spec_finishing.proofs.Ending.Played.{replays_finished}
 use Rattle.spec_finishing.proofs.Next.Turns.{shown-itself}
-use Rattle.spec_run.specs.Runs.{executed, played, end_of}
+use Rattle.spec_run.specs.Runs.{executed, played, end_of, played_end}
 use Rattle.spec_run.specs.Texts.{account_as, executed_account, log_of_points, played_account}
 use Rattle.spec_run.specs.Promise.{end_as, account_held, HasRole, SpheresAreDescribed, RunsAreDescribed, RecordingsAreReproduced}
 
@@ -144,28 +145,35 @@ live_end (Replay b) n e = absurd (true≢false e)
 
 held_executed : (p : Sphere) → replays p.role ≡ false → account_held p ≡ executed_account p
 held_executed p live =
-    ap (account_of p.progress.commits p.threads p.progress.request p.memory) (live_end p.role (position p.progress) live)
+    ap (account_of p.progress.first p.progress.commits p.threads p.progress.request p.memory) (live_end p.role (position p.progress) live)
 
 over_how : (now : TurnOrEnd) → is_over now ≡ true → (how : End) × (now ≡ Ended how)
 over_how (Turn k) e = absurd (true≢false (sym e))
 over_how TurnOfDma e = absurd (true≢false (sym e))
 over_how (Ended how) e = (how, refl)
 
--- a complete play leaves its state; of one that diverged, no state is described
-held_played : (y : Played) (p : Sphere) (b : Cursor) (how : End) → IsPlayed y p b → b.now ≡ Ended how → account_of p.progress.commits p.threads p.progress.request p.memory (end_of b.now) ≡ played_account y
-held_played y p b (End.Complete n) is over =
+-- the account of what a sphere is, if it ended so
+abbrev account_at : Sphere → End → List ℕ
+account_at p how = account_of p.progress.first p.progress.commits p.threads p.progress.request p.memory how
+
+-- with the play's state and end it has the play's account
+whole_account : (asked : ReplaySetup) (y : Played) (p : Sphere) (b : Cursor) → IsPlayed asked y p b → p.memory ≡ y.memory → p.threads ≡ y.threads → account_at p (end_of b.now) ≡ played_account y (end_of (now_as asked y))
+whole_account asked y p b is memory threads =
     let progress = is.progress in
-    let threads = is.threads (End.Complete n) over refl in
-    let memory = is.memory (End.Complete n) over refl in
     let now = is.now in
-    (λ j. account_of (progress j).commits (threads j) (progress j).request (memory j) (end_of (now j)))
-held_played y p b (End.Diverged n why) is over =
+    (λ j. account_of (progress j).first (progress j).commits (threads j) (progress j).request (memory j) (end_of (now j)))
+
+-- a play that didn't diverge leaves its state; of one that did, no state is described
+held_played : (asked : ReplaySetup) (y : Played) (p : Sphere) (b : Cursor) (how : End) → IsPlayed asked y p b → b.now ≡ Ended how → account_at p (end_of b.now) ≡ played_account y (end_of (now_as asked y))
+held_played asked y p b (End.Complete n) is over = whole_account asked y p b is (is.memory (End.Complete n) over refl) (is.threads (End.Complete n) over refl)
+held_played asked y p b (End.At n) is over = whole_account asked y p b is (is.memory (End.At n) over refl) (is.threads (End.At n) over refl)
+held_played asked y p b (End.Diverged n why) is over =
     let progress = is.progress in
     let end_is : end_of b.now ≡ End.Diverged n why = ap end_of over in
-    let tells : End.Diverged n why ≡ end_of y.now = ap end_of (sym over ∙ is.now) in
-    ap (account_of p.progress.commits p.threads p.progress.request p.memory) end_is
-    ∙ (λ j. account_of (progress j).commits p.threads p.progress.request p.memory (End.Diverged n why))
-    ∙ ap (account_of y.progress.commits y.threads y.progress.request y.memory) tells
+    let tells : End.Diverged n why ≡ end_of (now_as asked y) = ap end_of (sym over ∙ is.now) in
+    ap (account_at p) end_is
+    ∙ (λ j. account_of (progress j).first (progress j).commits p.threads p.progress.request p.memory (End.Diverged n why))
+    ∙ ap (played_account y) tells
 
 -- ---- by the role
 
@@ -174,25 +182,25 @@ live_described s es i image p can t live =
     ap account_held t.at ∙ held_executed p live ∙ ap executed_account (sym (executed-is s es i image p can t live))
 
 -- what is known of a replay at its end
-record IsReplayedTo (s : Setup) (es : List Event) (i : ℕ) (image : SphereSetup) (log : LogParts) (p : Sphere) : Type 0 where
+record IsReplayedTo (s : Setup) (es : List Event) (i : ℕ) (image : SphereSetup) (asked : ReplaySetup) (p : Sphere) : Type 0 where
   cursor : Cursor
   role : p.role ≡ Replay cursor
-  played : IsPlayed (last_played image log) p cursor
+  played : IsPlayed asked (last_played image asked) p cursor
   over : (how : End) × (cursor.now ≡ Ended how)
 
 same_sphere : (p q : Sphere) → Some p ≡ Some q → p ≡ q
 same_sphere p q e = cc
 
-abbrev HasPlayedIn : (image : SphereSetup) (log : LogParts) (i : ℕ) → World → Type 0
-HasPlayedIn image log i w =
-    (p : Sphere) × ((b : Cursor) × ((slice_get w.spheres i ≡ Some p) × ((p.role ≡ Replay b) × IsPlayed (last_played image log) p b)))
+abbrev HasPlayedIn : (image : SphereSetup) (asked : ReplaySetup) (i : ℕ) → World → Type 0
+HasPlayedIn image asked i w =
+    (p : Sphere) × ((b : Cursor) × ((slice_get w.spheres i ≡ Some p) × ((p.role ≡ Replay b) × IsPlayed asked (last_played image asked) p b)))
 
-has_played : (s : Setup) (es : List Event) (i : ℕ) (image : SphereSetup) (asked : ReplaySetup) → CanFinish s → slice_get s.spheres i ≡ Some image → image.role ≡ IsReplayed asked → HasPlayedIn image asked.log i (finished s es)
+has_played : (s : Setup) (es : List Event) (i : ℕ) (image : SphereSetup) (asked : ReplaySetup) → CanFinish s → slice_get s.spheres i ≡ Some image → image.role ≡ IsReplayed asked → HasPlayedIn image asked i (finished s es)
 has_played s es i image asked can is role =
     let h = replays_finished image asked s es (finishing_of s es) i can (ends s es can).finishes is role in
-    subst (HasPlayedIn image asked.log i) (after_both (world_of s) es (finishing_of s es)) (h.sphere, (h.cursor, (h.there, (h.role, h.played))))
+    subst (HasPlayedIn image asked i) (after_both (world_of s) es (finishing_of s es)) (h.sphere, (h.cursor, (h.there, (h.role, h.played))))
 
-replayed-to : (s : Setup) (es : List Event) (i : ℕ) (image : SphereSetup) (asked : ReplaySetup) (p : Sphere) → CanFinish s → slice_get s.spheres i ≡ Some image → IsThere s es i image p → image.role ≡ IsReplayed asked → IsReplayedTo s es i image asked.log p
+replayed-to : (s : Setup) (es : List Event) (i : ℕ) (image : SphereSetup) (asked : ReplaySetup) (p : Sphere) → CanFinish s → slice_get s.spheres i ≡ Some image → IsThere s es i image p → image.role ≡ IsReplayed asked → IsReplayedTo s es i image asked p
 replayed-to s es i image asked p can is t role =
     let h = has_played s es i image asked can is role in
     let b : Cursor = h.1.0 in
@@ -202,15 +210,15 @@ replayed-to s es i image asked p can is t role =
     record {
       cursor = b;
       role = ap (λ (q : Sphere). q.role) (sym same) ∙ h.1.1.1.0;
-      played = subst (λ (q : Sphere). IsPlayed (last_played image asked.log) q b) same h.1.1.1.1;
+      played = subst (λ (q : Sphere). IsPlayed asked (last_played image asked) q b) same h.1.1.1.1;
       over = over_how b.now over;
     }
 
-replayed_described : (s : Setup) (es : List Event) (i : ℕ) (image : SphereSetup) (log : LogParts) (p : Sphere) → IsThere s es i image p → IsReplayedTo s es i image log p → account_held (sphere_at (finished s es) i) ≡ played_account (played log image)
-replayed_described s es i image log p t r =
+replayed_described : (s : Setup) (es : List Event) (i : ℕ) (image : SphereSetup) (asked : ReplaySetup) (p : Sphere) → IsThere s es i image p → IsReplayedTo s es i image asked p → account_held (sphere_at (finished s es) i) ≡ played_account (played asked image) (played_end asked image)
+replayed_described s es i image asked p t r =
     ap account_held t.at
-    ∙ ap (λ (role : Role). account_of p.progress.commits p.threads p.progress.request p.memory (end_as role (position p.progress))) r.role
-    ∙ held_played (played log image) p r.cursor r.over.0 r.played r.over.1
+    ∙ ap (λ (role : Role). account_at p (end_as role (position p.progress))) r.role
+    ∙ held_played asked (played asked image) p r.cursor r.over.0 r.played r.over.1
 
 -- ---- a sphere
 
@@ -229,12 +237,12 @@ has_role s es i image p (IsReplayed asked) can is t role =
 account_described : (s : Setup) (es : List Event) (i : ℕ) (image : SphereSetup) (p : Sphere) (role : RoleSetup) → CanFinish s → slice_get s.spheres i ≡ Some image → IsThere s es i image p → image.role ≡ role → account_held (sphere_at (finished s es) i) ≡ account_as image (sphere_in (executed s es) i) role
 account_described s es i image p IsPlain can is t role = live_described s es i image p can t (t.kind ∙ ap is_replayed role)
 account_described s es i image p (IsRecorded asked) can is t role = live_described s es i image p can t (t.kind ∙ ap is_replayed role)
-account_described s es i image p (IsReplayed asked) can is t role = replayed_described s es i image asked.log p t (replayed-to s es i image asked p can is t role)
+account_described s es i image p (IsReplayed asked) can is t role = replayed_described s es i image asked p t (replayed-to s es i image asked p can is t role)
 
 same_cursor : (b c : Cursor) → Replay b ≡ Replay c → b ≡ c
 same_cursor b c e = cc
 
-played_to : (s : Setup) (es : List Event) (i : ℕ) (image : SphereSetup) (p : Sphere) (asked : ReplaySetup) (b : Cursor) → CanFinish s → slice_get s.spheres i ≡ Some image → IsThere s es i image p → image.role ≡ IsReplayed asked → (sphere_at (finished s es) i).role ≡ Replay b → b.now ≡ (played asked.log image).now
+played_to : (s : Setup) (es : List Event) (i : ℕ) (image : SphereSetup) (p : Sphere) (asked : ReplaySetup) (b : Cursor) → CanFinish s → slice_get s.spheres i ≡ Some image → IsThere s es i image p → image.role ≡ IsReplayed asked → (sphere_at (finished s es) i).role ≡ Replay b → b.now ≡ now_as asked (played asked image)
 played_to s es i image p asked b can is t role replay =
     let r = replayed-to s es i image asked p can is t role in
     let same : b ≡ r.cursor = same_cursor b r.cursor (sym replay ∙ ap (λ (q : Sphere). q.role) t.at ∙ r.role) in
@@ -267,10 +275,10 @@ runs_described s es is =
 -- ---- what follows
 
 -- a play that is complete has the account of what it leaves
-play_account : (y : Played) (p : Sphere) (n : ℕ) → y.now ≡ Ended (End.Complete n) → n ≡ position p.progress → y.memory ≡ p.memory → y.threads ≡ p.threads → y.progress ≡ p.progress → played_account y ≡ executed_account p
+play_account : (y : Played) (p : Sphere) (n : ℕ) → y.now ≡ Ended (End.Complete n) → n ≡ position p.progress → y.memory ≡ p.memory → y.threads ≡ p.threads → y.progress ≡ p.progress → played_account y (end_of y.now) ≡ executed_account p
 play_account y p n now few memory threads progress =
     let end_is : end_of y.now ≡ End.Complete (position p.progress) = ap end_of now ∙ ap End.Complete few in
-    (λ j. account_of (progress j).commits (threads j) (progress j).request (memory j) (end_is j))
+    (λ j. account_of (progress j).first (progress j).commits (threads j) (progress j).request (memory j) (end_is j))
 
 -- the log of a recorded sphere fits its image, and the account of its play is that of the recording
 pub recordings_reproduced : RecordingsAreReproduced
@@ -288,5 +296,5 @@ recordings_reproduced s es i image asked can is role =
     let count : log.count ≡ position p.progress = fresh.count ∙ ap (λ (q : Sphere). position q.progress) t.1.at in
     record {
       fits = back.fit;
-      account = play_account (played log image) p log.count back.fit count back.memory back.threads back.progress ∙ ap executed_account (sym x);
+      account = play_account (played (all_of log) image) p log.count back.fit count back.memory back.threads back.progress ∙ ap executed_account (sym x);
     }

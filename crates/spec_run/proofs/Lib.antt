@@ -1,3 +1,4 @@
 pub mod Described
 pub mod Room
 pub mod Agreeing
+pub mod Slices

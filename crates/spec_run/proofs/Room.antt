@@ -27,7 +27,7 @@ use Rattle.spec_protocol.specs.machine.Commits.{MovedSphere, granted_as, by_verd
 use Rattle.spec_protocol.specs.machine.World.{Numbers, Occupant, World, EventOutcome, moment, sphere_at, with_sphere, thread_afresh, core_of}
 use Rattle.spec_protocol.specs.machine.Flying.{drain_slot, reads_of, writes_of, told, delivering, retiring, younger_of, hits_younger}
 use Rattle.spec_protocol.specs.machine.Placing.{replays, with_renewed, raise_in}
-use Rattle.spec_protocol.specs.machine.Machine.{SphereSetup, Setup, sphere_of, world_of, act, happens, world_after}
+use Rattle.spec_protocol.specs.machine.Machine.{RoleSetup, IsPlain, IsRecorded, IsReplayed, SphereSetup, Setup, sphere_as, sphere_of, world_of, act, happens, world_after}
 use Rattle.spec_protocol.specs.promises.Invariants.{IsGood}
 use Rattle.spec_protocol.specs.promises.Promises.{after}
 use Rattle.spec_protocol.specs.promises.Sound.{IsWithinLimits}
@@ -265,12 +265,17 @@ first-then w e k =
 
 -- ---- the start
 
+role-new : (s : ℕ) (d : SphereSetup) (r : RoleSetup) → IsNew (sphere_as s d r)
+role-new s d IsPlain live = refl
+role-new s d (IsRecorded asked) live = refl
+role-new s d (IsReplayed asked) live = absurd (true≢false live)
+
 first-new : (s : ℕ) (d : SphereSetup) → IsNew (sphere_of s d)
-first-new s d live = refl
+first-new s d = role-new s d d.role
 
 start-new : (s : ℕ) (ds : List SphereSetup) → AreNew (map (sphere_of s) ds)
 start-new s [] i live = refl
-start-new s (d ∷ ds) zero live = refl
+start-new s (d ∷ ds) zero live = first-new s d live
 start-new s (d ∷ ds) (suc i) live = start-new s ds i live
 
 afresh-open : (z : Numbers) (i k : ℕ) (p : Sphere) (o : Option Parts) (h : Occupant) → thread_afresh z i k p o ≡ Some h → h.chunk.closed ≡ None

@@ -96,7 +96,7 @@ abbrev pub IntervalsAreSlices : Type 0
 IntervalsAreSlices =
     (image : SphereSetup) (log : LogParts) (i : Interval)
     → IsWithin log.count i
-    → let asked = record { log = log; interval = Some i } in
+    → let asked : ReplaySetup = record { log = log; interval = Some i } in
     played_account (played asked image) (played_end asked image)
     ≡ (slice log image.memory image.entry i.first i.last).text
 

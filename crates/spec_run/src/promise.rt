@@ -1,10 +1,10 @@
 //! What is promised of runs. Each promise is a clause of a function that does nothing.
-ghost use Rattle.spec_run.specs.Promise.{AccountsAgree, RecordingsAreReproduced, RunsAreDescribed, SchedulesLeaveRoom, SpheresAreDescribed, TextsAreOfPoints};
+ghost use Rattle.spec_run.specs.Promise.{AccountsAgree, IntervalsAreSlices, RecordingsAreReproduced, RunsAreDescribed, SchedulesLeaveRoom, SpheresAreDescribed, TextsAreOfPoints};
 
 /// Once a run is over, what a sphere of the machine holds is what its account tells: a plain or recorded one has the
 /// commits, threads, request and memory of executing the points whole, one at a time, and a recorded one the log of
-/// these points; a replayed one has the commits and the end of its log's play, and if it is complete, the play's
-/// threads, request and memory.
+/// these points; a replayed one has the commits and the end of its log's play, as far as it is replayed, and if it didn't
+/// diverge, the play's threads, request and memory.
 pub fn spheres_are_described()
     ensures { SpheresAreDescribed }
 {}
@@ -20,7 +20,14 @@ pub fn recordings_are_reproduced()
     ensures { RecordingsAreReproduced }
 {}
 
-/// Two runs that agree on a sphere's image, memory size and log write the same account of it, whatever else differs.
+/// The account of a replayed interval is the slice of its log's play on its image: from the interval's first commit up to
+/// its last.
+pub fn intervals_are_slices()
+    ensures { IntervalsAreSlices }
+{}
+
+/// Two runs that agree on a sphere's image, memory size, log and interval write the same account of it, whatever else
+/// differs.
 pub fn accounts_agree()
     ensures { AccountsAgree }
 {}

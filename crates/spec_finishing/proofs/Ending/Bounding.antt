@@ -1,19 +1,23 @@
 -- The work of a run bounds what is left after its schedule.
 use Rattle.std.proofs.Common.{◌≡◌, ℕ, zero, suc, ◌+◌, ◌*◌, ◌≤◌, List, [], ◌∷◌, ◌++◌, map, replicate, Option, Some, None, refl, sym, ap, ◌∙◌, subst, arith}
-use Rattle.spec_play.specs.Progress.{no_progress, nothing_used}
+use Rattle.spec_play.specs.Progress.{position}
+use Rattle.spec_play.specs.Plays.{Played}
 use Rattle.spec_protocol.specs.declared.event.Event.{Event}
+use Rattle.spec_protocol.specs.machine.Spheres.{Cursor}
 use Rattle.spec_protocol.specs.machine.World.{Numbers, World, Move}
-use Rattle.spec_protocol.specs.machine.Commits.{turned}
-use Rattle.spec_protocol.specs.machine.Machine.{first_threads, first_played, RoleSetup, IsPlain, IsRecorded, IsReplayed, SphereSetup, Setup, role_of, sphere_of, world_of, happens, world_after, with_move, moves}
+use Rattle.spec_protocol.specs.machine.Commits.{between}
+use Rattle.spec_protocol.specs.machine.Machine.{first_played, RoleSetup, IsPlain, IsRecorded, IsReplayed, SphereSetup, Setup, sphere_as, sphere_of, world_of, happens, world_after, with_move, moves}
 use Rattle.spec_protocol.specs.machine.Serial.{SerialState, serial_start}
 use Rattle.spec_protocol.specs.machine.Shown.{shown_of}
 use Rattle.spec_protocol.specs.machine.Moves.{do_if}
 use Rattle.spec_protocol.specs.promises.Promises.{after}
 use Rattle.spec_protocol.proofs.Invariants.Schedules.{happens-preserved, start-shown}
 use Rattle.spec_replay.specs.Promises.{ReplaysArePlays}
+use Rattle.spec_replay.proofs.Intervals.{commits_of}
 use Rattle.spec_finishing.specs.Work.{commits_work, setup_work, plays_work, moves_work}
-use Rattle.spec_finishing.specs.Rank.{play_left, replay_left, price, role_rank, flights_rank, spheres_rank, potential}
+use Rattle.spec_finishing.specs.Rank.{play_left, replay_left, price, flights_rank, spheres_rank, potential}
 use Rattle.spec_finishing.specs.Ending.{work, CanFinish}
+use Rattle.spec_finishing.proofs.Left.Rows.{sphere_rank}
 use Rattle.spec_finishing.proofs.Left.Pricing.{price-none, price-sum, price-least}
 use Rattle.spec_finishing.proofs.Paying.Plays.{left-most}
 use Rattle.spec_finishing.proofs.Ending.Knowing.{Known, known-after, after-event}
@@ -25,14 +29,16 @@ free_none : (c n : ℕ) → flights_rank c (replicate n None) ≡ 0
 free_none c zero = refl
 free_none c (suc n) = let r = free_none c n in omega (arith, r)
 
-start_role : (c s : ℕ) (image : SphereSetup) (r : RoleSetup) → role_rank c image (sphere_of s image) (role_of s (first_threads image) r) ≤ price c (setup_work image r)
+start_role : (c s : ℕ) (image : SphereSetup) (r : RoleSetup) → sphere_rank c image (sphere_as s image r) ≤ price c (setup_work image r)
 start_role c s image IsPlain = omega arith
 start_role c s image (IsRecorded asked) = omega arith
 start_role c s image (IsReplayed asked) =
-    let x = first_played image asked.log in
-    let l = left-most image (turned asked.log no_progress nothing_used (first_threads image)) 0 in
-    let e : play_left asked.log x 0 0 ≡ commits_work asked.log x 0 asked.log.count = omega arith in
-    price-least c (replay_left image (turned asked.log no_progress nothing_used (first_threads image)) 0) (commits_work asked.log x 0 asked.log.count) (omega (arith, l, e))
+    let x : Played = first_played image asked in
+    let n : ℕ = commits_of asked in
+    let b : Cursor = between asked.log asked.interval (position x.progress) x.used x.now in
+    let l = left-most image b 0 in
+    let e : play_left asked.log x n 0 0 ≡ commits_work asked.log x 0 n = omega arith in
+    price-least c (replay_left image b 0) (commits_work asked.log x 0 n) (omega (arith, l, e))
 
 start_spheres : (c s : ℕ) (images : List SphereSetup) → spheres_rank c images (map (sphere_of s) images) ≤ price c (plays_work images)
 start_spheres c s [] = let e = price-none c in omega (arith, e)

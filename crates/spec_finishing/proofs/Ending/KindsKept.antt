@@ -14,7 +14,7 @@ use Rattle.spec_protocol.specs.machine.Commits.{MovedSphere, by_verdict, chunk_i
 use Rattle.spec_protocol.specs.machine.Placing.{replays}
 use Rattle.spec_protocol.specs.machine.World.{Numbers, MoveKind, OfChunk, OfSerial, OfDma, OfRaise, Move}
 use Rattle.spec_protocol.specs.machine.Asking.{is_short}
-use Rattle.spec_protocol.specs.machine.Machine.{RoleSetup, IsPlain, IsRecorded, IsReplayed, SphereSetup, role_of, sphere_of}
+use Rattle.spec_protocol.specs.machine.Machine.{RoleSetup, IsPlain, IsRecorded, IsReplayed, SphereSetup, sphere_as, sphere_of}
 use Rattle.spec_protocol.specs.machine.Serial.{SerialState, laid, do_serial, do_dma, do_raise}
 use Rattle.spec_protocol.specs.machine.Moves.{move_chunk, do_what, do_at, do_move, do_moves}
 
@@ -108,15 +108,15 @@ kind-at (a ∷ images) (x ∷ ps) zero image p there is all =
     ap (λ (y : Sphere). replays y.role) (sym e) ∙ all.0 ∙ ap (λ (y : SphereSetup). is_replayed y.role) f
 kind-at (a ∷ images) (x ∷ ps) (suc i) image p there is all = kind-at images ps i image p there is all.1
 
-start_kind : (s : ℕ) (ts : List Parts) (r : RoleSetup) → replays (role_of s ts r) ≡ is_replayed r
-start_kind s ts IsPlain = refl
-start_kind s ts (IsRecorded asked) = refl
-start_kind s ts (IsReplayed asked) = refl
+start_kind : (s : ℕ) (image : SphereSetup) (r : RoleSetup) → replays (sphere_as s image r).role ≡ is_replayed r
+start_kind s image IsPlain = refl
+start_kind s image (IsRecorded asked) = refl
+start_kind s image (IsReplayed asked) = refl
 
 -- the spheres that a setup starts are of their setups' kinds
 pub start-kinds : (s : ℕ) (images : List SphereSetup) → AreOfKinds images (map (sphere_of s) images)
 start-kinds s [] = tt
-start-kinds s (image ∷ images) = (start_kind s _ image.role, start-kinds s images)
+start-kinds s (image ∷ images) = (start_kind s image image.role, start-kinds s images)
 
 -- ---- a move
 

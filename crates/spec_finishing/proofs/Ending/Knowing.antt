@@ -64,7 +64,7 @@ goes_after : ReplaysArePlays → (s : Setup) (es : List Event) → CanFinish s �
 goes_after plays s es can i image p b there is role going =
     let kind = kind-at s.spheres (shown_of (after s es)).spheres i image p there is (kinds_after s es can.setup) in
     let asked = replayed_is image.role (sym kind ∙ ap replays role) in
-    goes-on image asked.0.log p b
+    goes-on image asked.0 p b
     (plays image asked.0 s es i p
     (record { setup = can.setup; there = there; replays = asked.1; standard = can.standard i image asked.0 there asked.1; shown = is })) role going
 

@@ -1,4 +1,4 @@
--- Once finishing has ended, every replay has done its log's whole play.
+-- Once finishing has ended, every replay has done the whole play that was asked for.
 use Rattle.std.proofs.Common.{◌≡◌, ℕ, ◌<◌, true, List, [], ◌∷◌, ◌++◌, length, Some, None, refl, ap, ◌∙◌, subst, arith}
 use Rattle.std.specs.Prelude.{slice_get}
 use Rattle.spec_protocol.specs.declared.event.Event.{Event}
@@ -27,7 +27,7 @@ after_both : (w : World) (es fs : List Event) → world_after w (es ++ fs) ≡ w
 after_both w [] fs = refl
 after_both w (e ∷ es) fs = after_both (happens w e).world es fs
 
-played_at : (image : SphereSetup) (asked : ReplaySetup) (s : Setup) (es : List Event) (i : ℕ) → CanFinish s → next (after s es) ≡ None → slice_get s.spheres i ≡ Some image → image.role ≡ IsReplayed asked → HasPlayed image asked.log s es i
+played_at : (image : SphereSetup) (asked : ReplaySetup) (s : Setup) (es : List Event) (i : ℕ) → CanFinish s → next (after s es) ≡ None → slice_get s.spheres i ≡ Some image → image.role ≡ IsReplayed asked → HasPlayed image asked s es i
 played_at image asked s es i can none there replayed =
     let w = after s es in
     let shown = shown-itself w (next-stands w none) in
@@ -46,7 +46,7 @@ played_at image asked s es i can none there replayed =
           (record { setup = can.setup; there = there; replays = replayed; standard = can.standard i image asked there replayed; shown = shows }) b.1 over;
     }
 
--- once finishing has ended, each replay has done its log's whole play
+-- once finishing has ended, each replay has done the whole play that was asked for
 pub replays_finished : ReplaysAreFinished
 replays_finished image asked s es finishing i can finishes there replayed =
     let same = after_both (world_of s) es finishing in

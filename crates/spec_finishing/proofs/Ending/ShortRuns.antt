@@ -10,7 +10,9 @@ use Rattle.spec_isa.specs.Words.{Stored, lay, lays, IsBytes}
 use Rattle.spec_kernel.specs.Devices.{Devices}
 use Rattle.spec_kernel.specs.Needs.{Need, need}
 use Rattle.spec_kernel.specs.Answers.{Taken, taken, dma_bytes}
+use Rattle.spec_play.specs.declared.interval.Interval.{Interval}
 use Rattle.spec_play.specs.Progress.{position}
+use Rattle.spec_play.specs.Intervals.{commits_in, IsWithinIf}
 use Rattle.spec_engine.specs.declared.answers.How.{How}
 use Rattle.spec_engine.specs.Flights.{Flight, at}
 use Rattle.spec_protocol.specs.declared.event.Event.{Event}
@@ -48,11 +50,18 @@ use Rattle.spec_finishing.proofs.Ending.Short.{FewIf, record-few, serve-most, dm
 
 -- ---- plays
 
+few_in : (count : ℕ) (i : Option Interval) → IsWithinIf count i → commits_in count i ≤ count
+few_in count None is = omega arith
+few_in count (Some i) is = let most = is.most in omega (arith, most)
+
 setup-few : (s : ℕ) (image : SphereSetup) (r : RoleSetup) → IsRole s r → setup_work image r ≤ 65541 * 2 ^ 24
 setup-few s image IsPlain is = omega arith
 setup-few s image (IsRecorded asked) is = omega arith
 setup-few s image (IsReplayed asked) is =
-    let l = commits-few asked.log (first_played image asked.log) 0 asked.log.count is in let c = is.count in omega (arith, l, c)
+    let l = commits-few asked.log (first_played image asked) 0 (commits_in asked.log.count asked.interval) is.0 in
+    let few = few_in asked.log.count asked.interval is.1 in
+    let c = is.0.count in
+    omega (arith, l, few, c)
 
 plays-few : (s : ℕ) (ds : List SphereSetup) → ((i : ℕ) (d : SphereSetup) → slice_get ds i ≡ Some d → IsImage s d) → plays_work ds ≤ (65541 * 2 ^ 24) * length ds
 plays-few s [] each = omega arith
@@ -189,7 +198,7 @@ setups_finish s limits =
       window = (let l = limits.window.0 in omega (arith, l));
       standard = λ i image asked there replays_.
           let is = subst (IsRole s.numbers.s) replays_ (limits.images i image there).role in
-          let l = is.s.0 in
+          let l = is.0.s.0 in
           omega (arith, l);
     }
 

@@ -1,5 +1,5 @@
 -- A commit or a piece of a replay pays, with the work that its play then no longer has left, for a new flight and its events.
-use Rattle.std.proofs.Common.{◌≡◌, ◌≢◌, ℕ, suc, ◌+◌, ◌-◌, ◌<◌, ◌≤◌, Bool, true, false, ◌++◌, Some, refl, sym, ap, ◌∙◌, subst, arith}
+use Rattle.std.proofs.Common.{◌≡◌, ◌≢◌, ℕ, suc, ◌+◌, ◌-◌, ◌<◌, ◌≤◌, Bool, true, false, ◌++◌, length, Some, refl, sym, ap, ◌∙◌, subst, arith}
 use Rattle.std.specs.Prelude.{slice_get}
 use Rattle.std.proofs.lemmas.Bool.{true≢false}
 use Rattle.dl_entry.specs.declared.End.{End}
@@ -7,25 +7,25 @@ use Rattle.spec_isa.specs.declared.thread.Parts.{Parts}
 use Rattle.spec_isa.specs.Runs.{Run, run}
 use Rattle.spec_kernel.specs.Devices.{Devices}
 use Rattle.spec_play.specs.Progress.{position, with_effect}
-use Rattle.spec_play.specs.Turns.{Ended}
+use Rattle.spec_play.specs.Turns.{Ended, now_at}
 use Rattle.spec_play.specs.Verdicts.{LogVerdict, Goes, Fails, chunk_verdict}
 use Rattle.spec_play.specs.Plays.{with_threads}
 use Rattle.spec_engine.specs.declared.answers.How.{How}
 use Rattle.spec_protocol.specs.machine.Spheres.{Cursor, Role, Replay, Sphere, is_over, limit_of}
-use Rattle.spec_protocol.specs.machine.Commits.{turned, is_piece, joined, by_verdict, replayed_chunk, chunk_in, chunk_moved}
+use Rattle.spec_protocol.specs.machine.Commits.{between, is_piece, joined, by_verdict, replayed_chunk, chunk_in, chunk_moved}
 use Rattle.spec_protocol.specs.machine.Placing.{replays}
 use Rattle.spec_protocol.specs.machine.World.{Numbers}
-use Rattle.spec_protocol.specs.machine.Machine.{first_played, SphereSetup}
+use Rattle.spec_protocol.specs.machine.Machine.{SphereSetup}
 use Rattle.spec_protocol.specs.machine.Serial.{laid}
 use Rattle.spec_protocol.specs.machine.Moves.{ChunkFits}
 use Rattle.spec_finishing.specs.Work.{commit_work}
 use Rattle.spec_finishing.specs.Rank.{replay_left, price}
 use Rattle.spec_finishing.proofs.Paying.Affording.{Afforded, Enough, Lone}
-use Rattle.spec_finishing.proofs.Paying.Plays.{left-over, left-going, left-step, left-turned, later, paid, afford-paid, afford-some, whole-pays, piece-pays}
+use Rattle.spec_finishing.proofs.Paying.Plays.{first_of, count_of, left-over, left-going, left-step, left-turned, later, paid, afford-paid, afford-some, whole-pays, piece-pays}
 use Rattle.spec_finishing.proofs.Paying.GoingOn.{play_of, GoesOn, has-run, part-afforded}
 use Rattle.spec_finishing.proofs.Left.Rows.{sphere_rank}
+use Rattle.spec_replay.proofs.Commits.Done.{done_in, one_more}
 use Rattle.spec_replay.proofs.Replays.Moved.{turn_of_thread}
-use Rattle.spec_play.proofs.Positions.{position-more}
 
 -- ---- before and after
 
@@ -35,7 +35,7 @@ next_work image p b = commit_work b.log (play_of image b p)
 
 -- the work that a play has after its next commit
 abbrev pub behind : SphereSetup → Sphere → Cursor → ℕ
-behind image p b = later b.log (first_played image b.log) (position p.progress)
+behind image p b = later b.log (first_of image b) (count_of b) (done_in p)
 
 -- ---- parts of a commit
 
@@ -64,7 +64,7 @@ module _ (c : ℕ) (image : SphereSetup) (p : Sphere) (b : Cursor) (role : p.rol
   pub rank-before : sphere_rank c image p ≡ price c ((next_work image p b + behind image p b) - b.total)
   rank-before =
       (λ i. sphere_rank c image (record p { role = role i }))
-      ∙ ap (price c) (left-going image b (position p.progress) going ∙ left-step b.log (first_played image b.log) (position p.progress) b.total g.ahead)
+      ∙ ap (price c) (left-going image b (done_in p) going ∙ left-step b.log (first_of image b) (count_of b) (done_in p) b.total g.ahead)
 
   -- a verdict on the whole commit, with what its flight costs, leaves the sphere no more to do than before
   pub verdict-pays : (k : ℕ) (x : LogVerdict) (devices : Devices) (l : ℕ) → suc b.total ≤ next_work image p b → l ≤ price c (next_work image p b - b.total)
@@ -72,16 +72,17 @@ module _ (c : ℕ) (image : SphereSetup) (p : Sphere) (b : Cursor) (role : p.rol
   verdict-pays k (Fails why) devices l some enough =
       let before = rank-before in
       let ended : Cursor = record b { now = Ended (End.Diverged (position p.progress) why) } in
-      let over = left-over image ended (position p.progress) refl in
-      let pays = whole-pays c (next_work image p b) b.total (behind image p b) l some enough (replay_left image ended (position p.progress)) (omega (arith, over)) in
+      let over = left-over image ended (done_in p) refl in
+      let pays = whole-pays c (next_work image p b) b.total (behind image p b) l some enough (replay_left image ended (done_in p)) (omega (arith, over)) in
       omega (arith, before, pays)
   verdict-pays k (Goes e u) devices l some enough =
       let before = rank-before in
       let progress = with_effect k e p.progress in
-      let size : position progress ≡ suc (position p.progress) = position-more p.progress e.commit in
-      let after = turned b.log progress u (with_threads k e p.threads) in
-      let most = left-turned image b.log progress u (with_threads k e p.threads) (position p.progress) size in
-      let pays = whole-pays c (next_work image p b) b.total (behind image p b) l some enough (replay_left image after (position progress)) most in
+      let now = now_at b.log progress u (with_threads k e p.threads) in
+      let after = between b.log b.interval (position progress) u now in
+      let size = ap (replay_left image after) (one_more p.progress.commits e.commit) in
+      let most = left-turned image b (position progress) u now (done_in p) in
+      let pays = whole-pays c (next_work image p b) b.total (behind image p b) l some enough (replay_left image after (length progress.commits)) (omega (arith, size, most)) in
       omega (arith, before, pays)
 
   -- ---- chunks
@@ -92,9 +93,8 @@ module _ (c : ℕ) (image : SphereSetup) (p : Sphere) (b : Cursor) (role : p.rol
   piece_rank k r n devices is some afford =
       let before = rank-before in
       let part : Cursor = record b { total = b.total + r.n; loads = b.loads ++ r.loads } in
-      let x = first_played image b.log in
-      let after : price c (replay_left image part (position p.progress)) ≡ price c ((next_work image p b + behind image p b) - (b.total + n)) =
-      ap (price c) (left-going image part (position p.progress) going ∙ left-step b.log x (position p.progress) part.total g.ahead
+      let after : price c (replay_left image part (done_in p)) ≡ price c ((next_work image p b + behind image p b) - (b.total + n)) =
+      ap (price c) (left-going image part (done_in p) going ∙ left-step b.log (first_of image b) (count_of b) (done_in p) part.total g.ahead
       ∙ ap (λ (a : ℕ). (next_work image p b + behind image p b) - (b.total + a)) is)
       in
       let pays = piece-pays c (next_work image p b) b.total (behind image p b) n (part_done (next_work image p b) b.total n afford) some in

@@ -11,23 +11,23 @@ use Rattle.spec_kernel.specs.Devices.{Devices}
 use Rattle.spec_kernel.specs.Needs.{next_kind}
 use Rattle.spec_play.specs.Effects.{dma_commit}
 use Rattle.spec_play.specs.Progress.{position, with_dma, with_dma_used}
-use Rattle.spec_play.specs.Turns.{TurnOfDma, Ended}
+use Rattle.spec_play.specs.Turns.{TurnOfDma, Ended, now_at}
 use Rattle.spec_play.specs.Verdicts.{LogVerdict, Goes, Fails, serial_verdict}
 use Rattle.spec_play.specs.Transfers.{DmaVerdict, DmaGoes, DmaFails, dma_verdict}
 use Rattle.spec_protocol.specs.machine.Spheres.{Cursor, Role, Replay, Sphere, is_over, is_in_pieces}
-use Rattle.spec_protocol.specs.machine.Commits.{MovedSphere, turned, by_verdict, serial_in, serial_moved, dma_by_verdict, dma_in, dma_moved}
+use Rattle.spec_protocol.specs.machine.Commits.{MovedSphere, between, by_verdict, serial_in, serial_moved, dma_by_verdict, dma_in, dma_moved}
 use Rattle.spec_protocol.specs.machine.Machine.{SphereSetup}
 use Rattle.spec_protocol.specs.machine.Serial.{laid}
 use Rattle.spec_protocol.specs.machine.Moves.{SerialFits, DmaFits}
 use Rattle.spec_finishing.specs.Work.{stored, dma_stored, thread_work, turn_work, now_work, commit_work}
 use Rattle.spec_finishing.specs.Rank.{replay_left, price}
 use Rattle.spec_finishing.proofs.Paying.Plays.{left-over, left-turned, words-paid, whole-pays}
-use Rattle.spec_finishing.proofs.Paying.GoingOn.{play_of, GoesOn, HasPieces, has-run, is-whole, thread-now}
+use Rattle.spec_finishing.proofs.Paying.GoingOn.{play_of, GoesOn, play-now, HasPieces, has-run, is-whole, thread-now}
 use Rattle.spec_finishing.proofs.Left.Rows.{sphere_rank}
 use Rattle.spec_finishing.proofs.Paying.Commits.{next_work, behind, rank-before, verdict-pays}
 use Rattle.spec_replay.proofs.Replays.Moved.{turn_of_thread, turn_of_dma}
 use Rattle.spec_replay.proofs.Commits.Standing.{set_here}
-use Rattle.spec_play.proofs.Positions.{position-more}
+use Rattle.spec_replay.proofs.Commits.Done.{done_in, one_more}
 
 -- ---- serial steps
 
@@ -102,29 +102,30 @@ dma_rank : (c : ℕ) (image : SphereSetup) (p : Sphere) (b : Cursor) (x : DmaVer
 dma_rank c image p b (DmaFails why) devices role going g none work =
     let before = rank-before c image p b role going g in
     let ended : Cursor = record b { now = Ended (End.Diverged (position p.progress) why) } in
-    let over = left-over image ended (position p.progress) refl in
+    let over = left-over image ended (done_in p) refl in
     let e : next_work image p b - b.total ≡ 1 = omega (arith, none, work) in
     let h = ap (price c) e in
     let paid_ = words-paid c 0 in
-    let pays = whole-pays c (next_work image p b) b.total (behind image p b) ((0 + c + 1) + 3) (omega (arith, none, work)) (omega (arith, h, paid_)) (replay_left image ended (position p.progress)) (omega (arith, over)) in
+    let pays = whole-pays c (next_work image p b) b.total (behind image p b) ((0 + c + 1) + 3) (omega (arith, none, work)) (omega (arith, h, paid_)) (replay_left image ended (done_in p)) (omega (arith, over)) in
     omega (arith, before, pays)
 dma_rank c image p b (DmaGoes words) devices role going g none work =
     let before = rank-before c image p b role going g in
     let progress = with_dma p.progress in
-    let after = turned b.log progress (with_dma_used b.used) p.threads in
-    let size : position progress ≡ suc (position p.progress) = position-more p.progress dma_commit in
-    let most = left-turned image b.log progress (with_dma_used b.used) p.threads (position p.progress) size in
+    let now = now_at b.log progress (with_dma_used b.used) p.threads in
+    let after = between b.log b.interval (position progress) (with_dma_used b.used) now in
+    let size = ap (replay_left image after) (one_more p.progress.commits dma_commit) in
+    let most = left-turned image b (position progress) (with_dma_used b.used) now (done_in p) in
     let e : next_work image p b - b.total ≡ suc (length words) = omega (arith, none, work) in
     let h = ap (price c) e in
     let paid_ = words-paid c (length words) in
-    let pays = whole-pays c (next_work image p b) b.total (behind image p b) ((length words + c + 1) + 3) (omega (arith, none, work)) (omega (arith, h, paid_)) (replay_left image after (position progress)) most in
+    let pays = whole-pays c (next_work image p b) b.total (behind image p b) ((length words + c + 1) + 3) (omega (arith, none, work)) (omega (arith, h, paid_)) (replay_left image after (length progress.commits)) (omega (arith, size, most)) in
     omega (arith, before, pays)
 
 dma_is : (image : SphereSetup) (p : Sphere) (b : Cursor) → GoesOn image p b → b.now ≡ TurnOfDma → next_work image p b ≡ suc (dma_stored (dma_verdict b.log p.progress b.used))
 unfolding commit_work
 dma_is image p b g turn =
     let y = play_of image b p in
-    ap (now_work b.log y) (sym g.now ∙ turn) ∙ (λ i. suc (dma_stored (dma_verdict b.log (sym g.progress i) (sym g.used i))))
+    ap (now_work b.log y) (play-now image p b TurnOfDma g refl turn) ∙ (λ i. suc (dma_stored (dma_verdict b.log (sym g.progress i) (sym g.used i))))
 
 -- the DMA of the sphere
 abbrev pub DmaPays : (c : ℕ) → SphereSetup → Sphere → Option MovedSphere → Type 0

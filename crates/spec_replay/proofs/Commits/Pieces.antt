@@ -6,13 +6,13 @@ use Rattle.spec_isa.specs.declared.thread.Parts.{Parts}
 use Rattle.spec_isa.specs.declared.thread.Load.{Load}
 use Rattle.spec_isa.specs.Words.{lays}
 use Rattle.spec_isa.specs.Runs.{Run, run}
-use Rattle.spec_log.specs.declared.LogParts.{LogParts}
 use Rattle.spec_kernel.specs.Devices.{Devices}
 use Rattle.spec_play.specs.Turns.{TurnOrEnd, Turn}
 use Rattle.spec_play.specs.Plays.{Played}
 use Rattle.spec_protocol.specs.machine.Spheres.{Cursor, Role, Sphere, whole_limit, pieces_of, limit_in, limit_of}
 use Rattle.spec_protocol.specs.machine.Commits.{piece_moved}
 use Rattle.spec_protocol.specs.machine.World.{Numbers}
+use Rattle.spec_protocol.specs.machine.Machine.{ReplaySetup}
 use Rattle.spec_protocol.specs.machine.Serial.{laid}
 use Rattle.spec_protocol.proofs.Moves.Granted.{get-set_same}
 use Rattle.spec_protocol.proofs.Moves.Threads.{run-keeps}
@@ -43,7 +43,7 @@ limit_left a w l = omega arith
 -- ---- within a turn
 
 -- it is the turn of thread k, which is t in the play
-module _ (log : LogParts) (start y : Played) (p : Sphere) (b : Cursor) (k : ℕ) (t : Parts) (h : HasTurn log start y p b k t) where
+module _ (asked : ReplaySetup) (start y : Played) (p : Sphere) (b : Cursor) (k : ℕ) (t : Parts) (h : HasTurn asked start y p b k t) where
   part_from : (u : Parts) (n : ℕ) → u ≡ (run y.memory t b.total).thread → (rest_of y.memory (run y.memory t b.total) n).n ≡ n → IsPart y k t u p b n (rest_of y.memory (run y.memory t b.total) n)
   part_from u n is ran =
       let r : Run = run y.memory t b.total in
@@ -68,21 +68,21 @@ module _ (log : LogParts) (start y : Played) (p : Sphere) (b : Cursor) (k : ℕ)
   -- ---- the limit of a part
 
   -- the instructions of the pieces and the limit of a new part are together the limit of the commit
-  pub part-limit : (z : Numbers) (u : Parts) (limit : ℕ) → u.commits ≡ t.commits → limit ≡ limit_of z.s p.role k u → b.total + limit ≡ whole_limit log k t.commits
+  pub part-limit : (z : Numbers) (u : Parts) (limit : ℕ) → u.commits ≡ t.commits → limit ≡ limit_of z.s p.role k u → b.total + limit ≡ whole_limit asked.log k t.commits
   unfolding limit_of
   part-limit z u limit commits limited =
       let turn : b.now ≡ Turn k = h.same ∙ h.turn in
-      let l : limit ≡ max 1 (whole_limit log k t.commits - b.total) =
+      let l : limit ≡ max 1 (whole_limit asked.log k t.commits - b.total) =
       limited ∙ ap (λ (r : Role). limit_in r z.s k u.commits) h.beside.role
       ∙ (λ i. max 1 (whole_limit (h.beside.same_log i) k (commits i) - pieces_of (turn i) k b.total))
-      ∙ ap (λ (n : ℕ). max 1 (whole_limit log k t.commits - n)) (pieces_own k b.total)
+      ∙ ap (λ (n : ℕ). max 1 (whole_limit asked.log k t.commits - n)) (pieces_own k b.total)
       in
-      ap (λ (n : ℕ). b.total + n) l ∙ limit_left b.total (whole_limit log k t.commits) h.moved.within
+      ap (λ (n : ℕ). b.total + n) l ∙ limit_left b.total (whole_limit asked.log k t.commits) h.moved.within
 
   -- ---- a piece
 
-  moved_piece : (u : Parts) (n : ℕ) (r : Run) (devices : Devices) → IsPart y k t u p b n r → b.total + n < whole_limit log k t.commits
-      → IsMovedOn log y k t (laid (piece_moved b k r devices p)) (record b { total = b.total + r.n; loads = b.loads ++ r.loads })
+  moved_piece : (u : Parts) (n : ℕ) (r : Run) (devices : Devices) → IsPart y k t u p b n r → b.total + n < whole_limit asked.log k t.commits
+      → IsMovedOn asked.log y k t (laid (piece_moved b k r devices p)) (record b { total = b.total + r.n; loads = b.loads ++ r.loads })
   moved_piece u n r devices part within =
       let whole : Run = run y.memory t (b.total + n) in
       let e : run y.memory t (b.total + r.n) ≡ whole = ap (λ (x : ℕ). run y.memory t (b.total + x)) part.size in
@@ -97,18 +97,23 @@ module _ (log : LogParts) (start y : Played) (p : Sphere) (b : Cursor) (k : ℕ)
       }
 
   -- a piece leaves the sphere in its log's play
-  pub piece-reaches : (u : Parts) (n : ℕ) (r : Run) (devices : Devices) → IsPart y k t u p b n r → b.total + n < whole_limit log k t.commits → Reaches log start (laid (piece_moved b k r devices p))
+  pub piece-reaches : (u : Parts) (n : ℕ) (r : Run) (devices : Devices) → IsPart y k t u p b n r → b.total + n < whole_limit asked.log k t.commits → Reaches asked start (laid (piece_moved b k r devices p))
   piece-reaches u n r devices part within =
       let c : Cursor = record b { total = b.total + r.n; loads = b.loads ++ r.loads } in
       let q : Sphere = laid (piece_moved b k r devices p) in
-      subst (λ (z : Played). Follows log z q) h.at_
-      record {
+      let follows : Follows asked y q = record {
         cursor = c;
         role = refl;
         same_log = h.beside.same_log;
+        same_interval = h.beside.same_interval;
         progress = h.beside.progress;
         used = h.beside.used;
         now = inl h.same;
         ended = λ how e. h.same ∙ e;
-        state = subst (λ (x : TurnOrEnd). StandsAt log y x q c) (sym h.turn) (t, moved_piece u n r devices part within);
+        state = subst (λ (x : TurnOrEnd). StandsAt asked.log y x q c) (sym h.turn) (t, moved_piece u n r devices part within);
+      }
+      in
+      record {
+        follows = subst (λ (z : Played). Follows asked z q) h.at_ follows;
+        within = (let l = h.room in omega arith);
       }

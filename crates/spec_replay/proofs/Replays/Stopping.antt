@@ -1,113 +1,140 @@
--- A replay that has stopped has done its log's whole play.
-use Rattle.std.proofs.Common.{◌≡◌, ℕ, suc, ◌+◌, inl, inr, true, refl, sym, ap, ◌∙◌, subst, arith}
+-- A replay that has stopped has done the whole play of what it was asked for.
+use Rattle.std.proofs.Common.{◌≡◌, ℕ, suc, ◌+◌, ◌-◌, ◌<◌, ◌≤◌, inl, inr, Bool, true, false, refl, sym, ap, ◌∙◌, subst, arith}
 use Rattle.std.specs.Prelude.{◌⊎◌}
 use Rattle.std.proofs.lemmas.Bool.{true≢false}
 use Rattle.dl_entry.specs.declared.End.{End}
-use Rattle.spec_log.specs.declared.LogParts.{LogParts}
 use Rattle.spec_play.specs.Progress.{position}
-use Rattle.spec_play.specs.Turns.{TurnOrEnd, Turn, TurnOfDma, Ended}
-use Rattle.spec_play.specs.Plays.{Played, play_one, plays}
-use Rattle.spec_play.proofs.Going.{over-stays, plays-stay, play-over}
+use Rattle.spec_play.specs.Turns.{TurnOrEnd, Ended}
+use Rattle.spec_play.specs.Plays.{Played, plays}
+use Rattle.spec_play.proofs.Going.{plays-stay}
 use Rattle.spec_protocol.specs.machine.Spheres.{Cursor, Replay, Sphere, is_over}
+use Rattle.spec_protocol.specs.machine.Machine.{ReplaySetup, last_played, first_played}
 use Rattle.spec_replay.specs.Following.{IsWhole, StandsAt, EndsWithin, Follows}
 use Rattle.spec_replay.specs.Promises.{ends_between, StoppedArePlayed}
+use Rattle.spec_replay.proofs.Intervals.{commits_of, now_as, end-in, diverged-in, ended_in, IsStart, is-start, room-left, last-there}
+use Rattle.spec_replay.proofs.Commits.Done.{done_in, Reaches}
 use Rattle.spec_replay.proofs.Replays.Ending.{ends-between}
-use Rattle.spec_replay.proofs.Replays.All.{replays_follow}
-use Rattle.spec_protocol.specs.machine.Machine.{last_played, first_played}
-
--- ---- the last state of a play, told by a replay that has stopped
-
--- this is how far the play gets
-pub record IsLast (log : LogParts) (start : Played) (n : ℕ) (p : Sphere) (b : Cursor) : Type 0 where
-  pub how : End
-  pub over : b.now ≡ Ended how
-  pub now : (plays log start n).now ≡ Ended how
-  pub progress : p.progress ≡ (plays log start n).progress
-
-stopped_how : (now : TurnOrEnd) → is_over now ≡ true → (how : End) × (now ≡ Ended how)
-stopped_how (Turn k) e = absurd (true≢false (sym e))
-stopped_how TurnOfDma e = absurd (true≢false (sym e))
-stopped_how (Ended how) e = (how, refl)
-
-last_with : (log : LogParts) (start : Played) (p : Sphere) (b : Cursor) (o : (b.now ≡ (plays log start (position p.progress)).now) ⊎ EndsWithin log (plays log start (position p.progress)) b) → is_over b.now ≡ true → p.progress ≡ (plays log start (position p.progress)).progress
-    → IsLast log start (suc (position p.progress)) p b
-last_with log start p b (inl e) stopped same =
-    let y : Played = plays log start (position p.progress) in
-    let h = stopped_how b.now stopped in
-    let stays : play_one log y ≡ y = over-stays log y h.0 (sym e ∙ h.1) in
-    record { how = h.0; over = h.1; now = ap (λ (x : Played). x.now) stays ∙ sym e ∙ h.1; progress = same ∙ ap (λ (x : Played). x.progress) (sym stays) }
-last_with log start p b (inr w) stopped same =
-    let y : Played = plays log start (position p.progress) in
-    record {
-      how = End.Diverged (position y.progress) w.why;
-      over = w.over;
-      now = ap (λ (x : Played). x.now) w.diverges;
-      progress = same ∙ ap (λ (x : Played). x.progress) (sym w.diverges);
-    }
+use Rattle.spec_replay.proofs.Replays.All.{replays_reach}
 
 -- ---- a replay that is in the play, by its cursor
 
 -- the sphere is where the play is, or ends within its next commit
-pub record IsAt (log : LogParts) (y : Played) (p : Sphere) (b : Cursor) : Type 0 where
+pub record IsAt (asked : ReplaySetup) (y : Played) (p : Sphere) (b : Cursor) : Type 0 where
   pub progress : p.progress ≡ y.progress
-  pub now : (b.now ≡ y.now) ⊎ EndsWithin log y b
-  pub state : StandsAt log y y.now p b
+  pub now : (b.now ≡ now_as asked y) ⊎ EndsWithin asked.log y b
+  pub ended : (how : End) → now_as asked y ≡ Ended how → b.now ≡ Ended how
+  pub state : StandsAt asked.log y (now_as asked y) p b
 
 -- a replayed sphere that follows its log's play is at the play's place
-pub is_at : (log : LogParts) (y : Played) (p : Sphere) (b : Cursor) → p.role ≡ Replay b → Follows log y p → IsAt log y p b
-is_at log y p b role f =
+is_at : (asked : ReplaySetup) (y : Played) (p : Sphere) (b : Cursor) → p.role ≡ Replay b → Follows asked y p → IsAt asked y p b
+is_at asked y p b role f =
     let e : f.cursor ≡ b = (let h : Replay f.cursor ≡ Replay b = sym f.role ∙ role in cc) in
-    subst (IsAt log y p) e (record { progress = f.progress; now = f.now; state = f.state })
+    subst (IsAt asked y p) e (record { progress = f.progress; now = f.now; ended = f.ended; state = f.state })
 
--- the sphere is at its log's play after its own number of commits
-abbrev pub Reached : LogParts → Played → Sphere → Cursor → Type 0
-Reached log start p b = IsAt log (plays log start (position p.progress)) p b
+-- the sphere is at its log's play after its own number of commits, of which it has done no more than are asked for
+pub record Reached (asked : ReplaySetup) (start : Played) (p : Sphere) (b : Cursor) : Type 0 where
+  pub from : IsStart asked start
+  pub here : IsAt asked (plays asked.log start (done_in p)) p b
+  pub within : done_in p ≤ commits_of asked
 
--- a replay that is over is at the last state of its play
-pub last_of : (log : LogParts) (start : Played) (p : Sphere) (b : Cursor) → Reached log start p b → is_over b.now ≡ true → IsLast log start (suc (position p.progress)) p b
-last_of log start p b k stopped = last_with log start p b k.now stopped k.progress
+pub reached : (asked : ReplaySetup) (start : Played) (p : Sphere) (b : Cursor) → IsStart asked start → p.role ≡ Replay b → Reaches asked start p → Reached asked start p b
+reached asked start p b from role r =
+    record { from = from; here = is_at asked (plays asked.log start (done_in p)) p b role r.follows; within = r.within }
 
--- the play comes to one last state, from wherever it is looked at
-pub meet : (log : LogParts) (start : Played) (m n : ℕ) (how other : End) → (plays log start m).now ≡ Ended how → (plays log start n).now ≡ Ended other → plays log start m ≡ plays log start n
-meet log start m n how other a b =
-    let e : n + m ≡ m + n = omega arith in
-    sym (plays-stay log start m n how a) ∙ ap (plays log start) e ∙ plays-stay log start n m other b
+-- ---- the last state of a play, told by a replay that has stopped
+
+-- the play of all that is asked for
+abbrev pub last_of : ReplaySetup → Played → Played
+last_of asked start = plays asked.log start (commits_of asked)
+
+-- the replay has the play's commits, and its end
+pub record IsLast (asked : ReplaySetup) (last : Played) (p : Sphere) (b : Cursor) : Type 0 where
+  pub progress : p.progress ≡ last.progress
+  pub now : b.now ≡ now_as asked last
+
+module _ (asked : ReplaySetup) (start : Played) (p : Sphere) (b : Cursor) (r : Reached asked start p b) where
+  -- the play has ended where the sphere is
+  last_here : is_over (now_as asked (plays asked.log start (done_in p))) ≡ true → IsLast asked (last_of asked start) p b
+  last_here over =
+      let y : Played = plays asked.log start (done_in p) in
+      let e = ended_in (now_as asked y) over in
+      let same : last_of asked start ≡ y = last-there asked start r.from (done_in p) over r.within in
+      record {
+        progress = r.here.progress ∙ ap (λ (z : Played). z.progress) (sym same);
+        now = r.here.ended e.0 e.1 ∙ sym e.1 ∙ ap (now_as asked) (sym same);
+      }
+
+  -- the sphere has ended within the play's next commit
+  last_within : EndsWithin asked.log (plays asked.log start (done_in p)) b → is_over (now_as asked (plays asked.log start (done_in p))) ≡ false → IsLast asked (last_of asked start) p b
+  last_within w going =
+      let n : ℕ = done_in p in
+      let y : Played = plays asked.log start n in
+      let how : End = End.Diverged (position y.progress) w.why in
+      let z : Played = record y { now = Ended how } in
+      let room : n < commits_of asked = room-left asked start r.from n going in
+      let more : commits_of asked ≡ (commits_of asked - suc n) + suc n = omega (arith, room) in
+      let one : plays asked.log start (suc n) ≡ z = w.diverges in
+      let same : last_of asked start ≡ z =
+      ap (plays asked.log start) more ∙ plays-stay asked.log start (suc n) (commits_of asked - suc n) how (ap (λ (x : Played). x.now) one) ∙ one
+      in
+      record {
+        progress = r.here.progress ∙ ap (λ (x : Played). x.progress) (sym same);
+        now = w.over ∙ diverged-in asked.interval asked.log.count (position y.progress) (position y.progress) w.why y.now going ∙ ap (now_as asked) (sym same);
+      }
+
+  -- by whether the play has ended there
+  last_by : (over : Bool) → is_over (now_as asked (plays asked.log start (done_in p))) ≡ over → (b.now ≡ now_as asked (plays asked.log start (done_in p))) ⊎ EndsWithin asked.log (plays asked.log start (done_in p)) b → is_over b.now ≡ true → IsLast asked (last_of asked start) p b
+  last_by true over o stopped = last_here over
+  last_by false going (inl e) stopped = absurd (true≢false (sym stopped ∙ ap is_over e ∙ going))
+  last_by false going (inr w) stopped = last_within w going
+
+  -- a replay that has stopped is at the last state of its play
+  pub is_last : is_over b.now ≡ true → IsLast asked (last_of asked start) p b
+  is_last stopped = last_by (is_over (now_as asked (plays asked.log start (done_in p)))) refl r.here.now stopped
+
+-- ---- memory and threads
 
 same_end : (a b : End) → Ended a ≡ Ended b → a ≡ b
 same_end a b e = cc
 
 -- a replay that has ended between two commits is where the play has ended
-pub end_between : (log : LogParts) (y : Played) (b : Cursor) (how : End) (o : (b.now ≡ y.now) ⊎ EndsWithin log y b) → b.now ≡ Ended how → ends_between how ≡ true → y.now ≡ Ended how
-end_between log y b how (inl e) is between = sym e ∙ is
-end_between log y b how (inr w) is between =
+pub end_between : (asked : ReplaySetup) (y : Played) (b : Cursor) (how : End) (o : (b.now ≡ now_as asked y) ⊎ EndsWithin asked.log y b) → ((h : End) → now_as asked y ≡ Ended h → b.now ≡ Ended h) → b.now ≡ Ended how → ends_between how ≡ true → now_as asked y ≡ Ended how
+end_between asked y b how (inl e) ended is between = sym e ∙ is
+end_between asked y b how (inr w) ended is between =
     let h : End.Diverged (position y.progress) w.why ≡ how = same_end _ how (sym w.over ∙ is) in
-    ends-between log y w.why w.diverges (ap ends_between h ∙ between) ∙ ap Ended h
+    let over = ends-between asked.log y w.why w.diverges (ap ends_between h ∙ between) in
+    let o = end-in asked.interval asked.log.count (position y.progress) y.now (End.Diverged (position y.progress) w.why) over in
+    o.1 ∙ sym (ended o.0 o.1) ∙ is
 
 -- if the play is over, the replay has done whole commits
-pub whole_now : (log : LogParts) (y : Played) (p : Sphere) (b : Cursor) (how : End) → y.now ≡ Ended how → StandsAt log y y.now p b → IsWhole y p b
-whole_now log y p b how e s = subst (λ (now : TurnOrEnd). StandsAt log y now p b) e s
+pub whole_now : (asked : ReplaySetup) (y : Played) (p : Sphere) (b : Cursor) (how : End) → now_as asked y ≡ Ended how → StandsAt asked.log y (now_as asked y) p b → IsWhole y p b
+whole_now asked y p b how e s = subst (λ (now : TurnOrEnd). StandsAt asked.log y now p b) e s
+
+-- where the play is then, and that no piece is done
+record IsWholeAt (y last : Played) (p : Sphere) (b : Cursor) : Type 0 where
+  same : last ≡ y
+  whole : IsWhole y p b
+
+whole_at : (asked : ReplaySetup) (start : Played) (p : Sphere) (b : Cursor) (how : End) → Reached asked start p b → b.now ≡ Ended how → ends_between how ≡ true → IsWholeAt (plays asked.log start (done_in p)) (last_of asked start) p b
+whole_at asked start p b how r is between =
+    let y : Played = plays asked.log start (done_in p) in
+    let over : now_as asked y ≡ Ended how = end_between asked y b how r.here.now r.here.ended is between in
+    record {
+      same = last-there asked start r.from (done_in p) (ap is_over over) r.within;
+      whole = whole_now asked y p b how over r.here.state;
+    }
 
 -- ---- the promise
 
--- a replay that has stopped has done its log's whole play
+-- a replay that has stopped has done the whole play
 pub stopped_played : StoppedArePlayed
 stopped_played image asked s es i p b x role stopped =
-    let log = asked.log in
-    let start : Played = first_played image log in
-    let n : ℕ = position p.progress in
-    let y : Played = plays log start n in
-    let k : Reached log start p b = is_at log y p b role (replays_follow image asked s es i p x) in
-    let l = last_of log start p b k stopped in
-    let o = play-over log image.memory image.entry in
-    let same : plays log start (suc n) ≡ last_played image log = meet log start (suc n) log.count l.how o.0 l.now o.1 in
-    let whole : (how : End) → b.now ≡ Ended how → ends_between how ≡ true → (y ≡ last_played image log) × IsWhole y p b =
-    (λ how is between.
-    let over : y.now ≡ Ended how = end_between log y b how k.now is between in
-    (meet log start n log.count how o.0 over o.1, whole_now log y p b how over k.state))
-    in
+    let start : Played = first_played image asked in
+    let r : Reached asked start p b = reached asked start p b (is-start image asked) role (replays_reach image asked s es i p x) in
+    let l : IsLast asked (last_played image asked) p b = is_last asked start p b r stopped in
     record {
-      progress = l.progress ∙ ap (λ (z : Played). z.progress) same;
-      now = l.over ∙ sym l.now ∙ ap (λ (z : Played). z.now) same;
-      memory = λ how is between. let w = whole how is between in w.1.memory ∙ ap (λ (z : Played). z.memory) w.0;
-      threads = λ how is between. let w = whole how is between in w.1.threads ∙ ap (λ (z : Played). z.threads) w.0;
+      progress = l.progress;
+      now = l.now;
+      memory = λ how is between. let w = whole_at asked start p b how r is between in w.whole.memory ∙ ap (λ (z : Played). z.memory) (sym w.same);
+      threads = λ how is between. let w = whole_at asked start p b how r is between in w.whole.threads ∙ ap (λ (z : Played). z.threads) (sym w.same);
     }
