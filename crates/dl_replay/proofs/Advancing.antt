@@ -6,22 +6,24 @@ use Rattle.dl_entry.specs.declared.End.{End}
 use Rattle.dl_entry.specs.declared.commit.Commit.{Commit}
 use Rattle.spec_isa.specs.declared.thread.Parts.{Parts}
 use Rattle.spec_log.specs.Head.{head}
+use Rattle.spec_log.specs.Log.{IsLog}
 use Rattle.spec_log.specs.declared.log.LogParts.{LogParts}
 use Rattle.spec_kernel.specs.Interrupts.{is_live}
 use Rattle.spec_play.proofs.Positions.{position-more}
 use Rattle.spec_play.specs.declared.interval.Interval.{Interval}
 use Rattle.spec_play.specs.declared.used.Used.{Used}
 use Rattle.spec_play.specs.Progress.{Progress, position}
+use Rattle.spec_play.specs.Resuming.{IsBounded}
 use Rattle.spec_play.specs.Spawned.{AreNew}
 use Rattle.spec_play.specs.States.{progress_from}
 use Rattle.spec_play.specs.Intervals.{at_end_of_log, now_in}
-use Rattle.spec_play.specs.Turns.{Ended, now_at, turn_of, at_end, has_left_over}
+use Rattle.spec_play.specs.Turns.{TurnOrEnd, Ended, now_at, turn_of, at_end, has_left_over}
 use Rattle.spec_protocol.specs.machine.Spheres.{is_over}
 use Rattle.dl_kernel.specs.declared.state.State.{State}
 use Rattle.dl_kernel.specs.Calls.{spawned_list}
 use Rattle.dl_kernel.specs.States.{state_in}
-use Rattle.dl_replay.specs.Following.{Following, followed, followed_from}
-use Rattle.dl_replay.specs.Replays.{Agrees}
+use Rattle.dl_replay.specs.Following.{Following, followed_from}
+use Rattle.dl_replay.specs.Replays.{Agrees, IsInside, IsReplaying}
 
 -- ---- whose turn it is
 
@@ -72,11 +74,26 @@ left-from log i s r e going =
     let p = progress_from (state_in s) in
     omega (arith, now-left log i p s.used s.threads (sym (ap (λ (x : Following). is_over x.now) e) ∙ going))
 
+-- a replay that goes on from a state within its log
+pub goes-on : (log : LogParts) (i : Option Interval) (s : State) → IsLog log → IsBounded log (state_in s) → IsInside (length s.memory) s.request
+    → IsReplaying (followed_from log i (state_in s)) s
+goes-on log i s is bounded inside = record { is_log = is; bounded = bounded; left = left-from log i s (followed_from log i (state_in s)) refl; request = inside }
+
+-- whose turn it is at a state, by the number of its commits
+pub followed-is : (log : LogParts) (i : Option Interval) (s : State) (now : TurnOrEnd)
+    → now ≡ now_in i log.count s.commits (now_at log (progress_from (state_in s)) s.used s.threads)
+    → record { log = log; interval = i; now = now; total = 0 } ≡ followed_from log i (state_in s)
+followed-is log i s now e =
+    let p = progress_from (state_in s) in
+    let at : s.commits ≡ position p = omega arith in
+    ap (λ (n : TurnOrEnd). record { log = log; interval = i; now = n; total = 0 })
+    (e ∙ ap (λ (n : ℕ). now_in i log.count n (now_at log p s.used s.threads)) at)
+
 -- one commit more is done
 pub one-more : (p : Progress) (c : Commit) (n : ℕ) → position p ≡ n → p.first + length (p.commits ++ c ∷ []) ≡ n + 1
 one-more p c n d = omega (arith, position-more p c, d)
 
-abbrev AreBelow : ℕ → List Parts → Type 0
+abbrev pub AreBelow : ℕ → List Parts → Type 0
 AreBelow n ts = (k : ℕ) (t : Parts) → slice_get ts k ≡ Some t → t.commits ≤ n
 
 spawned-below : (n : ℕ) (ts : List Parts) (spawned : Option Parts) → AreBelow n ts → AreNew (spawned_list spawned) → AreBelow (n + 1) (ts ++ spawned_list spawned)
@@ -94,3 +111,9 @@ settled-below n (x ∷ ts) zero u spawned below one new zero t e = let same : u 
 settled-below n (x ∷ ts) zero u spawned below one new (suc k) t e = spawned-below n ts spawned (λ j. below (suc j)) new k t e
 settled-below n (x ∷ ts) (suc number) u spawned below one new zero t e = omega (arith, below zero t e)
 settled-below n (x ∷ ts) (suc number) u spawned below one new (suc k) t e = settled-below n ts number u spawned (λ j. below (suc j)) one new k t e
+
+-- ---- optional values
+
+-- two values that are there and equal as optional values are equal
+pub some-same : {X : Type 0} {x y : X} → Some x ≡ Some y → x ≡ y
+some-same e = cc

@@ -5,6 +5,7 @@ mod Turns
 mod Verdicts
 mod Kept
 mod Lists
-mod Limits
+pub mod Limits
 mod Requests
-mod Advancing
+pub mod Advancing
+pub mod Answered

@@ -1,5 +1,5 @@
 -- No whole chunk is larger than a standard chunk.
-use Rattle.std.proofs.Common.{◌≡◌, ℕ, zero, suc, ◌+◌, ◌-◌, ◌<◌, ◌≤◌, ◌^◌, ◌==◌, ◌&&◌, max, List, [], ◌∷◌, All, length, find, option_map, slice_get, Option, Some, None, inl, inr, refl, ap, sym, ◌∙◌, arith}
+use Rattle.std.proofs.Common.{◌≡◌, ℕ, zero, suc, ◌+◌, ◌-◌, ◌<◌, ◌≤◌, ◌==◌, ◌&&◌, max, List, [], ◌∷◌, All, find, option_map, slice_get, Option, Some, None, inl, inr, refl, ap, sym, ◌∙◌, arith}
 use Rattle.std.proofs.lemmas.Bool.{cases_Bool, eq-eqb}
 use Rattle.std.proofs.lemmas.List.Elements.{All-head, All-tail}
 use Rattle.dl_entry.specs.declared.actor.Actor.{Actor}
@@ -12,7 +12,6 @@ use Rattle.spec_log.specs.declared.sizes.ShortSize.{ShortSize}
 use Rattle.spec_log.specs.declared.sizes.Sizes.{Sizes}
 use Rattle.spec_log.specs.declared.sizes.Sizes.TheVariants.{Each, Short}
 use Rattle.spec_log.specs.Log.{IsLog, IsSizes, IsShortSize}
-use Rattle.spec_log.proofs.Threads.{log-among}
 use Rattle.spec_log.specs.Size.{is_thread, sizes_of_thread, thread_size}
 use Rattle.spec_play.specs.Effects.{counted}
 use Rattle.spec_play.specs.Turns.{Turn}

@@ -1,9 +1,7 @@
 -- What a log's verdict makes of a replay, and of its sphere's state.
 use Rattle.std.specs.Prelude.{ℕ, ◌+◌, Some, None}
 use Rattle.dl_entry.specs.declared.Why.{Why}
-use Rattle.spec_play.specs.Effects.{Effect}
 use Rattle.spec_play.specs.Progress.{Progress, with_effect, with_dma, with_dma_used}
-use Rattle.spec_play.specs.declared.used.Used.{Used}
 use Rattle.spec_play.specs.Verdicts.{LogVerdict, Goes, Fails}
 use Rattle.spec_play.specs.Transfers.{DmaVerdict, DmaGoes, DmaFails}
 use Rattle.spec_play.specs.Plays.{with_threads}

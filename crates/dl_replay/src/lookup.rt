@@ -50,7 +50,8 @@ impl<M: Mode> Model for Lookup<M> {
 impl<M: Noting> Lookup<M> {
     pub fn new(alloc: Global, log: &Log) -> Result<Lookup<M>, OutOfMemory>
         requires { log.now.mode ≡ M.mode }
-        ensures { IfOk result (λ lookup. lookup ≡ log.now) }
+        ensures value { IfOk result (λ lookup. lookup ≡ log.now) }
+        ensures log { IsLog log.now }
     {
         let parts = log.parts();
         Ok(Lookup {

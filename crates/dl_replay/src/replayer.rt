@@ -197,7 +197,8 @@ impl<M: Mode> Replayer<M> {
                     spawned: None,
                     request: state.request,
                 };
-                self.commit(number, &change, state)
+                self.commit(number, &change, state);
+                Verdict::Went
             }
             Err(why) => self.diverge(why, state),
         }
@@ -225,14 +226,14 @@ impl<M: Mode> Replayer<M> {
         ensures still { OnErr result ((self.new ≡ self.old) × (state.new ≡ state.old)) }
     {
         match self.judge_step(number, state)? {
-            Ok(done) => {
+            Ok(Done { left, finish }) => {
                 let change = Change {
-                    finish: done.finish,
-                    spawned: done.left.spawned,
-                    request: done.left.request,
+                    finish,
+                    spawned: left.spawned,
+                    request: left.request,
                 };
                 self.commit(number, &change, state);
-                Ok(Ok(done.left))
+                Ok(Ok(left))
             }
             Err(why) => {
                 self.diverge(why, state);
@@ -323,7 +324,7 @@ impl<M: Mode> Replayer<M> {
     }
 
     // A thread's commit went.
-    fn commit(&mut self, number: u8, change: &Change, state: &mut State) -> Verdict
+    fn commit(&mut self, number: u8, change: &Change, state: &mut State)
         requires at { IsReplaying self.old state.old }
         requires left { is_over self.old.now ≡ false }
         requires thread { number < length state.old.threads }
@@ -335,8 +336,7 @@ impl<M: Mode> Replayer<M> {
         ensures at { IsReplaying self.new state.new }
         ensures judged { (p : Progress) (e : Effect) → Agrees state.old p → let c = change.now in
             e.thread ≡ c.finish.thread → e.spawned ≡ spawned_list c.spawned → e.request ≡ c.request →
-            record { verdict = result; replay = self.new; state = state.new } ≡ judged self.old state.old p number (Goes e c.finish.used) }
-        ensures verdict { result ≡ Verdict.Went }
+            record { verdict = Verdict.Went; replay = self.new; state = state.new } ≡ judged self.old state.old p number (Goes e c.finish.used) }
     {
         settle(
             &mut state.threads,
@@ -348,7 +348,6 @@ impl<M: Mode> Replayer<M> {
         state.last = Some(number);
         state.used = change.finish.used;
         self.go_on(state);
-        Verdict::Went
     }
 
     // A DMA went, which moves no turn.

@@ -5,4 +5,5 @@ pub mod TwoThreads
 pub mod TwoChunks
 pub mod Abandoned
 pub mod Spawning
+pub mod Intervals
 pub mod Limits
