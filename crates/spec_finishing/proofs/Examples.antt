@@ -1,5 +1,5 @@
 -- What is left of small replays, and which events finish them.
-use Rattle.std.proofs.Common.{◌≡◌, ℕ, List, [], ◌∷◌, None, refl}
+use Rattle.std.proofs.Common.{◌≡◌, ℕ, List, [], ◌∷◌, Some, None, refl}
 use Rattle.dl_entry.specs.declared.Actor.{Actor}
 use Rattle.spec_log.specs.declared.ModeName.{ModeName}
 use Rattle.spec_log.specs.declared.Sizes.{Sizes}
@@ -26,7 +26,7 @@ use Rattle.spec_protocol.specs.machine.Asking.{grant_chunk, grant_serial, asking
 use Rattle.spec_protocol.specs.machine.Commits.{chunk_moved, serial_moved, dma_moved, raised}
 use Rattle.spec_protocol.specs.machine.Finishing.{next, Finishes}
 use Rattle.spec_protocol.specs.machine.Flying.{draining, delivering, retiring}
-use Rattle.spec_protocol.specs.machine.Machine.{IsReplayed, all_of, Setup, world_of, act, happens}
+use Rattle.spec_protocol.specs.machine.Machine.{ReplaySetup, all_of, IsReplayed, Setup, world_of, act, happens}
 use Rattle.spec_protocol.specs.machine.Placing.{placing, raising}
 use Rattle.spec_protocol.specs.machine.Spheres.{head_of, turn_against, limit_of}
 use Rattle.spec_protocol.specs.machine.Stepping.{stepping, cutting}
@@ -45,17 +45,25 @@ exits = 0x00000893 ∷ 0x00700513 ∷ 0x00000073 ∷ []
 abbrev reserves : List ℕ
 reserves = 0x10400293 ∷ 0x10502023 ∷ 0x1002A32F ∷ 0x1852A3AF ∷ 0x00000893 ∷ 0x00000073 ∷ []
 
--- one core replays the log, with chunks of 100, a buffer of one word, a window of 2 and signatures of 64
-abbrev replay : List ℕ → LogParts → Setup
-replay code log =
+-- one core replays what it is asked for, with chunks of 100, a buffer of one word, a window of 2 and signatures of 64
+abbrev replay_of : List ℕ → ReplaySetup → Setup
+replay_of code asked =
     record {
       cores = 1;
       window = 2;
       numbers = record { s = 100; capacity = 1; bits = 64; depth = 1 };
       seed = 0;
       input = [];
-      spheres = record { memory = image 512 code; entry = 0; role = IsReplayed (all_of log) } ∷ [];
+      spheres = record { memory = image 512 code; entry = 0; role = IsReplayed asked } ∷ [];
     }
+
+-- a whole log
+abbrev replay : List ℕ → LogParts → Setup
+replay code log = replay_of code (all_of log)
+
+-- its second commit alone
+abbrev second : List ℕ → LogParts → Setup
+second code log = replay_of code (record { log = log; interval = Some (record { first = 1; last = 2 }) })
 
 -- in order-only, without sizes, of thread 0
 abbrev unsized : (count : ℕ) → List Actor → LogParts
@@ -84,6 +92,10 @@ pub record AreFinished : Type 0 where
   pub exits_finish : Finishes (world_of (replay exits two_log)) exits_events
   -- seven for each, less one for the thread that is on a core
   pub exits_rank : rank (replay exits two_log) (world_of (replay exits two_log)) ≡ 27
+  -- of the second commit alone, which is the call, only that is left
+  pub second_work : plays_work (second exits two_log).spheres ≡ 1
+  pub second_finish : Finishes (world_of (second exits two_log)) (Event.Step 0 ∷ Event.Ask 0 ∷ [])
+  pub second_rank : rank (second exits two_log) (world_of (second exits two_log)) ≡ 6
   -- five instructions and two commits
   pub reserves_work : plays_work (replay reserves two_log).spheres ≡ 7
 
@@ -96,5 +108,8 @@ replays_finish =
       exits_work = refl;
       exits_finish = (refl, (refl, (refl, (refl, (refl, (refl, refl))))));
       exits_rank = refl;
+      second_work = refl;
+      second_finish = (refl, (refl, refl));
+      second_rank = refl;
       reserves_work = refl;
     }

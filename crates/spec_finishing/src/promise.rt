@@ -14,9 +14,10 @@ pub fn finishing_ends()
     ensures { FinishingEnds }
 {}
 
-/// Whatever the schedule, after the events that finish it every replayed sphere has done its log's whole play on its image:
-/// it has the play's commits, with their loads and outputs, and the play's end. Its memory, with no word in flight, and its
-/// threads are those of the play, unless that end is within a commit, of which some pieces may be done.
+/// Whatever the schedule, after the events that finish it every replayed sphere has done the whole play that was asked for on
+/// its image, that of its log or of an interval: it has the play's commits, with their loads and outputs, and the play's end.
+/// Its memory, with no word in flight, and its threads are those of the play, unless that end is within a commit, of which
+/// some pieces may be done.
 pub fn replays_are_finished()
     ensures { ReplaysAreFinished }
 {}

@@ -16,38 +16,31 @@ use Rattle.spec_play.proofs.Going.{plays-stay, GoesOn, EndsOr, Lives, turn-lives
 use Rattle.spec_play.proofs.Resuming.{plays_resume}
 use Rattle.spec_protocol.specs.machine.Spheres.{is_over}
 use Rattle.spec_protocol.specs.machine.Machine.{ReplaySetup, SphereSetup, first_played}
+use Rattle.spec_protocol.proofs.Replays.Turns.{interval-now}
 
 -- ---- its turns are the log's
 
-at_going : (now m : TurnOrEnd) → is_over m ≡ false → at_end_of_log now ≡ m → now ≡ m
-at_going (Turn k) m going e = e
-at_going TurnOfDma m going e = e
-at_going (Ended (End.Complete n)) m going e = absurd (true≢false (ap is_over e ∙ going))
-at_going (Ended (End.At n)) m going e = absurd (true≢false (ap is_over e ∙ going))
-at_going (Ended (End.Diverged n why)) m going e = absurd (true≢false (ap is_over e ∙ going))
-
-going_by : (full : Bool) (n : ℕ) (now m : TurnOrEnd) → is_over m ≡ false → cond full (Ended (End.At n)) (at_end_of_log now) ≡ m → now ≡ m
-going_by true n now m going e = absurd (true≢false (ap is_over e ∙ going))
-going_by false n now m going e = at_going now m going e
+-- something has ended, in some way
+pub ended_in : (now : TurnOrEnd) → is_over now ≡ true → (how : End) × (now ≡ Ended how)
+ended_in (Turn k) e = absurd (true≢false (sym e))
+ended_in TurnOfDma e = absurd (true≢false (sym e))
+ended_in (Ended how) e = (how, refl)
 
 -- if there is a turn in an interval, it is the log's
 pub turn-in : (i : Option Interval) (count n : ℕ) (now m : TurnOrEnd) → is_over m ≡ false → now_in i count n now ≡ m → now ≡ m
-turn-in None count n now m going e = e
-turn-in (Some i) count n now m going e = going_by (nat_le i.last n && nat_lt n count) n now m going e
-
-end_by : (full : Bool) (n : ℕ) (how : End) → (h : End) × (cond full (Ended (End.At n)) (at_end_of_log (Ended how)) ≡ Ended h)
-end_by true n how = (End.At n, refl)
-end_by false n (End.Complete c) = (End.At c, refl)
-end_by false n (End.At c) = (End.At c, refl)
-end_by false n (End.Diverged c why) = (End.Diverged c why, refl)
-
-end_of_log : (i : Option Interval) (count n : ℕ) (how : End) → (h : End) × (now_in i count n (Ended how) ≡ Ended h)
-end_of_log None count n how = (how, refl)
-end_of_log (Some i) count n how = end_by (nat_le i.last n && nat_lt n count) n how
+turn-in i count n now m going e =
+    elim (interval-now i count n now) [
+      | inl over ↦ absurd (true≢false (sym over ∙ ap is_over e ∙ going))
+      | inr same ↦ sym same ∙ e
+    ]
 
 -- once the log has ended, the interval has
 pub end-in : (i : Option Interval) (count n : ℕ) (now : TurnOrEnd) (how : End) → now ≡ Ended how → (h : End) × (now_in i count n now ≡ Ended h)
-end-in i count n now how e = let o = end_of_log i count n how in (o.0, ap (now_in i count n) e ∙ o.1)
+end-in i count n now how e =
+    elim (interval-now i count n now) [
+      | inl over ↦ ended_in (now_in i count n now) over
+      | inr same ↦ (how, same ∙ e)
+    ]
 
 diverged_by : (full : Bool) (n c : ℕ) (why : Why) (now : TurnOrEnd) → is_over (cond full (Ended (End.At n)) (at_end_of_log now)) ≡ false → Ended (End.Diverged c why) ≡ cond full (Ended (End.At n)) (Ended (End.Diverged c why))
 diverged_by true n c why now going = absurd (true≢false going)
@@ -57,12 +50,6 @@ diverged_by false n c why now going = refl
 pub diverged-in : (i : Option Interval) (count n c : ℕ) (why : Why) (now : TurnOrEnd) → is_over (now_in i count n now) ≡ false → Ended (End.Diverged c why) ≡ now_in i count n (Ended (End.Diverged c why))
 diverged-in None count n c why now going = refl
 diverged-in (Some i) count n c why now going = diverged_by (nat_le i.last n && nat_lt n count) n c why now going
-
--- something has ended, in some way
-pub ended_in : (now : TurnOrEnd) → is_over now ≡ true → (how : End) × (now ≡ Ended how)
-ended_in (Turn k) e = absurd (true≢false (sym e))
-ended_in TurnOfDma e = absurd (true≢false (sym e))
-ended_in (Ended how) e = (how, refl)
 
 -- ---- where it ends
 

@@ -1,5 +1,6 @@
 //! What is promised of runs. Each promise is a clause of a function that does nothing.
-ghost use Rattle.spec_run.specs.Promise.{AccountsAgree, IntervalsAreSlices, RecordingsAreReproduced, RunsAreDescribed, SchedulesLeaveRoom, SpheresAreDescribed, TextsAreOfPoints};
+ghost use Rattle.spec_run.specs.Promise.{AccountsAgree, IntervalsAreSlices, RecordingsAreReproduced, RunsAreDescribed};
+ghost use Rattle.spec_run.specs.Promise.{SchedulesLeaveRoom, SpheresAreDescribed, TextsAreOfPoints};
 
 /// Once a run is over, what a sphere of the machine holds is what its account tells: a plain or recorded one has the
 /// commits, threads, request and memory of executing the points whole, one at a time, and a recorded one the log of

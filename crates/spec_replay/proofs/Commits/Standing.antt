@@ -1,19 +1,19 @@
 -- If a replayed sphere has no piece of its next commit, it is where the play is.
-use Rattle.std.proofs.Common.{◌≡◌, ℕ, zero, suc, ◌<◌, Bool, true, false, cond, List, [], ◌∷◌, Option, Some, None, refl, sym, ap, ◌∙◌, set}
-use Rattle.std.specs.Prelude.{slice_get, ◌&&◌, nat_le, nat_lt}
-use Rattle.dl_entry.specs.declared.End.{End}
+use Rattle.std.proofs.Common.{◌≡◌, ℕ, zero, suc, ◌<◌, inl, inr, List, [], ◌∷◌, Option, Some, refl, sym, ap, ◌∙◌, subst, set}
+use Rattle.std.specs.Prelude.{slice_get}
 use Rattle.spec_log.specs.declared.LogParts.{LogParts}
 use Rattle.spec_play.specs.declared.interval.Interval.{Interval}
 use Rattle.spec_play.specs.Progress.{position}
 use Rattle.spec_play.specs.Turns.{TurnOrEnd, Turn, TurnOfDma, Ended}
 use Rattle.spec_play.specs.Plays.{Played}
-use Rattle.spec_play.specs.Intervals.{at_end_of_log, now_in}
+use Rattle.spec_play.specs.Intervals.{now_in}
 use Rattle.spec_play.proofs.Going.{Lives}
 use Rattle.spec_protocol.specs.machine.Spheres.{Cursor, Sphere}
 use Rattle.spec_protocol.specs.machine.Machine.{ReplaySetup}
+use Rattle.spec_protocol.proofs.Replays.Turns.{interval-now}
 use Rattle.spec_protocol.proofs.PlayingBack.Sizes.{limit-some}
 use Rattle.spec_replay.specs.Following.{IsWhole, StandsAt}
-use Rattle.spec_replay.proofs.Intervals.{now_as}
+use Rattle.spec_replay.proofs.Intervals.{ended_in, now_as}
 
 -- ---- threads
 
@@ -52,22 +52,15 @@ stands_now log y (Turn k) p b s lives w = moved_whole log y k p b s (lives k ref
 stands_now log y TurnOfDma p b s lives w = w
 stands_now log y (Ended how) p b s lives w = w
 
-at_end : (log : LogParts) (y : Played) (now : TurnOrEnd) (p : Sphere) (b : Cursor) → StandsAt log y now p b → IsWhole y p b → StandsAt log y (at_end_of_log now) p b
-at_end log y (Turn k) p b s w = s
-at_end log y TurnOfDma p b s w = s
-at_end log y (Ended (End.Complete n)) p b s w = w
-at_end log y (Ended (End.At n)) p b s w = w
-at_end log y (Ended (End.Diverged n why)) p b s w = w
-
-by_full : (full : Bool) (log : LogParts) (y : Played) (n : ℕ) (now : TurnOrEnd) (p : Sphere) (b : Cursor) → StandsAt log y now p b → IsWhole y p b → StandsAt log y (cond full (Ended (End.At n)) (at_end_of_log now)) p b
-by_full true log y n now p b s w = w
-by_full false log y n now p b s w = at_end log y now p b s w
-
-in_interval : (i : Option Interval) (log : LogParts) (y : Played) (n : ℕ) (now : TurnOrEnd) (p : Sphere) (b : Cursor) → StandsAt log y now p b → IsWhole y p b → StandsAt log y (now_in i log.count n now) p b
-in_interval None log y n now p b s w = s
-in_interval (Some i) log y n now p b s w = by_full (nat_le i.last n && nat_lt n log.count) log y n now p b s w
+-- in an interval that has ended there, no piece is done either
+stands_in : (i : Option Interval) (log : LogParts) (y : Played) (n : ℕ) (now : TurnOrEnd) (p : Sphere) (b : Cursor) → StandsAt log y now p b → IsWhole y p b → StandsAt log y (now_in i log.count n now) p b
+stands_in i log y n now p b s w =
+    elim (interval-now i log.count n now) [
+      | inl over ↦ (let e = ended_in (now_in i log.count n now) over in subst (λ (m : TurnOrEnd). StandsAt log y m p b) (sym e.1) w)
+      | inr same ↦ subst (λ (m : TurnOrEnd). StandsAt log y m p b) (sym same) s
+    ]
 
 -- a replay without a piece of its next commit is where its play is
 pub whole-stands : (asked : ReplaySetup) (y : Played) (p : Sphere) (b : Cursor) → 0 < asked.log.s → ((k : ℕ) → y.now ≡ Turn k → Lives y.threads k) → IsWhole y p b → StandsAt asked.log y (now_as asked y) p b
 whole-stands asked y p b s lives w =
-    in_interval asked.interval asked.log y (position y.progress) y.now p b (stands_now asked.log y y.now p b s lives w) w
+    stands_in asked.interval asked.log y (position y.progress) y.now p b (stands_now asked.log y y.now p b s lives w) w
