@@ -2,4 +2,5 @@ pub mod Counted
 pub mod Documents
 pub mod Each
 pub mod Longest
+pub mod Ordered
 pub mod Texts

@@ -17,7 +17,9 @@ top_keys =
 
 -- the keys of a sphere
 abbrev pub sphere_keys : List (List ℕ)
-sphere_keys = codes "image" ∷ codes "memory" ∷ codes "role" ∷ codes "mode" ∷ codes "version" ∷ codes "log" ∷ codes "account" ∷ []
+sphere_keys =
+    codes "image" ∷ codes "memory" ∷ codes "role" ∷ codes "mode" ∷ codes "version" ∷ codes "log" ∷ codes "from" ∷ codes "to"
+    ∷ codes "account" ∷ []
 
 -- where this is a table, its keys are those of a sphere
 abbrev pub has_sphere_keys : Data → Bool
@@ -56,6 +58,8 @@ pub record SphereEntries : Type 0 where
   pub mode : Option Mode
   pub version : Option ℤ
   pub log : Option (List ℕ)
+  pub from : Option ℤ
+  pub to : Option ℤ
   pub account : Option (List ℕ)
 
 -- what a plan's keys hold
@@ -120,8 +124,20 @@ sphere_of ms =
     mode_at ms >>= λ mode.
     optional_number ms (codes "version") >>= λ version.
     optional_text ms (codes "log") >>= λ log.
+    optional_number ms (codes "from") >>= λ from.
+    optional_number ms (codes "to") >>= λ to.
     optional_text ms (codes "account") >>= λ account.
-    Some (record { image = image; memory = memory; role = role; mode = mode; version = version; log = log; account = account })
+    Some (record {
+      image = image;
+      memory = memory;
+      role = role;
+      mode = mode;
+      version = version;
+      log = log;
+      from = from;
+      to = to;
+      account = account;
+    })
 
 -- one item of the array of spheres
 abbrev pub sphere_in : Data → Option SphereEntries

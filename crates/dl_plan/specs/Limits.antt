@@ -1,12 +1,16 @@
 -- The limits of a plan's numbers.
 use Rattle.std.specs.Prelude.{ℕ, ◌==◌, ◌%◌, nat_le, ℤ, pos, negsuc, Bool, ◌&&◌, [], ◌∷◌, Option, Some, None, unwrap_or, if◌then◌else◌}
 use Rattle.std.specs.List.{list_any}
-use Rattle.dl_plan.specs.Optional.{◌>>=◌}
+use Rattle.dl_plan.specs.Optional.{◌>>=◌, if_there}
 
 -- the number, where it stands from `low` to `high`
 abbrev pub limited : ℕ → ℕ → ℤ → Option ℕ
 limited low high (pos n) = if nat_le low n && nat_le n high then Some n else None
 limited low high (negsuc n) = None
+
+-- so many events or commits, if a number is there: up to 2^24
+abbrev pub count_of : Option ℤ → Option (Option ℕ)
+count_of count = if_there (limited 0 16777216) count
 
 -- a power of two from 64 to 2048
 abbrev pub is_signature : ℕ → Bool

@@ -3,8 +3,8 @@ use Rattle.std.specs.Prelude.{ℕ, pos, nat_le, Bool, ◌&&◌, List, length, is
 use Rattle.std.specs.List.{list_all}
 use Rattle.dl_plan.specs.declared.plan.Sizes.{Sizes}
 use Rattle.dl_plan.specs.Entries.{TopEntries, SphereEntries, Entries}
-use Rattle.dl_plan.specs.Limits.{limited, signature_of, memory_of, version_of}
-use Rattle.dl_plan.specs.Optional.{◌>>=◌, if_there}
+use Rattle.dl_plan.specs.Limits.{limited, count_of, signature_of, memory_of, version_of}
+use Rattle.dl_plan.specs.Optional.{◌>>=◌}
 
 -- the numbers at the top; a depth that is absent is 1, and a seed 0
 abbrev pub sizes_of : TopEntries → Option Sizes
@@ -20,11 +20,12 @@ sizes_of top =
 
 -- the number of events, if one is there
 abbrev pub events_in : TopEntries → Option (Option ℕ)
-events_in top = if_there (limited 0 16777216) top.events
+events_in top = count_of top.events
 
 -- the numbers of a sphere are in their limits, whatever its role
 abbrev pub has_good_numbers : SphereEntries → Bool
-has_good_numbers s = is_some (memory_of s.memory) && is_some (version_of s.version)
+has_good_numbers s =
+    is_some (memory_of s.memory) && is_some (version_of s.version) && is_some (count_of s.from) && is_some (count_of s.to)
 
 -- there are 1 to 8 spheres, and the numbers of each are in their limits
 abbrev pub has_good_spheres : List SphereEntries → Bool

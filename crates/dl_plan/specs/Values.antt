@@ -1,5 +1,5 @@
 -- What a plan asks for, and what is true of it.
-use Rattle.std.specs.Prelude.{◌≡◌, ℕ, ◌<◌, ◌≤◌, ◌%◌, ◌^◌, ⊤, IsTrue, List, map, length, string_bytes, Option, option_map}
+use Rattle.std.specs.Prelude.{◌≡◌, ℕ, ◌<◌, ◌≤◌, ◌%◌, ◌^◌, ⊤, IsTrue, List, map, length, string_bytes, Option, Some, None, IfSome, option_map}
 use Rattle.std.specs.List.{AllByRecursion}
 use Rattle.dl_plan.specs.declared.plan.Mode.{Mode}
 use Rattle.dl_plan.specs.declared.plan.Plan.{Plan}
@@ -20,9 +20,11 @@ pub record RecordValues : Type 0 where
   pub version : ℕ
   pub log : List ℕ
 
--- of what is replayed, the name of the log
+-- of what is replayed, the name of the log, and from which of its commits up to which, if the plan says
 pub record ReplayValues : Type 0 where
   pub log : List ℕ
+  pub from : Option ℕ
+  pub to : Option ℕ
 
 -- what a sphere does: it runs plainly, is recorded, or replays a log
 pub data RoleValues : Type 0 where
@@ -54,7 +56,7 @@ schedule_view (Schedule.Seeded events) = Seeded events
 abbrev pub role_view : Role → RoleValues
 role_view Role.Plain = Plain
 role_view (Role.Record mode version log) = Record (record { mode = mode; version = version; log = string_bytes log })
-role_view (Role.Replay log) = Replay (record { log = string_bytes log })
+role_view (Role.Replay log from to) = Replay (record { log = string_bytes log; from = from; to = to })
 
 abbrev pub sphere_view : Sphere → SphereValues
 sphere_view s = record { image = string_bytes s.image; memory = s.memory; role = role_view s.role; account = option_map string_bytes s.account }
@@ -96,11 +98,15 @@ IsSchedule (Seeded events) = events ≤ 2 ^ 24
 abbrev pub AreMemories : List SphereValues → Type 0
 AreMemories spheres = AllByRecursion (λ (s : SphereValues). IsMemory s.memory) spheres
 
--- the version of what is recorded is in its limits
+-- a number of commits is in its limits
+abbrev pub IsCount : Option ℕ → Type 0
+IsCount count = IfSome count (λ n. n ≤ 2 ^ 24)
+
+-- the version of what is recorded, and the commits of what is replayed, are in their limits
 abbrev pub IsRole : RoleValues → Type 0
 IsRole Plain = ⊤
 IsRole (Record values) = (1 ≤ values.version) × (values.version ≤ 2)
-IsRole (Replay values) = ⊤
+IsRole (Replay values) = IsCount values.from × IsCount values.to
 
 abbrev pub AreRoles : List SphereValues → Type 0
 AreRoles spheres = AllByRecursion (λ (s : SphereValues). IsRole s.role) spheres
@@ -114,6 +120,20 @@ CanHave chunk (Replay values) = ⊤
 abbrev pub CanAllHave : (chunk : ℕ) → List SphereValues → Type 0
 CanAllHave chunk spheres = AllByRecursion (λ (s : SphereValues). CanHave chunk s.role) spheres
 
+-- what is replayed ends no earlier than it begins
+abbrev pub AreOrdered : (from to : Option ℕ) → Type 0
+AreOrdered None to = ⊤
+AreOrdered (Some from) None = ⊤
+AreOrdered (Some from) (Some to) = from ≤ to
+
+abbrev pub IsOrdered : RoleValues → Type 0
+IsOrdered Plain = ⊤
+IsOrdered (Record values) = ⊤
+IsOrdered (Replay values) = AreOrdered values.from values.to
+
+abbrev pub AreAllOrdered : List SphereValues → Type 0
+AreAllOrdered spheres = AllByRecursion (λ (s : SphereValues). IsOrdered s.role) spheres
+
 -- each number of a plan is in its limits
 pub record AreNumbers (p : PlanValues) : Type 0 where
   pub sizes : AreSizes p.sizes
@@ -122,7 +142,8 @@ pub record AreNumbers (p : PlanValues) : Type 0 where
   pub memories : AreMemories p.spheres
   pub roles : AreRoles p.spheres
 
--- and each log that is written can have the plan's chunks
+-- each log that is written can have the plan's chunks, and each replay is in order
 pub record IsPlan (p : PlanValues) : Type 0 where
   pub numbers : AreNumbers p
   pub chunk : CanAllHave p.sizes.chunk p.spheres
+  pub order : AreAllOrdered p.spheres

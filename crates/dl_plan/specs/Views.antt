@@ -33,6 +33,8 @@ entry_view s = record {
   mode = s.mode;
   version = s.version;
   log = option_copied s.log;
+  from = s.from;
+  to = s.to;
   account = option_copied s.account;
 }
 

@@ -71,7 +71,7 @@ fn add_sphere<'a>(
     match &sphere.role {
         Role::Plain => Ok(()),
         Role::Record { .. } => Ok(()),
-        Role::Replay { log } => add(inputs, Source::Log(number), log.as_str()),
+        Role::Replay { log, .. } => add(inputs, Source::Log(number), log.as_str()),
     }
 }
 

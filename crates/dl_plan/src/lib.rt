@@ -7,6 +7,7 @@ mod document;
 mod entries;
 mod error;
 mod inputs;
+mod intervals;
 mod keys;
 mod names;
 mod naming;

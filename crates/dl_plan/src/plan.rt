@@ -67,9 +67,13 @@ pub enum Role {
         version: u8,
         log: String,
     },
-    /// It replays the log in the file `log`, in the log's own mode.
+    /// It replays the log in the file `log`, in the log's own mode, from the commit of number `from` up to but not that of
+    /// number `to`. If one of them is there, the other is as if it were 0, or the log's number of commits; without both the
+    /// whole log is replayed. Each is at most 2^24, and `from` at most `to`.
     Replay {
         log: String,
+        from: Option<u32>,
+        to: Option<u32>,
     },
 }
 

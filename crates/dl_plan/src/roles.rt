@@ -1,14 +1,14 @@
 //! The role of a sphere, by the keys that stand with it.
 ghost use Rattle.std.specs.Prelude.{◌≡◌, ◌≤◌, Some, IfOk, IfErr};
-ghost use Rattle.dl_plan.specs.Limits.{version_of};
+ghost use Rattle.dl_plan.specs.Limits.{count_of, version_of};
 ghost use Rattle.dl_plan.specs.Refusal.{IsBroken};
 ghost use Rattle.dl_plan.specs.Roles.{has_role_keys, role_of};
-ghost use Rattle.dl_plan.specs.Values.{IsRole, role_view};
+ghost use Rattle.dl_plan.specs.Values.{IsCount, IsRole, role_view};
 ghost use Rattle.dl_plan.specs.Views.{entry_view};
 
 use crate::error::PlanError;
 use crate::plan::Role;
-use crate::sizes::version_of;
+use crate::sizes::{count_of, version_of};
 use crate::sphere::{RoleName, SphereEntries};
 use std::alloc::Global;
 
@@ -30,6 +30,8 @@ pub(crate) fn role_of(alloc: Global, entry: &SphereEntries<'_>) -> Result<Role, 
         }),
         (RoleName::Replay, _, Some(log)) => Ok(Role::Replay {
             log: String::from_str(alloc, log)?,
+            from: count_in(entry.from)?,
+            to: count_in(entry.to)?,
         }),
         (RoleName::Record | RoleName::Replay, _, _) => Err(PlanError::Refused(6)),
     }
@@ -59,6 +61,18 @@ fn version_in(entry: &SphereEntries<'_>) -> Result<u8, PlanError>
 {
     match version_of(entry.version) {
         Some(version) => Ok(version),
+        None => Err(PlanError::Refused(6)),
+    }
+}
+
+/// The number of a commit, if one is there. Refused by rule 6 if no log has so many.
+fn count_in(count: Option<i64>) -> Result<Option<u32>, PlanError>
+    ensures ok { IfOk result (λ n. count_of count ≡ Some n) }
+    ensures limits { IfOk result IsCount }
+    ensures refused { IfErr result (IsBroken 6 (count_of count)) }
+{
+    match count_of(count) {
+        Some(count) => Ok(count),
         None => Err(PlanError::Refused(6)),
     }
 }

@@ -1,9 +1,9 @@
 //! The numbers in a plan, each in its limits.
 ghost use Rattle.std.specs.Prelude.{◌≡◌, ◌≤◌, ◌^◌, IfSome, IsTrue, map};
 ghost use Rattle.std.specs.List.{list_all};
-ghost use Rattle.dl_plan.specs.Limits.{limited, is_signature, signature_of, memory_of, version_of, longest_chunk};
+ghost use Rattle.dl_plan.specs.Limits.{limited, count_of, is_signature, signature_of, memory_of, version_of, longest_chunk};
 ghost use Rattle.dl_plan.specs.Sizes.{sizes_of, sizes_in, events_in, has_good_spheres, has_good_numbers};
-ghost use Rattle.dl_plan.specs.Values.{AreSizes, IsMemory};
+ghost use Rattle.dl_plan.specs.Values.{AreSizes, IsCount, IsMemory};
 ghost use Rattle.dl_plan.specs.Views.{top_view, entry_view, entries_view};
 
 use crate::entries::Entries;
@@ -11,7 +11,7 @@ use crate::plan::Sizes;
 use crate::sphere::SphereEntries;
 use crate::top::TopEntries;
 
-/// The most events of a schedule, and the most bytes of a memory.
+/// The most events of a schedule, the most commits of a log, and the most bytes of a memory.
 const MOST: u64 = 1 << 24;
 
 /// The numbers of a plan's machine. `None` if one is outside its limits, or there are not 1 to 8 spheres.
@@ -46,7 +46,10 @@ fn have_good_numbers(spheres: &[SphereEntries<'_>]) -> bool
 fn has_good_numbers(sphere: &SphereEntries<'_>) -> bool
     ensures { result ≡ has_good_numbers (entry_view sphere.now) }
 {
-    memory_of(sphere.memory).is_some() && version_of(sphere.version).is_some()
+    memory_of(sphere.memory).is_some()
+        && version_of(sphere.version).is_some()
+        && count_of(sphere.from).is_some()
+        && count_of(sphere.to).is_some()
 }
 
 /// The numbers at a plan's top. `None` if one is outside its limits.
@@ -68,9 +71,17 @@ fn sizes_of(top: &TopEntries<'_>) -> Option<Sizes>
 /// The number of events, if one is there. `None` if it is outside its limits.
 pub(crate) fn events_in(top: &TopEntries<'_>) -> Option<Option<u32>>
     ensures value { result ≡ events_in (top_view top.now) }
-    ensures within { IfSome result (λ events. IfSome events (λ n. n ≤ 2 ^ 24)) }
+    ensures within { IfSome result IsCount }
 {
-    match top.events {
+    count_of(top.events)
+}
+
+/// A number of events or commits, if one is there. `None` if it is outside its limits.
+pub(crate) fn count_of(count: Option<i64>) -> Option<Option<u32>>
+    ensures value { result ≡ count_of count }
+    ensures within { IfSome result IsCount }
+{
+    match count {
         Some(number) => Some(Some(limited(number, 0, MOST)? as u32)),
         None => Some(None),
     }

@@ -25,6 +25,8 @@ pub(crate) struct SphereEntries<'a> {
     pub mode: Option<Mode>,
     pub version: Option<i64>,
     pub log: Option<&'a str>,
+    pub from: Option<i64>,
+    pub to: Option<i64>,
     pub account: Option<&'a str>,
 }
 
@@ -49,6 +51,8 @@ fn read_keys(table: &Table) -> Option<SphereEntries<'_>>
         mode: mode_at(table)?,
         version: optional_number(table, "version")?,
         log: optional_text(table, "log")?,
+        from: optional_number(table, "from")?,
+        to: optional_number(table, "to")?,
         account: optional_text(table, "account")?,
     })
 }

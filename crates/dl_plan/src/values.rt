@@ -19,6 +19,7 @@ use std::alloc::{AllocError, Global};
 pub(crate) fn to_plan(alloc: Global, entries: &Entries<'_>) -> Result<Plan, PlanError>
     ensures ok { IfOk result (λ p. values_in (entries_view entries.now) ≡ Ok (plan_view p)) }
     ensures limits { IfOk result (λ p. AreNumbers (plan_view p)) }
+    ensures spheres { IfOk result (λ p. each_of sphere_asked (entries_view entries.now).spheres ≡ Some (plan_view p).spheres) }
     ensures refused { IfErr result (Says (values_in (entries_view entries.now))) }
 {
     let sizes = match sizes_in(entries) {

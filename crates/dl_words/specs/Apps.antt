@@ -1,4 +1,4 @@
--- The command line as `clap` is told it: a program of ten subcommands with their operands, each of which has to be there. It
+-- The command line as `clap` is told it: a program of eleven subcommands with their operands, each of which has to be there. It
 -- has no options, and neither help nor a version.
 use Rattle.std.specs.Prelude.{true, List, [], ◌∷◌, codes, map}
 use Rattle.std.specs.Borrow.{Bor}
@@ -22,6 +22,11 @@ inspect_app = subcommand (codes "inspect") (codes "LOG" ∷ [])
 
 abbrev pub walk_app : App
 walk_app = subcommand (codes "walk") (codes "IMAGE" ∷ codes "MEMORY" ∷ codes "LOG" ∷ [])
+
+abbrev pub interval_app : App
+interval_app =
+    subcommand (codes "interval")
+    (codes "IMAGE" ∷ codes "MEMORY" ∷ codes "LOG" ∷ codes "EVERY" ∷ codes "I" ∷ codes "J" ∷ [])
 
 abbrev pub watch_app : App
 watch_app = subcommand (codes "watch") (codes "IMAGE" ∷ codes "MEMORY" ∷ codes "LOG" ∷ codes "ADDR" ∷ [])
@@ -68,6 +73,7 @@ command_line =
     (run_app
     ∷ inspect_app
     ∷ walk_app
+    ∷ interval_app
     ∷ watch_app
     ∷ who_app
     ∷ when_app

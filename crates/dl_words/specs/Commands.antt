@@ -4,9 +4,10 @@ use Rattle.std.specs.Option.{option_and_then, option_map}
 use Rattle.std.specs.Str.{bytes_eq}
 use Rattle.clap.specs.Words.{Kinds, Row, Text, fault_of, first_of, subcommand_of}
 use Rattle.dl_words.specs.Apps.{command_line}
-use Rattle.dl_words.specs.Numbers.{number_of, memory_of, address_of, place_of}
+use Rattle.dl_words.specs.Numbers.{number_of, memory_of, address_of, up_to, place_of, every_of}
 use Rattle.dl_words.specs.declared.command.Command.{Command}
 use Rattle.dl_words.specs.declared.command.Command.TheVariants as command
+use Rattle.dl_words.specs.declared.interval.Interval.{Interval as IntervalWords}
 use Rattle.dl_words.specs.declared.pair.Pair.{Pair}
 use Rattle.dl_words.specs.declared.query.Query.{Query as QueryWords}
 use Rattle.dl_words.specs.declared.query.Question.{Question}
@@ -16,6 +17,13 @@ pub record PairValues : Type 0 where
   pub image : Text
   pub memory : ℕ
   pub log : Text
+
+-- the commits of the log from one number up to another, of a play whose state is kept each so many commits
+pub record IntervalValues : Type 0 where
+  pub pair : PairValues
+  pub every : ℕ
+  pub from : ℕ
+  pub to : ℕ
 
 -- a question about the word at an address in that memory
 pub record QueryValues : Type 0 where
@@ -27,6 +35,7 @@ pub data CommandValues : Type 0 where
   Run : (plan : Text) → CommandValues
   Inspect : (log : Text) → CommandValues
   Walk : (pair : PairValues) → CommandValues
+  Interval : (interval : IntervalValues) → CommandValues
   Query : (query : QueryValues) → CommandValues
   Make : (number : ℕ) → (name : Text) → CommandValues
   Drill : (number : ℕ) → CommandValues
@@ -56,6 +65,15 @@ inspect_of rows = option_map Inspect (first_of (codes "LOG") rows)
 
 abbrev pub walk_of : List Row → Option CommandValues
 walk_of rows = option_map Walk (pair_of rows)
+
+abbrev pub interval_of : List Row → Option CommandValues
+interval_of rows =
+    option_and_then (λ pair. option_and_then (λ every. option_and_then (λ to.
+    option_map (λ from. Interval (record { pair = pair; every = every; from = from; to = to }))
+    (option_and_then (up_to to) (first_of (codes "I") rows)))
+    (option_and_then place_of (first_of (codes "J") rows)))
+    (option_and_then every_of (first_of (codes "EVERY") rows)))
+    (pair_of rows)
 
 abbrev pub watch_of : List Row → Option CommandValues
 watch_of rows = option_map Query (query_of Question.Watch rows)
@@ -93,6 +111,7 @@ named name rows =
     if bytes_eq name (codes "run") then run_of rows
     else if bytes_eq name (codes "inspect") then inspect_of rows
     else if bytes_eq name (codes "walk") then walk_of rows
+    else if bytes_eq name (codes "interval") then interval_of rows
     else if bytes_eq name (codes "watch") then watch_of rows
     else if bytes_eq name (codes "who") then who_of rows
     else if bytes_eq name (codes "when") then when_of rows
@@ -120,6 +139,9 @@ command_of words = option_and_then (λ found. named found.0 found.1) (found_in w
 abbrev pub pair_view : Pair → PairValues
 pair_view p = record { image = p.image.now; memory = p.memory; log = p.log.now }
 
+abbrev pub interval_view : IntervalWords → IntervalValues
+interval_view i = record { pair = pair_view i.pair; every = i.every; from = i.from; to = i.to }
+
 abbrev pub query_view : QueryWords → QueryValues
 query_view q = record { pair = pair_view q.pair; address = q.address; question = q.question }
 
@@ -127,6 +149,7 @@ abbrev pub command_view : Command → CommandValues
 command_view (command.Run plan) = Run plan.now
 command_view (command.Inspect log) = Inspect log.now
 command_view (command.Walk pair) = Walk (pair_view pair)
+command_view (command.Interval interval) = Interval (interval_view interval)
 command_view (command.Query query) = Query (query_view query)
 command_view (command.Make number name) = Make number name.now
 command_view (command.Drill number) = Drill number

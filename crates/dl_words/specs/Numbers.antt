@@ -34,6 +34,14 @@ abbrev pub address_of : (memory : ℕ) → List ℕ → Option ℕ
 address_of memory word =
     option_and_then (λ address. if is_address memory address then Some address else None) (number_of word)
 
+-- the number that a word writes, where it is at most this
+abbrev pub up_to : (most : ℕ) → List ℕ → Option ℕ
+up_to most word = option_and_then (λ number. if nat_le number most then Some number else None) (number_of word)
+
 -- a place among the commits of a log, which has at most 2^24 of them
 abbrev pub place_of : List ℕ → Option ℕ
-place_of word = option_and_then (λ place. if nat_le place 16777216 then Some place else None) (number_of word)
+place_of word = up_to 16777216 word
+
+-- so many commits, at least one, lie between two states that are kept
+abbrev pub every_of : List ℕ → Option ℕ
+every_of word = option_and_then (λ every. if nat_le 1 every then Some every else None) (place_of word)

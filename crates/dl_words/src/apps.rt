@@ -8,10 +8,11 @@ use clap::{Arg, Command};
 use std::alloc::{AllocError, Global};
 
 /// The subcommands, each with the names of its operands, in their order.
-const SUBCOMMANDS: [(&str, &[&str]); 10] = [
+const SUBCOMMANDS: [(&str, &[&str]); 11] = [
     ("run", &["PLAN"]),
     ("inspect", &["LOG"]),
     ("walk", &["IMAGE", "MEMORY", "LOG"]),
+    ("interval", &["IMAGE", "MEMORY", "LOG", "EVERY", "I", "J"]),
     ("watch", &["IMAGE", "MEMORY", "LOG", "ADDR"]),
     ("who", &["IMAGE", "MEMORY", "LOG", "ADDR", "I"]),
     ("when", &["IMAGE", "MEMORY", "LOG", "ADDR", "VALUE"]),

@@ -1,4 +1,5 @@
 //! Commands, with their operands.
+use crate::interval::Interval;
 use crate::pair::Pair;
 use crate::query::Query;
 
@@ -11,6 +12,8 @@ pub enum Command<'a> {
     Inspect { log: &'a str },
     /// `walk IMAGE MEMORY LOG`
     Walk(Pair<'a>),
+    /// `interval IMAGE MEMORY LOG EVERY I J`
+    Interval(Interval<'a>),
     /// `watch IMAGE MEMORY LOG ADDR`, and `who` and `when` with a word more
     Query(Query<'a>),
     /// `make NUMBER NAME`

@@ -3,6 +3,7 @@
 
 mod apps;
 pub mod command;
+mod interval;
 mod matching;
 mod number;
 mod pair;
@@ -11,6 +12,7 @@ mod reading;
 
 pub use command::Command;
 pub use dl_entry::OutOfMemory;
+pub use interval::Interval;
 pub use pair::Pair;
 pub use query::{Query, Question};
 pub use reading::read_words;

@@ -1,8 +1,8 @@
 //! Numbers as words write them: decimal digits, without a sign and without a zero in front of others.
-ghost use Rattle.std.specs.Prelude.{◌≡◌, IfSome, true};
+ghost use Rattle.std.specs.Prelude.{◌≡◌, ◌≤◌, ◌^◌, IfSome, true};
 ghost use Rattle.std.specs.Char.{is_ascii_digit};
 ghost use Rattle.std.specs.List.{list_all};
-ghost use Rattle.dl_words.specs.Numbers.{number_of, memory_of, address_of, place_of, is_plain, is_size};
+ghost use Rattle.dl_words.specs.Numbers.{number_of, memory_of, address_of, up_to, place_of, every_of, is_plain, is_size};
 
 /// The number that a word writes, where it is at most 2^32 - 1.
 pub fn read_number(word: &str) -> Option<u32>
@@ -37,15 +37,36 @@ pub fn read_address(memory: u32, word: &str) -> Option<u32>
     Some(address)
 }
 
-/// A place among the commits of a log: at most 2^24.
-pub fn read_place(word: &str) -> Option<u32>
-    ensures { result ≡ place_of word.now }
+/// The number that a word writes, where it is at most `most`.
+pub fn read_up_to(most: u32, word: &str) -> Option<u32>
+    ensures value { result ≡ up_to most word.now }
+    ensures within { IfSome result (λ number. number ≤ most) }
 {
-    let place = read_number(word)?;
-    if place > 16_777_216 {
+    let number = read_number(word)?;
+    if number > most {
         return None;
     }
-    Some(place)
+    Some(number)
+}
+
+/// A place among the commits of a log: at most 2^24.
+pub fn read_place(word: &str) -> Option<u32>
+    ensures value { result ≡ place_of word.now }
+    ensures within { IfSome result (λ place. place ≤ 2 ^ 24) }
+{
+    read_up_to(16_777_216, word)
+}
+
+/// How many commits lie between two states that are kept: 1 to 2^24.
+pub fn read_every(word: &str) -> Option<u32>
+    ensures value { result ≡ every_of word.now }
+    ensures within { IfSome result (λ every. (1 ≤ every) × (every ≤ 2 ^ 24)) }
+{
+    let every = read_place(word)?;
+    if every < 1 {
+        return None;
+    }
+    Some(every)
 }
 
 fn is_plain(word: &[u8]) -> bool

@@ -3,12 +3,13 @@ ghost use Rattle.std.specs.Prelude.{◌≡◌, IfOk};
 ghost use Rattle.std.specs.Option.{option_and_then, option_map};
 ghost use Rattle.clap.specs.Walk.{texts};
 ghost use Rattle.clap.specs.Words.{found_of, rows_of, subcommand_rows_of};
-ghost use Rattle.dl_words.specs.Commands.{command_of, command_view, pair_view, named as named_by, pair_of, query_of, query_view, run_of, inspect_of, walk_of, make_of};
+ghost use Rattle.dl_words.specs.Commands.{command_of, command_view, pair_view, named as named_by, pair_of, query_of, query_view, run_of, inspect_of, walk_of, interval_of, make_of};
 ghost use Rattle.dl_words.specs.Commands.{asm_of, drill_of, migrate_of, watch_of, when_of, who_of};
 
 use crate::command::Command;
+use crate::interval::Interval;
 use crate::matching::{find_matches, operand};
-use crate::number::{read_address, read_memory, read_number, read_place};
+use crate::number::{read_address, read_every, read_memory, read_number, read_place, read_up_to};
 use crate::pair::Pair;
 use crate::query::{Query, Question};
 use clap::ArgMatches;
@@ -44,6 +45,7 @@ fn named<'a>(name: &str, operands: &ArgMatches<'a>) -> Option<Command<'a>>
         "run" => run(operands),
         "inspect" => inspect(operands),
         "walk" => walk(operands),
+        "interval" => interval(operands),
         "watch" => watch(operands),
         "who" => who(operands),
         "when" => when(operands),
@@ -74,6 +76,21 @@ fn walk<'a>(operands: &ArgMatches<'a>) -> Option<Command<'a>>
 {
     let pair = pair(operands)?;
     Some(Command::Walk(pair))
+}
+
+fn interval<'a>(operands: &ArgMatches<'a>) -> Option<Command<'a>>
+    ensures { option_map command_view result ≡ interval_of (rows_of (found_of operands.now)) }
+{
+    let pair = pair(operands)?;
+    let every = read_every(operand(operands, "EVERY")?)?;
+    let to = read_place(operand(operands, "J")?)?;
+    let from = read_up_to(to, operand(operands, "I")?)?;
+    Some(Command::Interval(Interval {
+        pair,
+        every,
+        from,
+        to,
+    }))
 }
 
 fn watch<'a>(operands: &ArgMatches<'a>) -> Option<Command<'a>>

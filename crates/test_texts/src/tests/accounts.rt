@@ -21,11 +21,13 @@ fn accounts_are_those_of_the_worked_runs(rt: HostRuntime) -> Result<(), Fail> {
 #[test]
 fn accounts_end_where_their_logs_are_left(rt: HostRuntime) -> Result<(), Fail> {
     let alloc = rt.alloc();
-    let account = diverged(alloc, &[], End::Diverged(0, Why::Short(3, 2)))?;
+    let account = diverged(alloc, 0, &[], End::Diverged(0, Why::Short(3, 2)))?;
     assert!(rt; account.as_slice() == b"end diverged 0 2 3 2\n".as_slice());
     let commits = [commit(alloc, Actor::Thread(0), 3)];
-    let account = diverged(alloc, &commits, End::Diverged(1, Why::Input))?;
+    let account = diverged(alloc, 0, &commits, End::Diverged(1, Why::Input))?;
     assert!(rt; account.as_slice() == b"c 0 0 3\nend diverged 1 4\n".as_slice());
+    let account = diverged(alloc, 2, &commits, End::Diverged(3, Why::Dma))?;
+    assert!(rt; account.as_slice() == b"c 2 0 3\nend diverged 3 6\n".as_slice());
     Ok(())
 }
 
@@ -45,6 +47,7 @@ fn three_instructions(alloc: Global) -> Result<Vec<u8>, Fail> {
         &None,
         &memory,
         &End::Complete(2),
+        0,
     )?)
 }
 
@@ -71,6 +74,7 @@ fn interrupt(alloc: Global) -> Result<Vec<u8>, Fail> {
         &None,
         &memory,
         &End::Complete(2),
+        0,
     )?)
 }
 
@@ -107,10 +111,11 @@ fn device_words(alloc: Global) -> Result<Vec<u8>, Fail> {
         &None,
         &memory,
         &End::Complete(5),
+        0,
     )?)
 }
 
-fn diverged(alloc: Global, commits: &[Commit], end: End) -> Result<Vec<u8>, Fail> {
+fn diverged(alloc: Global, first: u32, commits: &[Commit], end: End) -> Result<Vec<u8>, Fail> {
     let threads = Threads::start(0);
     Ok(account_text(
         alloc,
@@ -119,7 +124,42 @@ fn diverged(alloc: Global, commits: &[Commit], end: End) -> Result<Vec<u8>, Fail
         &None,
         &memory(alloc, b"\x13\0\0\0")?,
         &end,
+        first,
     )?)
+}
+
+#[test]
+fn accounts_begin_with_any_commit(rt: HostRuntime) -> Result<(), Fail> {
+    assert!(rt; interval(&rt, rt.alloc())?.as_slice() == INTERVAL);
+    Ok(())
+}
+
+// The third and fourth commit of two threads, the second of which stores a word that the first one loads.
+fn interval(rt: &impl Abort, alloc: Global) -> Result<Vec<u8>, Fail> {
+    let mut commits = [
+        commit(alloc, Actor::Thread(1), 3),
+        commit(alloc, Actor::Thread(0), 2),
+    ];
+    commits[1].loads.push(Load {
+        address: 0x100,
+        value: 9,
+    })?;
+    let mut x = [0; 32];
+    x[5] = 9;
+    x[10] = 1;
+    let mut threads = alone(&thread(0x18, ThreadStatus::Live, x));
+    let mut x = [0; 32];
+    x[6] = 9;
+    let second = thread(0x2C, ThreadStatus::Live, x);
+    assert!(rt; threads.add(&Thread::from_parts(&second)));
+    let mut memory = memory(
+        alloc,
+        b"\x93\x08\x10\0\x13\x05\0\x02\x13\x06\0\0\x73\0\0\0\x83\x22\0\x10\x93\x08\0\0\x73\0\0\0\x13\0\0\0\
+          \x13\x03\x90\0\x23\x20\x60\x10\x93\x08\0\0\x73\0\0\0",
+    )?;
+    assert!(rt; memory.size() == 4096);
+    memory.put(0x100, 0b1111, 9);
+    Ok(account_text(alloc, &commits, &threads, &None, &memory, &End::At(4), 2)?)
 }
 
 #[test]
@@ -153,6 +193,7 @@ fn made(rt: &impl Abort, alloc: Global) -> Result<Vec<u8>, Fail> {
         &request,
         &memory_of_two_words(rt, alloc)?,
         &End::Complete(3),
+        0,
     )?)
 }
 
@@ -288,6 +329,23 @@ const DEVICE_WORDS: &[u8] = b"\
     00000000\n\
     m 00000000 B70200F003A3020083A3420023A4720003840200000000000000000000000000\n\
     end complete 5\n";
+
+const INTERVAL: &[u8] = b"\
+    c 2 1 3\n\
+    c 3 0 2\n\
+    l 00000100 00000009\n\
+    t 0 00000018 live 00000000 0 00000000 00000000 00000000 00000000 00000009 00000000 00000000 00000000 \
+    00000000 00000001 00000000 00000000 00000000 00000000 00000000 00000000 00000000 00000000 00000000 \
+    00000000 00000000 00000000 00000000 00000000 00000000 00000000 00000000 00000000 00000000 00000000 \
+    00000000\n\
+    t 1 0000002C live 00000000 0 00000000 00000000 00000000 00000000 00000000 00000009 00000000 00000000 \
+    00000000 00000000 00000000 00000000 00000000 00000000 00000000 00000000 00000000 00000000 00000000 \
+    00000000 00000000 00000000 00000000 00000000 00000000 00000000 00000000 00000000 00000000 00000000 \
+    00000000\n\
+    m 00000000 9308100013050002130600007300000083220010930800007300000013000000\n\
+    m 00000020 1303900023206010930800007300000000000000000000000000000000000000\n\
+    m 00000100 0900000000000000000000000000000000000000000000000000000000000000\n\
+    end at 4\n";
 
 const MADE: &[u8] = b"\
     c 0 0 4096\n\

@@ -24,6 +24,9 @@ const PLAN: &str = "cores = 1\n\
 const SPHERE: &str =
     "[[sphere]]\nimage = \"a.elf\"\nmemory = 4096\nrole = \"record\"\nmode = \"order-size\"\nlog = \"a.log\"\naccount = \"a.txt\"\n";
 
+/// Its sphere's role and mode.
+const RECORDED_ROLE: &str = "role = \"record\"\nmode = \"order-size\"";
+
 /// A plan with what the other one doesn't have.
 const OTHER: &str = "cores = 8\n\
       chunk = 64\n\
@@ -51,6 +54,8 @@ const OTHER: &str = "cores = 8\n\
       memory = 16777216\n\
       role = \"replay\"\n\
       log = \"a.log\"\n\
+      from = 2\n\
+      to = 4\n\
       account = \"c.txt\"\n";
 
 /// What the plan is read as once its first `from` is `to`.
@@ -95,7 +100,7 @@ const OTHER_SHOWN: &str = concat!(
     "input: Some(\"i.bin\"), console: Some(\"c.bin\"), report: None, spheres: [",
     "Sphere { image: \"a.elf\", memory: 4096, role: Plain, account: None }, ",
     "Sphere { image: \"b.elf\", memory: 8192, role: Record { mode: Picolog, version: 2, log: \"b.log\" }, account: None }, ",
-    "Sphere { image: \"b.elf\", memory: 16777216, role: Replay { log: \"a.log\" }, account: Some(\"c.txt\") }",
+    "Sphere { image: \"b.elf\", memory: 16777216, role: Replay { log: \"a.log\", from: Some(2), to: Some(4) }, account: Some(\"c.txt\") }",
     "] }"
 );
 
@@ -175,6 +180,11 @@ const LIMITS: &[(&str, &str)] = &[
     ("order-size", "order-only"),
     ("order-size", "picolog"),
     ("account", "version = 2\naccount"),
+    (RECORDED_ROLE, "role = \"replay\"\nfrom = 0"),
+    (RECORDED_ROLE, "role = \"replay\"\nto = 0"),
+    (RECORDED_ROLE, "role = \"replay\"\nfrom = 16777216"),
+    (RECORDED_ROLE, "role = \"replay\"\nto = 16777216"),
+    (RECORDED_ROLE, "role = \"replay\"\nfrom = 3\nto = 3"),
     ("cores", "input = \"s.txt\"\nconsole = \"c.bin\"\ncores"),
 ];
 
@@ -193,6 +203,7 @@ const NO_DOCUMENT_OR_OTHER_KEYS: &[(&str, &str, u8)] = &[
     ("account", "more", 2),
     ("account", "depth = 2\naccount", 2),
     ("cores", "version = 2\ncores", 2),
+    ("cores", "from = 2\ncores", 2),
     ("\"a.txt\"\n", "\"a.txt\"\ncores = 1\n", 2),
     (
         SPHERE,
@@ -219,6 +230,8 @@ const MISSING_KEYS_AND_OTHER_KINDS: &[(&str, &str, u8)] = &[
     ("cores", "input = 1979-05-27\ncores", 3),
     ("account", "version = \"2\"\naccount", 3),
     ("account", "version = 2.0\naccount", 3),
+    ("account", "from = \"2\"\naccount", 3),
+    ("account", "to = 4.0\naccount", 3),
     ("4096", "\"4096\"", 3),
     ("\"record\"", "\"Record\"", 3),
     ("\"order-size\"", "\"order\"", 3),
@@ -267,6 +280,10 @@ const OUTSIDE_LIMITS: &[(&str, &str, u8)] = &[
         "role = \"plain\"\nversion = 3\n",
         4,
     ),
+    (RECORDED_ROLE, "role = \"replay\"\nfrom = -1", 4),
+    (RECORDED_ROLE, "role = \"replay\"\nfrom = 16777217", 4),
+    (RECORDED_ROLE, "role = \"replay\"\nto = -1", 4),
+    (RECORDED_ROLE, "role = \"replay\"\nto = 16777217", 4),
     (SPHERE, "", 4),
     (SPHERE, "sphere = []", 4),
 ];
@@ -391,13 +408,40 @@ const CHUNKS: &[(u32, &str, u8)] = &[
     (65537, RECORDED_2, 4),
     (65536, "role = \"plain\"", 0),
     (65536, "role = \"replay\"\nlog = \"a.log\"", 0),
+    (4097, RECORDED_FROM, 8),
+    (4096, RECORDED_FROM, 9),
 ];
 
 const RECORDED: &str = "role = \"record\"\nmode = \"picolog\"\nlog = \"a.log\"";
 
 const RECORDED_1: &str = "role = \"record\"\nmode = \"picolog\"\nversion = 1\nlog = \"a.log\"";
 
+const RECORDED_FROM: &str = "role = \"record\"\nmode = \"picolog\"\nlog = \"a.log\"\nfrom = 0";
+
 const RECORDED_2: &str = "role = \"record\"\nmode = \"picolog\"\nversion = 2\nlog = \"a.log\"";
+
+#[test]
+fn refuses_intervals_that_are_not_replayed_or_end_before_they_begin(
+    rt: HostRuntime,
+) -> Result<(), Fail> {
+    are_refused(&rt, rt.alloc(), INTERVALS)
+}
+
+const INTERVALS: &[(&str, &str, u8)] = &[
+    ("account", "from = 0\naccount", 9),
+    ("account", "to = 16777216\naccount", 9),
+    (
+        "role = \"record\"\nmode = \"order-size\"\nlog = \"a.log\"",
+        "role = \"plain\"\nfrom = 0\nto = 0",
+        9,
+    ),
+    (RECORDED_ROLE, "role = \"replay\"\nfrom = 3\nto = 2", 9),
+    (
+        RECORDED_ROLE,
+        "role = \"replay\"\nfrom = 16777216\nto = 0",
+        9,
+    ),
+];
 
 #[test]
 fn refuses_by_the_first_of_two_rules(rt: HostRuntime) -> Result<(), Fail> {
@@ -429,6 +473,23 @@ const TWO_RULES: &[(&str, &str, u8)] = &[
         "chunk = 100\nbuffer = 16\nwindow = 2\nsignature = 64\nscript = \"s.txt\"\nreport = \"r.txt\"",
         "chunk = 5000\nbuffer = 16\nwindow = 2\nsignature = 64\nscript = \"s.txt\"\nreport = \"a.log\"",
         7,
+    ),
+    ("account", "from = -1\naccount", 4),
+    ("\"record\"", "\"plain\"\nto = 4", 6),
+    (
+        "log = \"a.log\"\naccount = \"a.txt\"\n",
+        "log = \"a.log\"\naccount = \"a.log\"\nfrom = 0\n",
+        7,
+    ),
+    (
+        RECORDED_ROLE,
+        "role = \"replay\"\nmode = \"order-size\"\nfrom = 3\nto = 2",
+        6,
+    ),
+    (
+        "report = \"r.txt\"\n",
+        "[[sphere]]\nimage = \"b.elf\"\nmemory = 4096\nrole = \"plain\"\nfrom = 16777217\n",
+        4,
     ),
 ];
 

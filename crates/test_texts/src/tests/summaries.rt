@@ -1,5 +1,5 @@
-//! Summaries of a worked run, and two that another program wrote.
-use dl_account::{Counts, SphereLine, summary_text};
+//! Summaries of worked runs, and two that another program wrote.
+use dl_account::{Counts, End, SphereLine, summary_text};
 use dl_entry::Why;
 use std::test::Fail;
 
@@ -50,6 +50,17 @@ const ROWS: &[Row] = &[
         ],
         summary: EVERY_REASON,
     },
+    Row {
+        events: 11,
+        spheres: &[
+            SphereLine::Interval(2, End::At(4)),
+            SphereLine::Interval(0, End::At(6)),
+            SphereLine::Interval(1, End::Diverged(3, Why::Short(3, 2))),
+            SphereLine::Interval(0, End::Diverged(3, Why::Short(3, 2))),
+            SphereLine::Complete(6),
+        ],
+        summary: INTERVALS,
+    },
 ];
 
 const PIPE_BETWEEN_SPHERES: &[u8] = b"\
@@ -76,3 +87,12 @@ const EVERY_REASON: &[u8] = b"\
     s 5 diverged 6 6\n\
     s 6 diverged 7 7 7\n\
     s 7 diverged 8 8\n";
+
+const INTERVALS: &[u8] = b"\
+    events 11\n\
+    commits 9\n\
+    s 0 complete 4\n\
+    s 1 complete 6\n\
+    s 2 diverged 3 2 3 2\n\
+    s 3 diverged 3 2 3 2\n\
+    s 4 complete 6\n";

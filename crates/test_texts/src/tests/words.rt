@@ -1,5 +1,7 @@
 //! Which words mean a command, and which command.
-use dl_words::{Command, OutOfMemory, Pair, Query, Question, read_words};
+ghost use Rattle.std.specs.Prelude.{◌≤◌, ◌^◌};
+
+use dl_words::{Command, Interval, OutOfMemory, Pair, Query, Question, read_words};
 use std::alloc::Global;
 use std::process::Abort;
 
@@ -28,6 +30,12 @@ const NONE: &[&[&str]] = &[
     &["walk", "a", "16781312", "l"],
     &["walk", "a", "04096", "l"],
     &["walk", "a", "+4096", "l"],
+    &["interval", "a", "4096", "l", "1", "2"],
+    &["interval", "a", "4096", "l", "0", "2", "4"],
+    &["interval", "a", "4096", "l", "16777217", "2", "4"],
+    &["interval", "a", "4096", "l", "1", "4", "2"],
+    &["interval", "a", "4096", "l", "1", "2", "16777217"],
+    &["interval", "a", "4096", "l", "1", "2", "4", "6"],
     &["watch", "a", "4096", "l"],
     &["watch", "a", "4096", "l", "2"],
     &["watch", "a", "4096", "l", "4096"],
@@ -74,6 +82,13 @@ fn words_mean_their_command_or_none(rt: HostRuntime) {
     };
     let walk = &["walk", "a.elf", "16777216", "a.log"];
     mean(&rt, alloc, walk, Command::Walk(pair));
+    let interval = &["interval", "a.elf", "16777216", "a.log", "1", "0", "0"];
+    mean(&rt, alloc, interval, sliced(pair, 1, 0, 0));
+    let last = 16_777_216;
+    let interval = &[
+        "interval", "a.elf", "16777216", "a.log", "16777216", "16777216", "16777216",
+    ];
+    mean(&rt, alloc, interval, sliced(pair, last, last, last));
     let watch = &["watch", "a.elf", "16777216", "a.log", "16777212"];
     mean(&rt, alloc, watch, asked(pair, 16_777_212, Question::Watch));
     let who = &["who", "a.elf", "16777216", "a.log", "0", "16777216"];
@@ -112,6 +127,18 @@ fn words_mean_their_command_or_none(rt: HostRuntime) {
     for words in NONE {
         assert!(rt; read(rt.alloc(), words) == Ok(None));
     }
+}
+
+fn sliced(pair: Pair<'static>, every: u32, from: u32, to: u32) -> Command<'static>
+    requires kept { (1 ≤ every) × (every ≤ 2 ^ 24) }
+    requires order { from ≤ to }
+{
+    Command::Interval(Interval {
+        pair,
+        every,
+        from,
+        to,
+    })
 }
 
 fn asked(pair: Pair<'static>, address: u32, question: Question) -> Command<'static> {
