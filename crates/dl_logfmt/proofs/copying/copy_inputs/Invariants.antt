@@ -1,5 +1,5 @@
 use Rattle.std.proofs.Common.{◌≡◌, take}
-use Rattle.dl_logfmt.proofs.migration.copy_inputs.Given as goal
+use Rattle.dl_logfmt.proofs.copying.copy_inputs.Given as goal
 
 -- those so far are copied
 abbrev pub invariant-loop-input : goal.invariant-loop-input

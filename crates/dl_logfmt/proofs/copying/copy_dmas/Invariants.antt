@@ -1,5 +1,5 @@
 use Rattle.std.proofs.Common.{◌≡◌, take}
-use Rattle.dl_logfmt.proofs.migration.copy_dmas.Given as goal
+use Rattle.dl_logfmt.proofs.copying.copy_dmas.Given as goal
 
 -- those so far are copied
 abbrev pub invariant-loop-dma : goal.invariant-loop-dma
