@@ -9,7 +9,7 @@ use std::alloc::Global;
 use std::test::Fail;
 
 // A file that exits: `addi x17, x0, 0`, `addi x10, x0, 7`, `ecall`.
-const EXIT: &[u8] = &[
+pub(super) const EXIT: &[u8] = &[
     0x7f, 0x45, 0x4c, 0x46, 0x01, 0x01, 0x01, 0x00, 0x00, 0x00, 0x00, 0x00, 0x00, 0x00, 0x00, 0x00,
     0x02, 0x00, 0xf3, 0x00, 0x01, 0x00, 0x00, 0x00, 0x00, 0x00, 0x00, 0x00, 0x34, 0x00, 0x00, 0x00,
     0x00, 0x00, 0x00, 0x00, 0x00, 0x00, 0x00, 0x00, 0x34, 0x00, 0x20, 0x00, 0x01, 0x00, 0x00, 0x00,
@@ -51,9 +51,9 @@ fn walks_end_where_their_logs_say(rt: HostRuntime) -> Result<(), Fail> {
 #[test]
 fn a_transfer_is_stored_and_loaded(rt: HostRuntime) -> Result<(), Fail> {
     let walked = walked(rt.alloc(), DMA, TRANSFERRED, 5)?;
-    assert!(rt; has_stored(&walked.memory));
-    assert!(rt; has_loaded(walked.threads.get(0)));
-    assert!(rt; walked.request.is_none());
+    assert!(rt; has_stored(&walked.state.memory));
+    assert!(rt; has_loaded(walked.state.threads.get(0)));
+    assert!(rt; walked.state.request.is_none());
     let stores = [at_dma(256, 2), at_dma(260, 0x4241)];
     assert!(rt; walked.stores.as_slice() == stores.as_slice());
     assert!(rt; watch(rt.alloc(), &walked, 256)?.len() == 1);
@@ -117,7 +117,7 @@ const NO_THREAD: &[u8] = b"\x44\x4C\x52\x4E\x01\x00\x00\x00\x64\x00\x00\x00\x02\
       \x02\x00\x00\x00\x05\x02\x00\x00\x00\x02\x00\x00\x00\x00\x00\x00\
       \x00\x00\x00\x00\x00\x00\x00\x00\x00";
 
-const LEFT_OVER: &[u8] = b"\x44\x4C\x52\x4E\x01\x00\x00\x00\x64\x00\x00\x00\x02\x00\x00\x00\
+pub(super) const LEFT_OVER: &[u8] = b"\x44\x4C\x52\x4E\x01\x00\x00\x00\x64\x00\x00\x00\x02\x00\x00\x00\
       \x02\x00\x00\x00\x00\x02\x00\x00\x00\x02\x00\x00\x00\x00\x00\x00\
       \x00\x01\x00\x00\x00\x05\x00\x00\x00\x00\x00\x00\x00\x00\x00\x00";
 
