@@ -1,5 +1,5 @@
 -- What a run that is over tells, sphere by sphere, in the words of the machine is what its texts say.
-use Rattle.std.proofs.Common.{◌≡◌, ℕ, zero, suc, ◌+◌, ◌<◌, ◌≤◌, ◌^◌, Bool, true, false, List, [], ◌∷◌, ◌++◌, length, Some, None, refl, sym, ap, ◌∙◌, subst, arith, get_or, inl, inr}
+use Rattle.std.proofs.Common.{◌≡◌, ℕ, zero, suc, ◌+◌, ◌<◌, ◌≤◌, Bool, true, false, List, [], ◌∷◌, ◌++◌, length, Some, None, refl, sym, ap, ◌∙◌, subst, arith, get_or, inl, inr}
 use Rattle.std.specs.Prelude.{◌⊎◌, ◌||◌, slice_get, drop}
 use Rattle.std.proofs.lemmas.List.{append_assoc}
 use Rattle.std.proofs.lemmas.Bool.{true≢false}
@@ -30,10 +30,9 @@ use Rattle.spec_finishing.proofs.Ending.Knowing.{after-event}
 use Rattle.spec_finishing.proofs.Ending.KindsKept.{is_replayed}
 use Rattle.spec_finishing.proofs.Ending.ShortRuns.{setups_finish}
 use Rattle.spec_finishing.proofs.Ending.Played.{replays_finished}
-use Rattle.spec_run.specs.Runs.{executed, played, end_of, diverges, diverges_as, has_diverged}
+use Rattle.spec_run.specs.Runs.{executed, played, played_end, end_of, diverges, diverges_as, has_diverged}
 use Rattle.spec_run.specs.Texts.{account_text, console_text, line_as, replay_line, lines_from, lines_of, log_as, log_of_points, log_text, report_text, summary_text}
 use Rattle.spec_run.specs.Promise.{end_as, account_held, HasRole, IsDescribed}
-use Rattle.spec_run.proofs.Room.{leaves_room}
 use Rattle.spec_run.proofs.Described.{spheres_described, runs_described}
 use Rattle.dl_machine.specs.Ready.{HasRoom}
 use Rattle.dl_finish.proofs.Room.{room_kept}
@@ -177,7 +176,7 @@ commits-are es r i over inside live =
     ap (λ (w : World). position (sphere_at w i).progress) over.world ∙ ap position ((described es r i over inside).executed l)
 
 -- a replayed one ends as its log's play
-pub ends-as-played : (es : List Event) (r : Ran) (i : ℕ) (asked : ReplaySetup) (n : ℕ) → IsOver es r → i < length r.setup.spheres → (image_at r.setup i).role ≡ IsReplayed asked → end_as (sphere_at r.world i).role n ≡ end_of (played asked.log (image_at r.setup i)).now
+pub ends-as-played : (es : List Event) (r : Ran) (i : ℕ) (asked : ReplaySetup) (n : ℕ) → IsOver es r → i < length r.setup.spheres → (image_at r.setup i).role ≡ IsReplayed asked → end_as (sphere_at r.world i).role n ≡ played_end asked (image_at r.setup i)
 ends-as-played es r i asked n over inside is =
     let h = has_role es r i (IsReplayed asked) over inside is in
     let there : (sphere_at (finished r.setup es) i).role ≡ Replay h.0 = subst (λ (w : World). (sphere_at w i).role ≡ Replay h.0) over.world h.1 in

@@ -178,6 +178,16 @@ begun-start : (image : SphereSetup) (log : LogParts) (o : Option Begun) (b : Beg
 begun-start image log None b is h = absurd (none-some b is)
 begun-start image log (Some other) b is h = ap (λ (x : Begun). state_in x.state) (sym (same_Some _ _ is)) ∙ h.state
 
+unless-begun : (image : SphereSetup) (asked : ReplaySetup) (o : Option Begun) → o ≡ None → IsBegunIf image asked o
+unless-begun image asked None is = tt
+unless-begun image asked (Some b) is = absurd (none-some b (sym is))
+
+-- and nothing is asked of where it begins
+pub unless_begun : (image : SphereSetup) (role : Role) → begun_as role ≡ None → IsBegunAs image role
+unless_begun image Role.Plain is = tt
+unless_begun image (Role.Record version mode) is = tt
+unless_begun image (Role.Replay r) is = unless-begun image (replay_setup r) r.begun is
+
 -- else where the interval begins
 pub starts_begun : (image : SphereSetup) (role : Role) (b : Begun) → begun_as role ≡ Some b → IsBegunAs image role → state_in b.state ≡ start_as image (role_setup role)
 starts_begun image Role.Plain b is h = absurd (none-some b is)
