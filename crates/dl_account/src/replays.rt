@@ -14,8 +14,8 @@ pub(crate) fn put_diverged(text: &mut Text, index: u32, why: Why) -> Result<(), 
     put_why(text, why)
 }
 
-// The fields of a reason: its number, and the sizes that belong to it.
-fn put_why(text: &mut Text, why: Why) -> Result<(), OutOfMemory>
+/// The fields of a reason: its number, and the sizes that belong to it.
+pub fn put_why(text: &mut Text, why: Why) -> Result<(), OutOfMemory>
     ensures { OnOk result (text.new ≡ text.old ++ flat_map spaced (why_fields why)) }
 {
     match why {

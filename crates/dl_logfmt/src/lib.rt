@@ -1,6 +1,7 @@
 //! Logs as bytes: whole, or in pieces.
 #![tactic(auto)]
 
+mod copying;
 mod entry;
 mod error;
 mod fields;
@@ -25,6 +26,7 @@ mod version;
 mod whole;
 mod writer;
 
+pub use copying::copy_log;
 pub use dl_entry::OutOfMemory;
 pub use error::LogError;
 pub use law::reading_undoes_writing;

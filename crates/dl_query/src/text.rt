@@ -1,11 +1,9 @@
 //! Answers as text. If the log diverges, an answer is over the commits before, and a line more says where and why.
 ghost use Rattle.std.specs.Prelude.{◌≡◌, ◌++◌, IfOk, OnOk, flat_map};
-ghost use Rattle.dl_account.specs.Lines.{spaced};
-ghost use Rattle.dl_account.specs.Replays.{why_fields};
 ghost use Rattle.spec_query.specs.Texts.{end_text, last_text, line_text, lines_text, none_text, when_text};
 
-use dl_account::Text;
-use dl_entry::{End, OutOfMemory, Why};
+use dl_account::{Text, put_why};
+use dl_entry::{End, OutOfMemory};
 use spec_query::{Line, When};
 use std::alloc::Global;
 
@@ -81,36 +79,13 @@ fn put_end(text: &mut Text, end: End) -> Result<(), OutOfMemory>
     ensures { OnOk result (text.new ≡ text.old ++ end_text end) }
 {
     match end {
-        End::Complete(_) => Ok(()),
+        End::Complete(_) | End::At(_) => Ok(()),
         End::Diverged(index, why) => {
             text.put(b"diverged")?;
             text.put_number(u64::from(index))?;
             put_why(text, why)?;
             text.put(b"\n")
         }
-    }
-}
-
-// The fields of a reason, as accounts write them.
-fn put_why(text: &mut Text, why: Why) -> Result<(), OutOfMemory>
-    ensures { OnOk result (text.new ≡ text.old ++ flat_map spaced (why_fields why)) }
-{
-    match why {
-        Why::NoThread => text.put_number(1),
-        Why::Short(logged, found) => {
-            text.put_number(2)?;
-            text.put_number(u64::from(logged))?;
-            text.put_number(u64::from(found))
-        }
-        Why::NotSerial => text.put_number(3),
-        Why::Input => text.put_number(4),
-        Why::Interrupt => text.put_number(5),
-        Why::Dma => text.put_number(6),
-        Why::SizeOfSerial(logged) => {
-            text.put_number(7)?;
-            text.put_number(u64::from(logged))
-        }
-        Why::LeftOver => text.put_number(8),
     }
 }
 

@@ -41,7 +41,7 @@ effect_of d (Fails why) = d
 abbrev IsLike : Effect → Effect → Type 0
 IsLike e f = record f { thread = e.thread } ≡ e
 
-interrupted-like : (o : Option ℕ) (e : Effect) (u : Used) (f : Effect) (w : Used) → with_interrupted o e u ≡ Goes f w → IsLike e f
+pub interrupted-like : (o : Option ℕ) (e : Effect) (u : Used) (f : Effect) (w : Used) → with_interrupted o e u ≡ Goes f w → IsLike e f
 unfolding goes effect_of
 interrupted-like None e u f w is = ap (λ (x : Effect). record x { thread = e.thread }) (sym (ap (effect_of e) is))
 interrupted-like (Some value) e u f w is =
@@ -50,7 +50,7 @@ interrupted-like (Some value) e u f w is =
       | false ↦ λ h. absurd (true≢false (sym (ap goes h)))
     ]) is
 
-unless-goes : (o : Option Why) (v : LogVerdict) (f : Effect) (w : Used) → unless o v ≡ Goes f w → v ≡ Goes f w
+pub unless-goes : (o : Option Why) (v : LogVerdict) (f : Effect) (w : Used) → unless o v ≡ Goes f w → v ≡ Goes f w
 unfolding goes
 unless-goes None v f w is = is
 unless-goes (Some why) v f w is = absurd (true≢false (sym (ap goes is)))

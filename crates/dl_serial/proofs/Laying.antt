@@ -1,14 +1,13 @@
 -- Words over a memory stay inside it, and laying them one after another lays them all.
 use Rattle.std.proofs.Common.{Result, Ok, Err, OnOk, is_ok, is_err, ◌≡◌, ℕ, ◌+◌, ◌*◌, ◌/◌, ◌%◌, ◌<◌, ◌≤◌, true, false, List, [], ◌∷◌, length, drop, slice_get, Some, None, refl, sym, ◌∙◌, ap, subst, arith}
-use Rattle.spec_isa.specs.Words.{Stored, Apart, IsBytes, lay, lays, put, read}
+use Rattle.spec_isa.specs.Words.{Stored, Apart, IsBytes, lay, lays, read}
 use Rattle.spec_isa.specs.Masks.{over, bytes_of}
 use Rattle.spec_isa.proofs.MemoryLaws.{length_lay, length_lays}
 use Rattle.spec_isa.proofs.BufferLaws.{read_over, lays_put}
 use Rattle.dl_wbuf.specs.Buffers.{Words, has_room}
 use Rattle.dl_thread.specs.Sight.{Lays}
 use Rattle.spec_engine.specs.Flights.{AreInside}
-use Rattle.spec_protocol.proofs.Sound.Words.{inside_put}
-use Rattle.dl_serial.specs.Overlays.{sight_of}
+use Rattle.dl_serial.specs.Overlays.{sight_of, with_word}
 
 pub first_inside : (size : ℕ) (ws : List Stored) (s : Stored) → slice_get ws 0 ≡ Some s → AreInside size ws → 4 * s.number + 4 ≤ size
 first_inside size [] s e all = cc
@@ -44,27 +43,14 @@ pub within : (m : List ℕ) (ws : List Stored) (addr : ℕ) → addr + 4 ≤ len
 within m ws addr h = omega (arith, length_lays m ws)
 
 -- a store that was taken lies over what was shown, and in the memory
-pub shown_put : (m : List ℕ) (o n : Words) (a mask value : ℕ) → Apart o.words → has_room o a ≡ true → n ≡ record { capacity = o.capacity; words = put o.words (bytes_of a mask value) }
-    → Lays (sight_of (record { room = o.capacity; memory = m; words = o.words })) (bytes_of a mask value) (sight_of (record { room = n.capacity; memory = m; words = n.words }))
+pub shown_put : (m : List ℕ) (old new : Words) (a mask value : ℕ) → Apart old.words → has_room old a ≡ true → new ≡ with_word old (bytes_of a mask value)
+    → Lays (sight_of m old) (bytes_of a mask value) (sight_of m new)
 unfolding bytes_of
-shown_put m o n a mask value apart taken e =
+shown_put m old new a mask value apart taken e =
     record {
       room = taken;
-      bytes = ap (λ (w : Words). lays m w.words) e ∙ lays_put m o.words (bytes_of a mask value) apart;
+      bytes = ap (λ (w : Words). lays m w.words) e ∙ lays_put m old.words (bytes_of a mask value) apart;
     }
-
--- words inside a memory stay inside it with one more that is
-pub inside_after : (m : List ℕ) (o n : Words) (b : Stored) → AreInside (length m) o.words → 4 * b.number + 4 ≤ length m → n ≡ record { capacity = o.capacity; words = put o.words b } → AreInside (length m) n.words
-inside_after m o n b all one_ e = subst (λ (w : Words). AreInside (length m) w.words) (sym e) (inside_put (length m) o.words b all one_)
-
-bytes_of_number : (number mask value : ℕ) → (bytes_of number mask value).number ≡ number
-unfolding bytes_of
-bytes_of_number number mask value = refl
-
--- a store to an aligned address inside a memory makes a word inside it
-pub store_inside : (m : List ℕ) (ws : List Stored) (addr mask value : ℕ) → addr % 4 ≡ 0 → addr + 4 ≤ length (lays m ws) → 4 * (bytes_of (addr / 4) mask value).number + 4 ≤ length m
-store_inside m ws addr mask value aligned inside =
-    let h = bytes_of_number (addr / 4) mask value in omega (arith, h, within m ws addr inside)
 
 -- once the first word is laid into the memory, the others are inside it still
 pub still_inside : (m : List ℕ) (ws : List Stored) (n : List ℕ) (w : Words) {capacity : ℕ} (s : Stored) → n ≡ lay m s → w ≡ record { capacity = capacity; words = drop 1 ws }

@@ -6,3 +6,6 @@ mod Goes
 mod Settling
 mod Sizes
 mod Turning
+mod Requests
+mod Resumed
+mod Laps

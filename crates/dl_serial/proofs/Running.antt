@@ -9,16 +9,18 @@ use Rattle.spec_isa.specs.Words.{Stored, lays, holds, is_inside}
 use Rattle.spec_isa.specs.Instruction.{Next, one, unless, serial_of, loads_of}
 use Rattle.spec_isa.specs.Runs.{Run, followed, more, with_load, with_store}
 use Rattle.spec_kernel.specs.Needs.{next_kind}
+use Rattle.dl_wbuf.specs.Buffers.{Words}
 use Rattle.dl_thread.specs.declared.answer.Did.{Did}
 use Rattle.dl_thread.specs.Sight.{Sight}
-use Rattle.dl_thread.specs.Answer.{did, fetched_word, load_made, store_made, thread_next, unless_held, unless_serial, holder, has_room as sight_room, MayRead, MayWrite, Seen, Sees}
-use Rattle.dl_serial.specs.Overlays.{Overlaid, sight_of, ReadBy, WrittenBy, with_word}
+use Rattle.dl_thread.specs.Answer.{did, fetched_word, load_made, store_made, thread_next, unless_held, unless_serial, holder, has_room as sight_room}
+use Rattle.dl_serial.specs.Overlays as overlay
+use Rattle.dl_serial.specs.Overlays.{sight_of}
 
 -- ---- what the instruction comes to, where no flight holds anything up
 
-not_held : (o : Overlaid) (a : Option ℕ) (d : Did) → unless_held (holder (sight_of o) a) d ≡ d
-not_held o None d = refl
-not_held o (Some a) d = refl
+not_held : (m : List ℕ) (ws : Words) (a : Option ℕ) (d : Did) → unless_held (holder (sight_of m ws) a) d ≡ d
+not_held m ws None d = refl
+not_held m ws (Some a) d = refl
 
 unfoldable room_or_none : Sight → Option Load → Option Stored → Did
 room_or_none s load store = if sight_room s store then Did.Next load else Did.NoRoom
@@ -33,23 +35,23 @@ unfolding serial_of
 serial_outside t f size e = rw e refl
 
 -- why the instruction is serial, if it is
-abbrev kind_of : Overlaid → Parts → Option Kind
-kind_of o t = serial_of t (fetched_word (sight_of o) t) (length (lays o.memory o.words))
+abbrev kind_of : List ℕ → Words → Parts → Option Kind
+kind_of m ws t = serial_of t (fetched_word (sight_of m ws) t) (length (lays m ws.words))
 
-did_is : (o : Overlaid) (t : Parts) → did (sight_of o) t ≡ unless_serial (kind_of o t) (room_or_none (sight_of o) (load_made (sight_of o) t) (store_made (sight_of o) t))
+did_is : (m : List ℕ) (ws : Words) (t : Parts) → let s = sight_of m ws in did s t ≡ unless_serial (kind_of m ws t) (room_or_none s (load_made s t) (store_made s t))
 unfolding room_or_none
-did_is o t =
-    let s = sight_of o in
+did_is m ws t =
+    let s = sight_of m ws in
     did_inside (is_inside (length s.bytes) t.pc) _ _ (λ _. refl) (serial_outside t (fetched_word s t) (length s.bytes)) _ _
-    (not_held o (loads_of t (fetched_word s t)) _)
+    (not_held m ws (loads_of t (fetched_word s t)) _)
 
-one_is : (o : Overlaid) (t : Parts) → one t (lays o.memory o.words) ≡ unless (kind_of o t) (Next (thread_next (sight_of o) t) (load_made (sight_of o) t) (store_made (sight_of o) t))
+one_is : (m : List ℕ) (ws : Words) (t : Parts) → let s = sight_of m ws in one t (lays m ws.words) ≡ unless (kind_of m ws t) (Next (thread_next s t) (load_made s t) (store_made s t))
 unfolding one
-one_is o t = refl
+one_is m ws t = refl
 
-kind_is : (o : Overlaid) (t : Parts) → next_kind t (lays o.memory o.words) ≡ kind_of o t
+kind_is : (m : List ℕ) (ws : Words) (t : Parts) → next_kind t (lays m ws.words) ≡ kind_of m ws t
 unfolding next_kind
-kind_is o t = refl
+kind_is m ws t = refl
 
 -- ---- it is run
 
@@ -63,56 +65,33 @@ next_by s None next load made store e =
       | false ↦ λ h. cc
     ] e
 
-read_same : (a : Option ℕ) (v w : Overlaid) → MayRead ReadBy a v w → w ≡ v
-read_same None v w h = h
-read_same (Some a) v w h = h
+words_stored : (ws : Words) (store : Option Stored) → (overlay.with_store ws store).words ≡ with_store ws.words store
+words_stored ws None = refl
+words_stored ws (Some b) = refl
 
-abbrev written : Overlaid → Option Stored → Overlaid
-written o None = o
-written o (Some b) = with_word o b
-
-write_is : (store : Option Stored) (v w : Overlaid) → MayWrite WrittenBy store v w → w ≡ written v store
-write_is None v w h = h
-write_is (Some b) v w h = h
-
-seen_is : (fetch load : Option ℕ) (store : Option Stored) (o after_ : Overlaid) → Seen ReadBy WrittenBy fetch load store o after_ → after_ ≡ written o store
-seen_is fetch load store o after_ seen =
-    write_is store seen.loaded after_ seen.stores
-    ∙ ap (λ (v : Overlaid). written v store) (read_same load seen.fetched seen.loaded seen.loads ∙ read_same fetch o seen.fetched seen.fetches)
-
-words_written : (o : Overlaid) (store : Option Stored) → (written o store).words ≡ with_store o.words store
-words_written o None = refl
-words_written o (Some b) = refl
-
-memory_written : (o : Overlaid) (store : Option Stored) → (written o store).memory ≡ o.memory
-memory_written o None = refl
-memory_written o (Some b) = refl
+capacity_stored : (ws : Words) (store : Option Stored) → (overlay.with_store ws store).capacity ≡ ws.capacity
+capacity_stored ws None = refl
+capacity_stored ws (Some b) = refl
 
 -- an instruction that was run is one more of the run
-pub next-more : (o after_ : Overlaid) (r : Run) (t next : Parts) (load : Option Load) → t ≡ r.thread → o.words ≡ r.words
-    → Did.Next load ≡ did (sight_of o) t → next ≡ thread_next (sight_of o) t → Sees ReadBy WrittenBy (sight_of o) t (Did.Next load) o after_
-    → more o.memory r ≡ record { thread = next; words = after_.words; loads = with_load r.loads load; n = suc r.n }
-next-more o after_ r t next load is same d moved sees =
-    let s = sight_of o in
-    let outcome : one t (lays o.memory o.words) ≡ Next next load (store_made s t) =
-    one_is o t ∙ next_by s (kind_of o t) (thread_next s t) load (load_made s t) (store_made s t) (d ∙ did_is o t) ∙ ap (λ (u : Parts). Next u load (store_made s t)) (sym moved)
+pub next-more : (m : List ℕ) (ws new : Words) (r : Run) (t next : Parts) (load : Option Load) → t ≡ r.thread → ws.words ≡ r.words
+    → let s = sight_of m ws in Did.Next load ≡ did s t → next ≡ thread_next s t → new ≡ overlay.with_store ws (store_made s t)
+    → more m r ≡ record { thread = next; words = new.words; loads = with_load r.loads load; n = suc r.n }
+next-more m ws new r t next load is same d moved stored =
+    let s = sight_of m ws in
+    let store = store_made s t in
+    let outcome : one t (lays m ws.words) ≡ Next next load store =
+    one_is m ws t ∙ next_by s (kind_of m ws t) (thread_next s t) load (load_made s t) store (d ∙ did_is m ws t) ∙ ap (λ (u : Parts). Next u load store) (sym moved)
     in
-    let words : with_store r.words (store_made s t) ≡ after_.words =
-    ap (λ (ws : List Stored). with_store ws (store_made s t)) (sym same) ∙ sym (words_written o (store_made s t)) ∙ sym (ap (λ (v : Overlaid). v.words) (seen_is _ _ _ o after_ sees))
+    let words : with_store r.words store ≡ new.words =
+    ap (λ (xs : List Stored). with_store xs store) (sym same) ∙ sym (words_stored ws store) ∙ sym (ap (λ (w : Words). w.words) stored)
     in
-    (λ i. followed r (one (sym is i) (lays o.memory (sym same i))))
+    (λ i. followed r (one (sym is i) (lays m (sym same i))))
     ∙ ap (followed r) outcome
-    ∙ ap (λ (ws : List Stored). record { thread = next; words = ws; loads = with_load r.loads load; n = suc r.n }) words
+    ∙ ap (λ (xs : List Stored). record { thread = next; words = xs; loads = with_load r.loads load; n = suc r.n }) words
 
-pub next-memory : (o after_ : Overlaid) (t : Parts) (load : Option Load) → Sees ReadBy WrittenBy (sight_of o) t (Did.Next load) o after_ → after_.memory ≡ o.memory
-next-memory o after_ t load sees = ap (λ (v : Overlaid). v.memory) (seen_is _ _ _ o after_ sees) ∙ memory_written o (store_made (sight_of o) t)
-
-room_written : (o : Overlaid) (store : Option Stored) → (written o store).room ≡ o.room
-room_written o None = refl
-room_written o (Some b) = refl
-
-pub next-room : (o after_ : Overlaid) (t : Parts) (load : Option Load) → Sees ReadBy WrittenBy (sight_of o) t (Did.Next load) o after_ → after_.room ≡ o.room
-next-room o after_ t load sees = ap (λ (v : Overlaid). v.room) (seen_is _ _ _ o after_ sees) ∙ room_written o (store_made (sight_of o) t)
+pub next-room : (ws new : Words) (store : Option Stored) → new ≡ overlay.with_store ws store → new.capacity ≡ ws.capacity
+next-room ws new store is = ap (λ (w : Words). w.capacity) is ∙ capacity_stored ws store
 
 -- ---- it is serial
 
@@ -122,27 +101,26 @@ kind_by s (Some k) kind made store e = let same : k ≡ kind = cc in ap Some sam
 kind_by s None kind made store e =
     elim (sight_room s store) as (λ (b : Bool). Did.Serial kind ≡ (if b then Did.Next made else Did.NoRoom) → None ≡ Some kind) [ true ↦ λ h. cc | false ↦ λ h. cc ] e
 
-kind_found : (o : Overlaid) (t : Parts) (kind : Kind) → Did.Serial kind ≡ did (sight_of o) t → kind_of o t ≡ Some kind
-kind_found o t kind d = kind_by (sight_of o) (kind_of o t) kind (load_made (sight_of o) t) (store_made (sight_of o) t) (d ∙ did_is o t)
+kind_found : (m : List ℕ) (ws : Words) (t : Parts) (kind : Kind) → Did.Serial kind ≡ did (sight_of m ws) t → kind_of m ws t ≡ Some kind
+kind_found m ws t kind d =
+    let s = sight_of m ws in kind_by s (kind_of m ws t) kind (load_made s t) (store_made s t) (d ∙ did_is m ws t)
 
 -- a thread whose instruction is found serial has a serial next step on the memory with the words over it
-pub serial-found : (o : Overlaid) (t : Parts) (kind : Kind) → Did.Serial kind ≡ did (sight_of o) t → IsSome (next_kind t (lays o.memory o.words))
-serial-found o t kind d = subst IsSome (sym (kind_is o t ∙ kind_found o t kind d)) refl
+pub serial-found : (m : List ℕ) (ws : Words) (t : Parts) (kind : Kind) → Did.Serial kind ≡ did (sight_of m ws) t → IsSome (next_kind t (lays m ws.words))
+serial-found m ws t kind d = subst IsSome (sym (kind_is m ws t ∙ kind_found m ws t kind d)) refl
 
 -- and then it is not part of the run
-pub serial-more : (o : Overlaid) (r : Run) (t : Parts) (kind : Kind) → t ≡ r.thread → o.words ≡ r.words → Did.Serial kind ≡ did (sight_of o) t → more o.memory r ≡ r
-serial-more o r t kind is same d =
-    (λ i. followed r (one (sym is i) (lays o.memory (sym same i))))
-    ∙ ap (followed r) (one_is o t ∙ ap (λ (k : Option Kind). unless k (Next (thread_next (sight_of o) t) (load_made (sight_of o) t) (store_made (sight_of o) t))) (kind_found o t kind d))
-
-pub serial-still : (o after_ : Overlaid) (t : Parts) (kind : Kind) → Sees ReadBy WrittenBy (sight_of o) t (Did.Serial kind) o after_ → after_ ≡ o
-serial-still o after_ t kind sees = seen_is _ _ _ o after_ sees
+pub serial-more : (m : List ℕ) (ws : Words) (r : Run) (t : Parts) (kind : Kind) → t ≡ r.thread → ws.words ≡ r.words → Did.Serial kind ≡ did (sight_of m ws) t → more m r ≡ r
+serial-more m ws r t kind is same d =
+    let s = sight_of m ws in
+    (λ i. followed r (one (sym is i) (lays m (sym same i))))
+    ∙ ap (followed r) (one_is m ws t ∙ ap (λ (k : Option Kind). unless k (Next (thread_next s t) (load_made s t) (store_made s t))) (kind_found m ws t kind d))
 
 -- ---- nothing else comes
 
-room_there : (o : Overlaid) (store : Option Stored) → length o.words < o.room → sight_room (sight_of o) store ≡ true
-room_there o None few = refl
-room_there o (Some b) few = by_held (holds o.words b.number) (nat_lt (length o.words) o.room) (lt-ltb (length o.words) o.room few)
+room_there : (m : List ℕ) (ws : Words) (store : Option Stored) → length ws.words < ws.capacity → sight_room (sight_of m ws) store ≡ true
+room_there m ws None few = refl
+room_there m ws (Some b) few = by_held (holds ws.words b.number) (nat_lt (length ws.words) ws.capacity) (lt-ltb (length ws.words) ws.capacity few)
   where
     by_held : (a b : Bool) → b ≡ true → (a || b) ≡ true
     by_held true b e = refl
@@ -153,8 +131,9 @@ unfolding room_or_none
 full_by s (Some k) made store there e = cc
 full_by s None made store there e = let h : Did.NoRoom ≡ Did.Next made = e ∙ ap (λ (b : Bool). if b then Did.Next made else Did.NoRoom) there in cc
 
-pub never-full : (o : Overlaid) (t : Parts) → length o.words < o.room → Did.NoRoom ≡ did (sight_of o) t → ⊥
-never-full o t few d = full_by (sight_of o) (kind_of o t) (load_made (sight_of o) t) (store_made (sight_of o) t) (room_there o (store_made (sight_of o) t) few) (d ∙ did_is o t)
+pub never-full : (m : List ℕ) (ws : Words) (t : Parts) → length ws.words < ws.capacity → Did.NoRoom ≡ did (sight_of m ws) t → ⊥
+never-full m ws t few d =
+    let s = sight_of m ws in full_by s (kind_of m ws t) (load_made s t) (store_made s t) (room_there m ws (store_made s t) few) (d ∙ did_is m ws t)
 
 bounced_by : (s : Sight) (o : Option Kind) (made : Option Load) (store : Option Stored) (k : ℕ) → Did.Bounced k ≡ unless_serial o (room_or_none s made store) → ⊥
 unfolding room_or_none
@@ -162,5 +141,5 @@ bounced_by s (Some kind) made store k e = cc
 bounced_by s None made store k e =
     elim (sight_room s store) as (λ (b : Bool). Did.Bounced k ≡ (if b then Did.Next made else Did.NoRoom) → ⊥) [ true ↦ λ h. cc | false ↦ λ h. cc ] e
 
-pub never-held : (o : Overlaid) (t : Parts) (k : ℕ) → Did.Bounced k ≡ did (sight_of o) t → ⊥
-never-held o t k d = bounced_by (sight_of o) (kind_of o t) (load_made (sight_of o) t) (store_made (sight_of o) t) k (d ∙ did_is o t)
+pub never-held : (m : List ℕ) (ws : Words) (t : Parts) (k : ℕ) → Did.Bounced k ≡ did (sight_of m ws) t → ⊥
+never-held m ws t k d = let s = sight_of m ws in bounced_by s (kind_of m ws t) (load_made s t) (store_made s t) k (d ∙ did_is m ws t)

@@ -1,14 +1,19 @@
--- A run stores no more words than it has instructions, and stops where a serial one is next.
-use Rattle.std.proofs.Common.{◌≡◌, ℕ, zero, suc, ◌<◌, ◌≤◌, List, length, Option, Some, None, refl, sym, ◌∙◌, ap, subst, arith}
+-- A run stores no more words than it has instructions, all inside its memory, and stops where a serial one is next.
+use Rattle.std.proofs.Common.{◌≡◌, ℕ, zero, suc, ◌/◌, ◌<◌, ◌≤◌, List, length, Option, Some, None, refl, sym, ◌∙◌, ap, subst, arith}
 use Rattle.std.specs.Prelude.{IsSome}
 use Rattle.spec_isa.specs.declared.thread.Parts.{Parts}
-use Rattle.spec_isa.specs.Words.{Stored, lays}
-use Rattle.spec_isa.specs.Instruction.{InstructionOutcome, Next, Serial, one}
+use Rattle.spec_isa.specs.Words.{Stored, lays, read}
+use Rattle.spec_isa.specs.declared.thread.Kind.{Kind}
+use Rattle.spec_isa.specs.Instruction.{InstructionOutcome, Next, Serial, one, unless, value_at, serial_of, loads_of, next_of, load_of, store_of}
 use Rattle.spec_isa.specs.Runs.{Run, run_start, followed, run, with_store}
 use Rattle.spec_kernel.specs.Needs.{next_kind}
+use Rattle.spec_isa.proofs.MemoryLaws.{length_lays}
+use Rattle.spec_engine.specs.Flights.{AreInside}
+use Rattle.spec_protocol.specs.promises.Sound.{AreSoundWords}
 use Rattle.spec_protocol.proofs.Memory.Running.{one_serial}
 use Rattle.spec_protocol.proofs.PlayingBack.Verdicts.{run-stops}
-use Rattle.spec_protocol.proofs.Sound.Words.{put-length}
+use Rattle.spec_protocol.proofs.Sound.Words.{put-length, sound-none}
+use Rattle.spec_protocol.proofs.Sound.Chunks.{next-store, with-words}
 use Rattle.dl_serial.specs.Chunks.{HasRun, chunk_of}
 use Rattle.dl_serial.specs.declared.chunk.Chunk.{Chunk}
 
@@ -24,6 +29,33 @@ follow_few r (Next t load store) l = store_few r.words store r.n l
 pub run-few : (m : List ℕ) (t : Parts) (n : ℕ) → length (run m t n).words ≤ (run m t n).n
 run-few m t zero = omega arith
 run-few m t (suc n) = follow_few (run m t n) (one (run m t n).thread (lays m (run m t n).words)) (run-few m t n)
+
+-- ---- its words are inside
+
+outcome_inside : (m : List ℕ) (f w : ℕ) (r : Run) (o : Option Kind) → serial_of r.thread f (length m) ≡ o → AreSoundWords (length m) r.words
+    → let t = r.thread in AreSoundWords (length m) (followed r (unless o (Next (next_of t f w) (load_of t f w) (store_of t f w)))).words
+outcome_inside m f w r (Some kind) is sound = sound
+outcome_inside m f w r None is sound = with-words (length m) r.words (store_of r.thread f w) (next-store r.thread f w (length m) is) sound
+
+more_inside : (m : List ℕ) (r : Run) → AreSoundWords (length m) r.words → AreSoundWords (length m) (followed r (one r.thread m)).words
+unfolding one
+more_inside m r sound =
+    let f = read m (r.thread.pc / 4) in
+    outcome_inside m f (value_at m (loads_of r.thread f)) r (serial_of r.thread f (length m)) refl sound
+
+run_inside : (m : List ℕ) (t : Parts) (n : ℕ) → AreSoundWords (length m) (run m t n).words
+run_inside m t zero = sound-none (length m)
+run_inside m t (suc n) =
+    let r = run m t n in
+    let same = length_lays m r.words in
+    subst (λ (size : ℕ). AreSoundWords size (run m t (suc n)).words) same
+    (more_inside (lays m r.words) r (subst (λ (size : ℕ). AreSoundWords size r.words) (sym same) (run_inside m t n)))
+
+-- what a chunk stored is inside its memory
+pub chunk-inside : (m : List ℕ) (t : Parts) (limit : ℕ) (c : Chunk) (words : List Stored) → HasRun m t limit c words → AreInside (length m) words
+chunk-inside m t limit c words ran = subst (AreInside (length m)) (sym ran.words_stored) (run_inside m t limit).inside
+
+-- ---- none of its instructions
 
 none_before : (r : Run) (o : InstructionOutcome) → (followed r o).n ≡ 0 → r.n ≡ 0
 none_before r (Serial kind) e = e

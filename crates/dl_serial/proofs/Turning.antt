@@ -15,87 +15,67 @@ use Rattle.spec_play.specs.Verdicts.{LogVerdict, chunk_verdict, serial_verdict}
 use Rattle.spec_play.specs.Plays.{Played, settled, dma_settled, thread_verdict, play_thread, play_now, play_one, plays}
 use Rattle.spec_play.proofs.Going.{plays-stay}
 use Rattle.spec_protocol.specs.machine.Spheres.{whole_limit}
-use Rattle.dl_replay.specs.Replaying.{Replaying, end_of}
+use Rattle.dl_replay.specs.Following.{Following, end_of}
 use Rattle.spec_query.specs.declared.Store.{Store}
 use Rattle.spec_query.specs.Stores.{words_gone, words_transferred, thread_words, stores_of, stores_now, next_stores, stores}
-use Rattle.dl_serial.specs.Playing.{Playing, StandsAt, advanced, played_in, played_more}
+use Rattle.dl_serial.specs.Playing.{Playing, HaveCome, advanced, played_in, played_more}
 use Rattle.dl_serial.specs.declared.sphere.Sphere.{Sphere}
 use Rattle.spec_protocol.proofs.PlayingBack.Sizes.{serial-turn}
 use Rattle.dl_serial.proofs.Sizes.{chunk-turn}
 
 -- ---- turns
 
-thread_turn : (log : LogParts) (y : Played) (k : ℕ) (t : Parts) → y.now ≡ Turn k → slice_get y.threads k ≡ Some t → play_one log y ≡ settled log y k (thread_verdict log y k t (next_kind t y.memory))
-unfolding play_one
-thread_turn log y k t turn there = ap (play_now log y) turn ∙ ap (play_thread log y k) there
-
--- at the turn of a thread with instructions to run, the play goes on as the verdict on that chunk settles it
-pub chunk-played : (log : LogParts) (was y : Played) (k : ℕ) (t : Parts) (n limit : ℕ) → was ≡ y → y.now ≡ Turn k → slice_get y.threads k ≡ Some t → limit ≡ whole_limit log k t.commits
-    → 0 < n → run y.memory t limit ≡ run y.memory t n → (run y.memory t n).n ≡ n
-    → settled log was k (chunk_verdict log was.progress was.used k (run y.memory t limit)) ≡ play_one log y
-chunk-played log was y k t n limit same turn there size some stops ran =
-    ap (λ (x : Played). settled log x k (chunk_verdict log x.progress x.used k (run y.memory t limit))) same
-    ∙ ap (λ (l : ℕ). settled log y k (chunk_verdict log y.progress y.used k (run y.memory t l))) size
-    ∙ ap (settled log y k) (sym (chunk-turn log y k t n some (ap (run y.memory t) (sym size) ∙ stops) ran))
-    ∙ sym (thread_turn log y k t turn there)
-
--- at the turn of a thread at a serial instruction, the play goes on as the verdict on the step settles it
-pub step-played : (log : LogParts) (was y : Played) (k : ℕ) (t : Parts) → was ≡ y → y.now ≡ Turn k → slice_get y.threads k ≡ Some t → IsSome (next_kind t y.memory)
-    → settled log was k (serial_verdict log was.progress was.used k was.threads t was.memory) ≡ play_one log y
-step-played log was y k t same turn there serial =
-    ap (λ (x : Played). settled log x k (serial_verdict log x.progress x.used k x.threads t x.memory)) same
-    ∙ ap (settled log y k) (sym (serial-turn log y k t (next_kind t y.memory) serial))
-    ∙ sym (thread_turn log y k t turn there)
-
--- at the turn of a DMA, the play goes on as the verdict on the DMA settles it
-pub dma-played : (log : LogParts) (y : Played) → y.now ≡ TurnOfDma → dma_settled log y (dma_verdict log y.progress y.used) ≡ play_one log y
-unfolding play_one
-dma-played log y turn = sym (ap (play_now log y) turn)
-
--- ---- stores
-
 -- those of thread k by its verdict
 abbrev pub thread_stores : Played → (thread : ℕ) → LogVerdict → List Store
 thread_stores y k v = stores_of (position y.progress) (Actor.Thread k) y.memory (words_gone v)
 
-stores_turn : (log : LogParts) (y : Played) (k : ℕ) (t : Parts) → y.now ≡ Turn k → slice_get y.threads k ≡ Some t → next_stores log y ≡ thread_stores y k (thread_verdict log y k t (next_kind t y.memory))
-unfolding next_stores
-stores_turn log y k t turn there =
-    ap (stores_now log y) turn
-    ∙ ap (λ (o : Option Parts). stores_of (position y.progress) (Actor.Thread k) y.memory (thread_words log y k o)) there
+-- a play comes to z by its next commit, which has these stores
+pub record IsNext (log : LogParts) (y z : Played) (more : List Store) : Type 0 where
+  pub played : z ≡ play_one log y
+  pub stores : more ≡ next_stores log y
 
--- at the turn of a thread with instructions to run, the next stores are those of its chunk
-pub chunk-stores : (log : LogParts) (was y : Played) (k : ℕ) (t : Parts) (n limit : ℕ) → was ≡ y → y.now ≡ Turn k → slice_get y.threads k ≡ Some t → limit ≡ whole_limit log k t.commits
+-- a thread's turn settles the verdict on it
+turn-next : (log : LogParts) (y : Played) (k : ℕ) (t : Parts) (v : LogVerdict) → y.now ≡ Turn k → slice_get y.threads k ≡ Some t → thread_verdict log y k t (next_kind t y.memory) ≡ v
+    → IsNext log y (settled log y k v) (thread_stores y k v)
+unfolding play_one next_stores
+turn-next log y k t v turn there is =
+    record {
+      played = sym (ap (play_now log y) turn ∙ ap (play_thread log y k) there ∙ ap (settled log y k) is);
+      stores = sym (
+          ap (stores_now log y) turn
+          ∙ ap (λ (o : Option Parts). stores_of (position y.progress) (Actor.Thread k) y.memory (thread_words log y k o)) there
+          ∙ ap (thread_stores y k) is);
+    }
+
+-- at the turn of a thread with instructions to run, the play goes on as the verdict on that chunk settles it
+pub chunk-next : (log : LogParts) (y : Played) (k : ℕ) (t : Parts) (n limit : ℕ) → y.now ≡ Turn k → slice_get y.threads k ≡ Some t → limit ≡ whole_limit log k t.commits
     → 0 < n → run y.memory t limit ≡ run y.memory t n → (run y.memory t n).n ≡ n
-    → thread_stores was k (chunk_verdict log was.progress was.used k (run y.memory t limit)) ≡ next_stores log y
-chunk-stores log was y k t n limit same turn there size some stops ran =
-    ap (λ (x : Played). thread_stores x k (chunk_verdict log x.progress x.used k (run y.memory t limit))) same
-    ∙ ap (λ (l : ℕ). thread_stores y k (chunk_verdict log y.progress y.used k (run y.memory t l))) size
-    ∙ ap (thread_stores y k) (sym (chunk-turn log y k t n some (ap (run y.memory t) (sym size) ∙ stops) ran))
-    ∙ sym (stores_turn log y k t turn there)
+    → let v = chunk_verdict log y.progress y.used k (run y.memory t limit) in IsNext log y (settled log y k v) (thread_stores y k v)
+chunk-next log y k t n limit turn there size some stops ran =
+    turn-next log y k t (chunk_verdict log y.progress y.used k (run y.memory t limit)) turn there
+    (chunk-turn log y k t n some (ap (run y.memory t) (sym size) ∙ stops) ran
+    ∙ ap (λ (l : ℕ). chunk_verdict log y.progress y.used k (run y.memory t l)) (sym size))
 
--- at the turn of a thread at a serial instruction, they are those of the step
-pub step-stores : (log : LogParts) (was y : Played) (k : ℕ) (t : Parts) → was ≡ y → y.now ≡ Turn k → slice_get y.threads k ≡ Some t → IsSome (next_kind t y.memory)
-    → thread_stores was k (serial_verdict log was.progress was.used k was.threads t was.memory) ≡ next_stores log y
-step-stores log was y k t same turn there serial =
-    ap (λ (x : Played). thread_stores x k (serial_verdict log x.progress x.used k x.threads t x.memory)) same
-    ∙ ap (thread_stores y k) (sym (serial-turn log y k t (next_kind t y.memory) serial))
-    ∙ sym (stores_turn log y k t turn there)
+-- at the turn of a thread at a serial instruction, as the verdict on the step settles it
+pub step-next : (log : LogParts) (y : Played) (k : ℕ) (t : Parts) → y.now ≡ Turn k → slice_get y.threads k ≡ Some t → IsSome (next_kind t y.memory)
+    → let v = serial_verdict log y.progress y.used k y.threads t y.memory in IsNext log y (settled log y k v) (thread_stores y k v)
+step-next log y k t turn there serial =
+    turn-next log y k t (serial_verdict log y.progress y.used k y.threads t y.memory) turn there (serial-turn log y k t (next_kind t y.memory) serial)
 
--- at the turn of a DMA, they are those of the DMA
-pub dma-stores : (log : LogParts) (y : Played) → y.now ≡ TurnOfDma
-    → stores_of (position y.progress) Actor.Dma y.memory (words_transferred (dma_verdict log y.progress y.used)) ≡ next_stores log y
-unfolding next_stores
-dma-stores log y turn = sym (ap (stores_now log y) turn)
+-- at the turn of a DMA, as the verdict on the DMA settles it
+pub dma-next : (log : LogParts) (y : Played) → y.now ≡ TurnOfDma
+    → let v = dma_verdict log y.progress y.used in IsNext log y (dma_settled log y v) (stores_of (position y.progress) Actor.Dma y.memory (words_transferred v))
+unfolding play_one next_stores
+dma-next log y turn = record { played = sym (ap (play_now log y) turn); stores = sym (ap (stores_now log y) turn) }
 
 -- ---- the player
 
 -- the player is seen as its play with one turn more
-pub seen-played : (log : LogParts) (y z : Played) (ss more : List Store) (new : Replaying) (n : Sphere) (v : Playing) → z ≡ play_one log y → more ≡ next_stores log y
-    → (let w : Playing = record { log = log; played = y; stores = ss } in w ≡ v) → StandsAt log z (ss ++ more) new n
-    → (let w : Playing = record { log = new.log; played = played_in new n; stores = n.stores.items } in w ≡ advanced v)
-seen-played log y z ss more new n v one told is at =
-    (λ i. record { log = at.same_log i; played = (at.played ∙ one) i; stores = (at.stores ∙ ap (λ (xs : List Store). ss ++ xs) told) i })
+pub seen-played : (log : LogParts) (y z : Played) (ss more : List Store) (new : Following) (n : Sphere) (v : Playing) → IsNext log y z more
+    → (let w : Playing = record { log = log; played = y; stores = ss } in w ≡ v) → HaveCome log z (ss ++ more) new n
+    → (let w : Playing = record { log = new.log; played = played_in new n.past; stores = n.stores.items } in w ≡ advanced v)
+seen-played log y z ss more new n v next is at =
+    (λ i. record { log = at.same_log i; played = (at.played ∙ next.played) i; stores = (at.stores ∙ ap (λ (xs : List Store). ss ++ xs) next.stores) i })
     ∙ ap advanced is
 
 -- ---- either way
@@ -109,6 +89,11 @@ on-ok (Err e) P Q f p = tt
 pub on-both : {A E : Type 0} (r : Result A E) (P Q R : Type 0) → (P → R) → (Q → R) → OnOk r P → OnErr r Q → R
 on-both (Ok x) P Q R f g p q = f p
 on-both (Err e) P Q R f g p q = g q
+
+-- what follows from two facts holds of an Ok of which both hold
+pub on-two : {A E : Type 0} (r : Result A E) (P Q R : Type 0) → OnOk r P → OnOk r Q → (P → Q → R) → OnOk r R
+on-two (Ok x) P Q R p q f = f p q
+on-two (Err e) P Q R p q f = tt
 
 -- ---- the end
 

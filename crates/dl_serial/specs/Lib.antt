@@ -2,3 +2,4 @@ pub mod Overlays
 pub mod Chunks
 pub mod Playing
 pub mod Walked
+pub mod Keeping

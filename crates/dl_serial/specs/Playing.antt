@@ -3,17 +3,15 @@ use Rattle.std.specs.Prelude.{◌≡◌, ℕ, ◌<◌, List, ◌++◌, length, N
 use Rattle.dl_entry.specs.declared.Actor.{Actor}
 use Rattle.spec_isa.specs.Words.{Stored}
 use Rattle.spec_log.specs.declared.LogParts.{LogParts}
-use Rattle.spec_log.specs.Log.{IsLog}
 use Rattle.spec_play.specs.Progress.{Progress, position}
 use Rattle.spec_play.specs.Turns.{Turn}
 use Rattle.spec_play.specs.Plays.{Played, play_one, plays}
 use Rattle.spec_protocol.specs.promises.Sound.{IsSoundIf}
 use Rattle.spec_query.specs.declared.Store.{Store}
 use Rattle.spec_query.specs.Stores.{next_stores, stores, stores_of}
-use Rattle.dl_replay.specs.Served.{nothing_served}
-use Rattle.dl_replay.specs.declared.verdict.Verdict.{Verdict}
-use Rattle.dl_replay.specs.Judged.{Judged}
-use Rattle.dl_replay.specs.Replaying.{Replaying, commits_of, end_of}
+use Rattle.dl_kernel.specs.declared.past.Past.{Past}
+use Rattle.dl_replay.specs.Following.{Following}
+use Rattle.dl_replay.specs.Replays.{IsReplaying}
 use Rattle.dl_serial.specs.declared.sphere.Sphere.{Sphere}
 
 -- a log, where its play has come, and the stores of its commits
@@ -29,51 +27,36 @@ advanced p = record p { played = play_one p.log p.played; stores = p.stores ++ n
 abbrev pub played_more : Playing → (i : ℕ) → Playing
 played_more p i = record p { played = plays p.log p.played i; stores = p.stores ++ stores p.log p.played i }
 
-abbrev pub progress_in : Replaying → Sphere → Progress
-progress_in r s = record { first = 0; commits = s.commits.items; last = r.last; request = s.request }
+abbrev pub progress_in : Past → Progress
+progress_in b = record { first = b.first; commits = b.commits.items; last = b.state.last; request = b.state.request }
 
-abbrev pub played_in : Replaying → Sphere → Played
-played_in r s =
+abbrev pub played_in : Following → Past → Played
+played_in r b =
     record {
-      memory = s.store.memory;
-      threads = s.threads;
-      progress = progress_in r s;
-      used = r.used;
+      memory = b.state.memory;
+      threads = b.state.threads;
+      progress = progress_in b;
+      used = b.state.used;
       now = r.now;
     }
 
--- the replay has come as far as the sphere, and names a thread that is there; it ends at the log's end; no piece of a commit
--- stands; a DMA stays inside the memory; and there is room for the words of a standard chunk
-pub record IsPlaying (r : Replaying) (s : Sphere) : Type 0 where
-  pub is_log : IsLog r.log
-  pub done : position (progress_in r s) ≡ r.done
-  pub commits : r.commits ≡ commits_of s.threads
+-- the replay is of all commits of its log, and in no piece of one; it names a thread that is there; the state counts the
+-- commits; a DMA stays inside the memory; and there is room for the words of a standard chunk
+pub record IsPlaying (r : Following) (s : Sphere) : Type 0 where
+  pub replaying : IsReplaying r s.past.state
+  pub all : r.interval ≡ None
   pub whole : r.total ≡ 0
-  pub turn : (k : ℕ) → r.now ≡ Turn k → k < length s.threads
-  pub below : end_of r.now ≡ None → r.done < r.log.count
-  pub request : IsSoundIf (length s.store.memory) s.request
-  pub room : s.store.room ≡ r.log.s
+  pub turn : (k : ℕ) → r.now ≡ Turn k → k < length s.past.state.threads
+  pub counted : position (progress_in s.past) ≡ s.past.state.commits
+  pub request : IsSoundIf (length s.past.state.memory) s.past.state.request
+  pub room : s.words.capacity ≡ r.log.s
 
 -- with the stores of a commit that lays these words on the play's memory
 abbrev pub with_stores : List Store → Played → Actor → (words : List Stored) → List Store
 with_stores ss y actor words = ss ++ stores_of (position y.progress) actor y.memory words
 
--- they stand at this place of the play of this log, with the stores of its commits
-pub record StandsAt (log : LogParts) (y : Played) (ss : List Store) (r : Replaying) (s : Sphere) : Type 0 where
+-- they have come to this place of the play of this log, with the stores of its commits
+pub record HaveCome (log : LogParts) (y : Played) (ss : List Store) (r : Following) (s : Sphere) : Type 0 where
   pub same_log : r.log ≡ log
-  pub played : played_in r s ≡ y
+  pub played : played_in r s.past ≡ y
   pub stores : s.stores.items ≡ ss
-  pub playing : IsPlaying r s
-
--- ---- chunks
-
--- the answer to a chunk, for which nothing is served, and what is left then
-abbrev pub judged_as : Verdict → Replaying → Sphere → Judged
-judged_as verdict r s =
-    record {
-      verdict = verdict;
-      replay = r;
-      threads = s.threads;
-      request = s.request;
-      served = nothing_served;
-    }

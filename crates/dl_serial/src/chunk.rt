@@ -1,14 +1,16 @@
 //! A chunk: instructions of a thread, run one after another over a memory.
 ghost use Rattle.std.specs.Prelude.{◌≡◌, ◌≤◌, ◌<◌, ◌+◌, ◌^◌, List, true, false, length, map, IfOk, IsSome, OnOk};
 ghost use Rattle.spec_isa.specs.Words.{lays};
-ghost use Rattle.spec_isa.specs.Runs.{Run, more, with_load};
+ghost use Rattle.spec_isa.specs.Runs.{Run, more, run_start, with_load};
 ghost use Rattle.spec_kernel.specs.Needs.{next_kind};
 ghost use Rattle.spec_play.specs.Effects.{entry_of};
 ghost use Rattle.dl_serial.specs.Chunks.{HasRun, chunk_of};
 
-use crate::overlay::Overlay;
+use crate::overlay::run_one;
 use dl_entry::{Load as LoadEntry, Loads, OutOfMemory};
-use dl_thread::{Did, Load, Thread, one};
+use dl_mem::Memory;
+use dl_thread::{Did, Load, Thread};
+use dl_wbuf::Buffer;
 use std::alloc::Global;
 
 /// What a thread has run so far: its present state, its loads as accounts tell them, and the number of instructions. The
@@ -20,56 +22,63 @@ pub struct Chunk {
     pub n: u32,
 }
 
-/// Runs up to so many instructions of a thread, and stops before a serial one. The words that were over the memory before
-/// are forgotten.
-pub fn run(
-    alloc: Global,
-    store: &mut Overlay,
-    thread: &Thread,
-    limit: u32,
-) -> Result<Chunk, OutOfMemory>
-    requires least { 1 ≤ limit }
-    requires most { limit ≤ store.old.room }
-    ensures ran { IfOk result (λ c. HasRun store.old.memory thread.now limit c store.new.words) }
-    ensures memory { store.new.memory ≡ store.old.memory }
-    ensures room { store.new.room ≡ store.old.room }
-{
-    store.clear();
-    let mut chunk = Chunk {
-        thread: *thread,
-        loads: Loads::new(alloc),
-        n: 0,
-    };
-    while chunk.n < limit {
-        if !step(&mut chunk, store)? {
-            return Ok(chunk);
+impl Chunk {
+    /// A chunk of a thread, with nothing run yet.
+    pub fn new(alloc: Global, thread: &Thread) -> Chunk
+        ensures { result ≡ chunk_of (run_start thread.now) }
+    {
+        Chunk {
+            thread: *thread,
+            loads: Loads::new(alloc),
+            n: 0,
         }
     }
-    Ok(chunk)
-}
 
-// Runs one instruction more, unless it is serial, and tells whether it did.
-fn step(chunk: &mut Chunk, store: &mut Overlay) -> Result<bool, OutOfMemory>
-    requires few { length store.old.words < store.old.room }
-    requires count { chunk.old.n + 1 < 2 ^ 32 }
-    ensures chunk { (r : Run) → chunk.old ≡ chunk_of r → store.old.words ≡ r.words →
-        IfOk result (λ _. chunk.new ≡ chunk_of (more store.old.memory r)) }
-    ensures words { (r : Run) → chunk.old ≡ chunk_of r → store.old.words ≡ r.words →
-        IfOk result (λ _. store.new.words ≡ (more store.old.memory r).words) }
-    ensures memory { store.new.memory ≡ store.old.memory }
-    ensures room { store.new.room ≡ store.old.room }
-    ensures ran { IfOk result (λ went. went ≡ true → chunk.new.n ≡ chunk.old.n + 1) }
-    ensures serial { IfOk result (λ went. went ≡ false →
-        IsSome (next_kind chunk.old.thread (lays store.old.memory store.old.words))) }
-{
-    match one(&mut chunk.thread, store) {
-        Did::Next(load) => {
-            note_load(&mut chunk.loads, load)?;
-            chunk.n += 1;
-            Ok(true)
+    /// Runs up to so many instructions on a memory, and none from the first serial one on. The words are then those that
+    /// it stored, and none from before.
+    pub fn run(
+        &mut self,
+        limit: u32,
+        memory: &Memory,
+        words: &mut Buffer,
+    ) -> Result<(), OutOfMemory>
+        requires least { 1 ≤ limit }
+        requires most { limit ≤ words.old.capacity }
+        requires new { self.old ≡ chunk_of (run_start self.old.thread) }
+        ensures ran { OnOk result (HasRun memory.now self.old.thread limit self.new words.new.words) }
+        ensures room { words.new.capacity ≡ words.old.capacity }
+    {
+        words.clear();
+        while self.n < limit {
+            if !self.step(memory, words)? {
+                return Ok(());
+            }
         }
-        Did::Serial(_) => Ok(false),
-        Did::NoRoom | Did::Bounced(_) => unreachable!(),
+        Ok(())
+    }
+
+    // Runs one instruction more, unless it is serial, and tells whether it did.
+    fn step(&mut self, memory: &Memory, words: &mut Buffer) -> Result<bool, OutOfMemory>
+        requires few { length words.old.words < words.old.capacity }
+        requires count { self.old.n + 1 < 2 ^ 32 }
+        ensures chunk { (r : Run) → self.old ≡ chunk_of r → words.old.words ≡ r.words →
+            IfOk result (λ _. self.new ≡ chunk_of (more memory.now r)) }
+        ensures words { (r : Run) → self.old ≡ chunk_of r → words.old.words ≡ r.words →
+            IfOk result (λ _. words.new.words ≡ (more memory.now r).words) }
+        ensures room { words.new.capacity ≡ words.old.capacity }
+        ensures ran { IfOk result (λ went. went ≡ true → self.new.n ≡ self.old.n + 1) }
+        ensures serial { IfOk result (λ went. went ≡ false →
+            IsSome (next_kind self.old.thread (lays memory.now words.old.words))) }
+    {
+        match run_one(&mut self.thread, memory, words) {
+            Did::Next(load) => {
+                note_load(&mut self.loads, load)?;
+                self.n += 1;
+                Ok(true)
+            }
+            Did::Serial(_) => Ok(false),
+            Did::NoRoom | Did::Bounced(_) => unreachable!(),
+        }
     }
 }
 

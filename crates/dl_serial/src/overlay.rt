@@ -1,123 +1,45 @@
 //! A memory with a chunk's own stores over it: the view that the chunk runs on.
-ghost use Rattle.std.specs.Prelude.{◌≡◌, ◌≤◌, ◌/◌, [], IfOk, length};
+ghost use Rattle.std.specs.Prelude.{◌≡◌, ◌≤◌, ◌/◌, [], length};
 ghost use Rattle.spec_isa.specs.Words.{lays, read};
 ghost use Rattle.spec_engine.specs.Flights.{AreInside};
+ghost use Rattle.dl_thread.specs.Answer.{after, did, store_laid, store_made, thread_next};
 ghost use Rattle.dl_thread.specs.Sight.{IsWord};
+ghost use Rattle.dl_serial.specs.Overlays.{sight_of, with_store};
 
-use dl_elf::Image;
 use dl_mem::Memory;
-use dl_thread::{Full, View};
+use dl_thread::{Did, Full, Thread, View, one};
 use dl_wbuf::Buffer;
-use std::alloc::{AllocError, Global};
-use std::marker::Model;
 
-/// A memory, and the words that a chunk has stored, which are not in it yet.
+// A memory, and the words that a chunk has stored, which aren't in it yet.
 #[derive(Drop)]
-pub struct Overlay {
-    memory: Memory,
-    words: Buffer,
+struct Overlay<'a> {
+    memory: &'a Memory,
+    words: &'a mut Buffer,
 }
 
-impl Model for Overlay {
-    ghost use Rattle.std.specs.Prelude.{length};
-    ghost use Rattle.spec_engine.specs.Flights.{AreInside};
-    ghost use Rattle.dl_serial.specs.Overlays.{Overlaid};
-
-    ghost Value = { Overlaid };
-
-    ghost view = { λ o. record { room = o.words.capacity; memory = o.memory; words = o.words.words } };
-
-    ghost invariant = { λ o. AreInside (length o.memory) o.words.words };
-}
-
-impl Overlay {
-    ghost use Rattle.dl_serial.specs.Overlays.{bare, laid};
-
-    /// The image's bytes, with room for so many words over them, from 1 to 65,536.
-    pub fn new(alloc: Global, image: &Image, room: u32) -> Result<Overlay, AllocError>
-        requires least { 1 ≤ room }
-        requires most { room ≤ 65536 }
-        ensures { IfOk result (λ o. o ≡ bare room image.now.bytes) }
-    {
-        Ok(Overlay {
-            memory: Memory::new(alloc, image)?,
-            words: Buffer::new(alloc, room)?,
-        })
-    }
-
-    /// The memory alone.
-    pub fn memory(&self) -> &Memory
-        ensures { result.now ≡ self.now.memory }
-    {
-        &self.memory
-    }
-
-    /// The words over it.
-    pub fn words(&self) -> &Buffer
-        ensures words { result.now.words ≡ self.now.words }
-        ensures inside { AreInside (length self.now.memory) self.now.words }
-    {
-        &self.words
-    }
-
-    /// The memory alone, and nothing else is kept.
-    pub fn into_memory(self) -> Memory
-        ensures { result ≡ self.memory }
-    {
-        self.memory
-    }
-
-    /// Forgets the words.
-    pub fn clear(&mut self)
-        ensures { self.new ≡ bare self.old.room self.old.memory }
-    {
-        self.words.clear();
-    }
-
-    /// Lays the words into memory, in the order of their first store.
-    pub fn commit(&mut self)
-        ensures { self.new ≡ laid self.old }
-    {
-        drain(&mut self.words, &mut self.memory);
-    }
-
-    /// Lays other words into memory, and forgets its own.
-    pub fn lay(&mut self, mut words: Buffer)
-        requires { AreInside (length self.old.memory) words.words }
-        ensures { self.new ≡ bare self.old.room (lays self.old.memory words.words) }
-    {
-        self.words.clear();
-        drain(&mut words, &mut self.memory);
-    }
-
+impl<'a> Overlay<'a> {
     fn word(&self, addr: u32) -> u32
-        requires { IsWord (length (lays self.now.memory self.now.words)) addr }
-        ensures { result ≡ read (lays self.now.memory self.now.words) (addr / 4) }
+        requires { IsWord (length (lays self.now.memory.now self.now.words.now.words)) addr }
+        ensures { result ≡ read (lays self.now.memory.now self.now.words.now.words) (addr / 4) }
     {
         self.words.over(addr, self.memory.word(addr))
     }
 }
 
-// Lays the words into a memory, in the order of their first store.
-fn drain(words: &mut Buffer, memory: &mut Memory)
-    requires { AreInside (length memory.old) words.old.words }
-    ensures memory { memory.new ≡ lays memory.old words.old.words }
-    ensures words { words.new ≡ record words.old { words = [] } }
-{
-    while let Some(stored) = words.drain_next() {
-        memory.put(stored.word, stored.mask, stored.value);
-    }
-}
+impl<'a> View for Overlay<'a> {
+    ghost use Rattle.dl_serial.specs.Overlays.{IsSame, with_word};
 
-impl View for Overlay {
-    ghost use Rattle.dl_serial.specs.Overlays.{sight_of, ReadBy, WrittenBy};
+    ghost sight = { λ o. sight_of o.memory.now o.words.now };
 
-    ghost sight = { sight_of };
+    ghost Read = { λ o a p.
+        IsSame o.memory.now p.memory.now o.words.ghost_name p.words.ghost_name
+        × (p.words.now ≡ o.words.now) };
 
-    ghost Read = { ReadBy };
+    ghost Wrote = { λ o b p.
+        IsSame o.memory.now p.memory.now o.words.ghost_name p.words.ghost_name
+        × (p.words.now ≡ with_word o.words.now b) };
 
-    ghost Wrote = { WrittenBy };
-
+    #[tactic(auto, using(spec_isa::proofs::MemoryLaws::length_lays))]
     fn size(&self) -> u32 {
         self.memory.size()
     }
@@ -135,5 +57,27 @@ impl View for Overlay {
             return Err(Full);
         }
         Ok(())
+    }
+}
+
+/// One instruction of a thread over the memory with the words that its chunk has stored.
+pub fn run_one(thread: &mut Thread, memory: &Memory, words: &mut Buffer) -> Did
+    ensures did { result ≡ did (sight_of memory.now words.old) thread.old }
+    ensures thread { thread.new ≡ after result thread.old (thread_next (sight_of memory.now words.old) thread.old) }
+    ensures words { let s = sight_of memory.now words.old in
+        words.new ≡ with_store words.old (store_laid result (store_made s thread.old)) }
+{
+    let mut overlay = Overlay { memory, words };
+    one(thread, &mut overlay)
+}
+
+/// Lays words into a memory, in the order of their first store.
+pub fn drain(words: &mut Buffer, memory: &mut Memory)
+    requires { AreInside (length memory.old) words.old.words }
+    ensures memory { memory.new ≡ lays memory.old words.old.words }
+    ensures words { words.new ≡ record words.old { words = [] } }
+{
+    while let Some(stored) = words.drain_next() {
+        memory.put(stored.word, stored.mask, stored.value);
     }
 }

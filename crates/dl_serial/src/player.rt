@@ -2,31 +2,32 @@
 ghost use Rattle.std.specs.Prelude.{◌≡◌, ◌≤◌, [], IfOk, OnOk};
 ghost use Rattle.spec_play.specs.Progress.{position};
 ghost use Rattle.spec_play.specs.Turns.{Turn, TurnOfDma};
-ghost use Rattle.spec_play.specs.Plays.{opened};
+ghost use Rattle.spec_play.specs.States.{resumed, state_of};
+ghost use Rattle.spec_play.specs.Resuming.{IsStateOf};
+ghost use Rattle.spec_play.specs.Intervals.{without_commits};
 ghost use Rattle.spec_play.specs.Walks.{walk_end, walked_at};
+ghost use Rattle.dl_kernel.specs.States.{state_in};
 ghost use Rattle.dl_serial.specs.Playing.{advanced, played_more};
 ghost use Rattle.dl_serial.specs.Walked.{walked_in};
 
-use crate::chunk::run;
+use crate::chunk::Chunk;
 use crate::committing::{commit_chunk, serve_dma, serve_step};
-use crate::overlay::Overlay;
+use crate::kept::Kept;
 use crate::sphere::Sphere;
 use crate::walked::Walked;
-use dl_elf::Image;
 use dl_entry::{Actor, OutOfMemory, Sequence};
-use dl_kernel::thread_at;
+use dl_kernel::{Past, State, thread_at};
 use dl_mode::{Mode, Noting};
 use dl_replay::Replayer;
-use dl_thread::Threads;
+use dl_wbuf::Buffer;
 use spec_log::Log;
 use spec_play::WalkEnd;
 use std::alloc::Global;
 use std::marker::Model;
 
-/// Plays a log from its first commit on, and is seen as the log, where its play has come, and the stores of its commits.
+/// Plays a log on from a state of its play, and is seen as the log, where its play has come, and the stores of its commits.
 #[derive(Drop)]
 pub struct Player<M: Mode> {
-    alloc: Global,
     count: u32,
     replayer: Replayer<M>,
     sphere: Sphere,
@@ -38,42 +39,54 @@ impl<M: Mode> Model for Player<M> {
 
     ghost Value = { Playing };
 
-    ghost view = { λ p. record { log = p.replayer.log; played = played_in p.replayer p.sphere; stores = p.sphere.stores.items } };
+    ghost view = { λ p. record {
+      log = p.replayer.log;
+      played = played_in p.replayer p.sphere.past;
+      stores = p.sphere.stores.items;
+    } };
 
     ghost invariant = { λ p. IsPlaying p.replayer p.sphere × (p.count ≡ p.replayer.log.count) };
 }
 
 impl<M: Noting> Player<M> {
-    /// The player of a log on an image, before the first commit.
-    pub fn new(alloc: Global, image: &Image, log: &Log) -> Result<Player<M>, OutOfMemory>
-        requires { log.now.mode ≡ M.mode }
-        ensures { let i = image.now in
-            IfOk result (λ p. p ≡ record { log = log.now; played = opened log.now i.bytes i.entry; stores = [] }) }
+    /// The player of a log, at a state of its play.
+    pub fn at(alloc: Global, state: State, log: &Log) -> Result<Player<M>, OutOfMemory>
+        requires mode { log.now.mode ≡ M.mode }
+        requires state { IsStateOf log.now (state_in state) }
+        ensures { let y = resumed log.now (state_in state) in
+            IfOk result (λ p. p ≡ record { log = log.now; played = y; stores = [] }) }
     {
+        // a memory has whole words
+        let _ = state.memory.size();
         let parts = log.parts();
-        let sphere = Sphere {
-            // no chunk stores more words than a standard one has instructions
-            store: Overlay::new(alloc, image, parts.s)?,
-            threads: Threads::start(image.entry()),
-            request: None,
-            commits: Vec::new(alloc),
-            stores: Vec::new(alloc),
-        };
-        Ok(Player {
+        // no chunk stores more words than a standard one has instructions
+        let words = Buffer::new(alloc, parts.s)?;
+        let replayer = Replayer::at(alloc, log, None, &state)?;
+        let past = Past {
             alloc,
+            first: state.commits,
+            commits: Vec::new(alloc),
+            state,
+        };
+        let stores = Vec::new(alloc);
+        Ok(Player {
             count: parts.count,
-            replayer: Replayer::new(alloc, log)?,
-            sphere,
+            replayer,
+            sphere: Sphere {
+                past,
+                stores,
+                words,
+            },
         })
     }
 }
 
 impl<M: Mode> Player<M> {
-    /// Plays up to so many whole commits more, and no further than the end. After want of memory some may be played.
-    pub fn play_up_to(&mut self, to: u32) -> Result<(), OutOfMemory>
-        ensures { OnOk result (self.new ≡ played_more self.old to) }
+    /// Plays up to so many whole commits more, and no further than the end. If memory runs out, some may be played.
+    pub fn play_on(&mut self, most: u32) -> Result<(), OutOfMemory>
+        ensures { OnOk result (self.new ≡ played_more self.old most) }
     {
-        for _ in 0..to {
+        for _ in 0..most {
             if self.replayer.ended().is_some() {
                 return Ok(());
             }
@@ -94,24 +107,20 @@ impl<M: Mode> Player<M> {
         }
     }
 
-    // The serial step of a thread whose turn it is, where its next instruction is serial; else its chunk.
+    // The serial step of a thread whose turn it is, if its next instruction is serial; else its chunk.
     fn play_thread(&mut self, number: u8) -> Result<(), OutOfMemory>
         requires { self.old.played.now ≡ Turn number }
         ensures { OnOk result (self.new ≡ advanced self.old) }
     {
-        let thread = thread_at(&self.sphere.threads, number);
-        let limit = self.replayer.limit(number, false);
-        let chunk = run(self.alloc, &mut self.sphere.store, &thread, limit)?;
+        let state = &self.sphere.past.state;
+        let thread = thread_at(&state.threads, number);
+        let limit = self.replayer.limit(number, thread.commits(), false);
+        let mut chunk = Chunk::new(self.sphere.past.alloc, &thread);
+        chunk.run(limit, &state.memory, &mut self.sphere.words)?;
         if chunk.n == 0 {
             return serve_step(&mut self.replayer, &mut self.sphere, number);
         }
-        commit_chunk(
-            self.alloc,
-            &mut self.replayer,
-            &mut self.sphere,
-            number,
-            chunk,
-        )
+        commit_chunk(&mut self.replayer, &mut self.sphere, number, chunk)
     }
 
     // The DMA whose turn it is.
@@ -119,38 +128,55 @@ impl<M: Mode> Player<M> {
         requires { self.old.played.now ≡ TurnOfDma }
         ensures { OnOk result (self.new ≡ advanced self.old) }
     {
-        serve_dma(self.alloc, &mut self.replayer, &mut self.sphere)
+        serve_dma(&mut self.replayer, &mut self.sphere)
     }
 
-    /// What a walk of up to so many commits leaves, once they are played.
+    /// How many whole commits of the log are done.
+    pub fn commits(&self) -> u32
+        ensures { result ≡ position self.now.played.progress }
+    {
+        self.sphere.past.state.commits
+    }
+
+    /// Keeps the state, and forgets the commits and their stores. If memory runs out, all is as before.
+    pub fn keep(&mut self) -> Result<Kept, OutOfMemory>
+        ensures kept { IfOk result (λ k. k ≡ state_of self.old.played) }
+        ensures player { let y = without_commits self.old.played in
+            OnOk result (self.new ≡ record self.old { played = y; stores = [] }) }
+    {
+        let past = &mut self.sphere.past;
+        let kept = Kept::of(&mut past.state)?;
+        past.first = past.state.commits;
+        past.commits.clear();
+        self.sphere.stores.clear();
+        Ok(kept)
+    }
+
+    /// What a walk leaves that asked for so many commits, once they are played.
     pub fn into_walked(self, to: u32) -> Walked
         requires { position self.played.progress ≤ to }
         ensures walked { walked_in result ≡ walked_at self.log to self.played }
         ensures stores { result.stores ≡ self.stores }
+        ensures state { state_in result.state ≡ state_of self.played }
     {
         let end = self.end(to);
-        let Sphere {
-            store,
-            threads,
-            request,
-            commits,
-            stores,
-        } = self.sphere;
+        let sphere = self.sphere;
+        let Sphere { past, stores, .. } = sphere;
+        let Past { commits, state, .. } = past;
         Walked {
             commits: Sequence::from_vec(commits),
             stores: Sequence::from_vec(stores),
-            threads,
-            memory: store.into_memory(),
-            request,
+            state,
             end,
         }
     }
-    // How a walk of up to so many commits ends here.
+
+    // How a walk that asked for so many commits ends here.
     fn end(&self, to: u32) -> WalkEnd
         requires { position self.now.played.progress ≤ to }
         ensures { let y = self.now.played in result ≡ walk_end self.now.log to (position y.progress) y.now }
     {
-        let done = self.sphere.commits.len() as u32;
+        let done = self.commits();
         match self.replayer.ended() {
             Some(end) if done < to || self.count <= to => WalkEnd::Ended(end),
             Some(_) | None => WalkEnd::Reached(done),

@@ -1,15 +1,12 @@
 //! What a log is played on.
-use crate::overlay::Overlay;
-use dl_entry::{Commit, Request};
-use dl_thread::Threads;
+use dl_kernel::Past;
+use dl_wbuf::Buffer;
 use spec_query::Store;
 
-/// A memory with its threads, the outstanding DMA request, the whole commits so far, and their stores.
+/// The commits since the state from which the log is played, and their stores; the state now; and words over its memory.
 #[derive(Drop)]
 pub struct Sphere {
-    pub store: Overlay,
-    pub threads: Threads,
-    pub request: Option<Request>,
-    pub commits: Vec<Commit>,
+    pub past: Past,
     pub stores: Vec<Store>,
+    pub words: Buffer,
 }

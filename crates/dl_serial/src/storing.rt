@@ -1,10 +1,10 @@
 //! The stores of a walk, noted commit by commit.
-ghost use Rattle.std.specs.Prelude.{◌≡◌, ◌≤◌, ◌+◌, ◌*◌, ◌++◌, length, vec_len, vec_capacity};
+ghost use Rattle.std.specs.Prelude.{◌≡◌, ◌≤◌, ◌+◌, ◌*◌, ◌++◌, length, OnOk};
 ghost use Rattle.spec_isa.specs.Words.{lays};
 ghost use Rattle.spec_engine.specs.Flights.{AreInside};
 ghost use Rattle.spec_query.specs.Stores.{store_of, stores_of};
 
-use dl_entry::Actor;
+use dl_entry::{Actor, OutOfMemory};
 use dl_mem::Memory;
 use dl_wbuf::{Buffer, Stored};
 use spec_query::Store;
@@ -16,20 +16,23 @@ pub struct Storer {
     pub actor: Actor,
 }
 
-/// The words that a buffer has at most, and with it a commit.
-pub const MOST_WORDS: usize = 65_536;
-
 /// Notes the words of a commit, which lie over the memory still.
-pub fn note_stores(stores: &mut Vec<Store>, by: Storer, words: &Buffer, memory: &Memory)
-    requires room { vec_len stores.old + 65536 ≤ vec_capacity stores.old }
-    requires inside { AreInside (length memory.now) words.now.words }
-    ensures { stores.new.items ≡ stores.old.items ++ stores_of by.commit by.actor memory.now words.now.words }
+pub fn note_stores(
+    stores: &mut Vec<Store>,
+    by: Storer,
+    words: &Buffer,
+    memory: &Memory,
+) -> Result<(), OutOfMemory>
+    requires { AreInside (length memory.now) words.now.words }
+    ensures { let noted = stores_of by.commit by.actor memory.now words.now.words in
+        OnOk result (stores.new.items ≡ stores.old.items ++ noted) }
 {
     for i in 0..words.len() {
         if let Some(stored) = words.nth(i) {
-            stores.push_reserved(store_of(by, stored, words, memory));
+            stores.push(store_of(by, stored, words, memory))?;
         }
     }
+    Ok(())
 }
 
 // The store of one of the words, with its value once all are laid.

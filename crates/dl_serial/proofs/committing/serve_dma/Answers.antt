@@ -1,82 +1,147 @@
-use Rattle.std.proofs.Common.{sym, ℕ, ◌≡◌, ◌∷◌, ◌++◌, [], ◌+◌, List, length, refl, ap, ◌∙◌, subst, arith}
-use Rattle.dl_elf.specs.Images.{IsSize}
-use Rattle.dl_entry.specs.declared.Actor.{Actor}
+use Rattle.std.proofs.Common.{◌+◌, List, length, ◌∷◌, ◌++◌, [], refl, sym, ap, ◌∙◌, subst, arith}
 use Rattle.dl_entry.specs.declared.Commit.{Commit}
 use Rattle.spec_engine.specs.Flights.{AreInside}
 use Rattle.spec_play.specs.Transfers.{dma_verdict}
-use Rattle.dl_replay.specs.Served.{nothing_served}
-use Rattle.dl_replay.specs.Replaying.{Agrees}
-use Rattle.dl_serial.specs.Overlays.{Overlaid}
+use Rattle.spec_query.specs.Stores.{stores_of}
+use Rattle.dl_kernel.specs.declared.state.State.{State}
+use Rattle.dl_replay.specs.Following.{Following}
+use Rattle.dl_replay.specs.Replays.{Agrees}
+use Rattle.dl_replay.proofs.Answered.{dma-failed, dma-fails, dma-gone}
 use Rattle.dl_serial.specs.Playing.{progress_in}
 use Rattle.dl_serial.specs.declared.sphere.Sphere.{Sphere}
 use Rattle.dl_serial.proofs.Goes.{dma-inside, whole-words}
-use Rattle.dl_replay.proofs.Answered.{dma-gone, dma-fell}
-use Rattle.dl_serial.proofs.Settling.{HasStored, dma-stands, dma-fell-stands, same_stores}
+use Rattle.dl_serial.proofs.Settling.{IsNoted, failed-playing, not-transferred-come, transferred-come, transferred-playing, words-in}
+use Rattle.dl_serial.proofs.Turning.{on-two}
 use Rattle.dl_serial.proofs.committing.serve_dma.Goals as goal
 
-pub note_stores-requires-clause-inside : goal.note_stores-requires-clause-inside
-note_stores-requires-clause-inside g c =
-    let r0 = c.args.replayer.now in
-    let s0 = c.args.sphere.now in
-    let m = s0.store.memory in
-    let p = progress_in r0 s0 in
-    let v = dma_verdict r0.log p r0.used in
-    let agrees : Agrees r0 p = record { done = c.requires.playing.done; last = refl } in
-    let said = rw c.in-Ok.is at (c.in_ok-words.ensures.judged p agrees refl) in
-    let gone = dma-gone r0 p s0.threads s0.request c.serve_dma.new.self s0.threads c.serve_dma.new.request v c.in-Ok.words said in
-    subst (λ (x : List ℕ). AreInside (length x) c.in-Ok.words.words) (sym c.memory-in-Ok.ensures)
-    (dma-inside (length m) r0.log p r0.used c.in-Ok.words.words (whole-words (length m) (subst (λ (x : List _). IsSize (length x)) c.memory.ensures c.size.ensures.memory.size)) c.requires.playing.request gone.verdict)
+pub note-requires-clause-number : goal.note-requires-clause-number
+note-requires-clause-number g c =
+    let r = c.args.replayer.now in
+    let s = c.args.sphere.now in
+    let p = progress_in s.past in
+    let v = dma_verdict r.log p s.past.state.used in
+    let agrees : Agrees s.past.state p = record { commits = c.requires.playing.counted; last = refl; request = refl } in
+    let new = c.serve_dma.new.self in
+    let left = c.serve_dma.new.state in
+    let went = dma-gone r s.past.state p new left v (rw c.in-Ok.is at (c.in_ok-words.ensures.judged p agrees)) in
+    omega (arith, c.requires.playing.counted, ap length c.in_ok-reserve.ensures.items, ap (λ (x : State). x.commits) went.state)
 
-pub lay-requires : goal.lay-requires
-lay-requires g c =
-    let r0 = c.args.replayer.now in
-    let s0 = c.args.sphere.now in
-    let m = s0.store.memory in
-    let p = progress_in r0 s0 in
-    let v = dma_verdict r0.log p r0.used in
-    let agrees : Agrees r0 p = record { done = c.requires.playing.done; last = refl } in
-    let said = rw c.in-Ok.is at (c.in_ok-words.ensures.judged p agrees refl) in
-    let gone = dma-gone r0 p s0.threads s0.request c.serve_dma.new.self s0.threads c.serve_dma.new.request v c.in-Ok.words said in
-    dma-inside (length m) r0.log p r0.used c.in-Ok.words.words (whole-words (length m) (subst (λ (x : List _). IsSize (length x)) c.memory.ensures c.size.ensures.memory.size)) c.requires.playing.request gone.verdict
+pub note-requires-clause-inside : goal.note-requires-clause-inside
+note-requires-clause-inside g c =
+    let r = c.args.replayer.now in
+    let s = c.args.sphere.now in
+    let p = progress_in s.past in
+    let v = dma_verdict r.log p s.past.state.used in
+    let agrees : Agrees s.past.state p = record { commits = c.requires.playing.counted; last = refl; request = refl } in
+    let new = c.serve_dma.new.self in
+    let left = c.serve_dma.new.state in
+    let went = dma-gone r s.past.state p new left v (rw c.in-Ok.is at (c.in_ok-words.ensures.judged p agrees)) in
+    let stored = rw c.in-Ok.is at (c.in_ok-words.ensures.stored p agrees) in
+    let size = length s.past.state.memory in
+    subst (λ (x : State). AreInside (length x.memory) c.in-Ok.words.words) (sym went.state)
+    (dma-inside size r.log p s.past.state.used c.in-Ok.words.words (whole-words size c.size.ensures.memory.size) c.requires.playing.request (sym stored))
+
+pub returns-in-Ok-clause-log : goal.returns-in-Ok-clause-log
+returns-in-Ok-clause-log g c =
+    let r = c.args.replayer.now in
+    let s = c.args.sphere.now in
+    let p = progress_in s.past in
+    let v = dma_verdict r.log p s.past.state.used in
+    let agrees : Agrees s.past.state p = record { commits = c.requires.playing.counted; last = refl; request = refl } in
+    let new = c.serve_dma.new.self in
+    let left = c.serve_dma.new.state in
+    let went = dma-gone r s.past.state p new left v (rw c.in-Ok.is at (c.in_ok-words.ensures.judged p agrees)) in
+    ap (λ (x : Following). x.log) went.replay
+
+pub returns-in-Ok-clause-playing : goal.returns-in-Ok-clause-playing
+returns-in-Ok-clause-playing g c =
+    let r = c.args.replayer.now in
+    let s = c.args.sphere.now in
+    let p = progress_in s.past in
+    let v = dma_verdict r.log p s.past.state.used in
+    let agrees : Agrees s.past.state p = record { commits = c.requires.playing.counted; last = refl; request = refl } in
+    let new = c.serve_dma.new.self in
+    let left = c.serve_dma.new.state in
+    let went = dma-gone r s.past.state p new left v (rw c.in-Ok.is at (c.in_ok-words.ensures.judged p agrees)) in
+    let commit = c.dma_commit-commit.result in
+    let n : Sphere = record { past = c.note.new.past; stores = c.note.new.stores; words = s.words } in
+    let noted : IsNoted s n commit =
+    record {
+      first = c.note.ensures.first;
+      commits = c.note.ensures.commits ∙ ap (λ (cs : List Commit). cs ++ commit ∷ []) c.in_ok-reserve.ensures.items;
+      capacity = refl;
+    }
+    in
+    transferred-playing c.note.result r new s n left v c.in-Ok.words.words commit went c.serve_dma.ensures.at noted c.note.ensures.state c.note.ensures.still c.requires.playing
 
 pub returns-in-Ok-clause-came : goal.returns-in-Ok-clause-came
 returns-in-Ok-clause-came g c =
-    let r0 = c.args.replayer.now in
-    let s0 = c.args.sphere.now in
-    let p = progress_in r0 s0 in
-    let v = dma_verdict r0.log p r0.used in
-    let agrees : Agrees r0 p = record { done = c.requires.playing.done; last = refl } in
-    let said = rw c.in-Ok.is at (c.in_ok-words.ensures.judged p agrees refl) in
-    let gone = dma-gone r0 p s0.threads s0.request c.serve_dma.new.self s0.threads c.serve_dma.new.request v c.in-Ok.words said in
-    let n : Sphere = record { store = c.lay.new.self; threads = s0.threads; request = c.serve_dma.new.request; commits = c.push_reserved.new.self; stores = c.note_stores.new.stores } in
-    let kept : HasStored s0 n c.in-Ok.words.words =
+    let r = c.args.replayer.now in
+    let s = c.args.sphere.now in
+    let p = progress_in s.past in
+    let v = dma_verdict r.log p s.past.state.used in
+    let agrees : Agrees s.past.state p = record { commits = c.requires.playing.counted; last = refl; request = refl } in
+    let new = c.serve_dma.new.self in
+    let left = c.serve_dma.new.state in
+    let went = dma-gone r s.past.state p new left v (rw c.in-Ok.is at (c.in_ok-words.ensures.judged p agrees)) in
+    let stored = rw c.in-Ok.is at (c.in_ok-words.ensures.stored p agrees) in
+    let commit = c.dma_commit-commit.result in
+    let n : Sphere = record { past = c.note.new.past; stores = c.note.new.stores; words = s.words } in
+    let noted : IsNoted s n commit =
     record {
-      memory = ap (λ (o : Overlaid). o.memory) c.lay.ensures;
-      room = ap (λ (o : Overlaid). o.room) c.lay.ensures;
-      threads = refl;
-      commits =
-          c.push_reserved.ensures.items ∙ ap (λ (cs : List Commit). cs ++ c.dma_commit.result ∷ []) c.in_ok-reserve.ensures.items
-          ∙ ap (λ (x : Commit). s0.commits.items ++ x ∷ []) c.dma_commit.ensures;
+      first = c.note.ensures.first;
+      commits = c.note.ensures.commits ∙ ap (λ (cs : List Commit). cs ++ commit ∷ []) c.in_ok-reserve.ensures.items;
+      capacity = refl;
     }
     in
-    let number : c.len.result ≡ 0 + length s0.commits.items =
-    omega (arith, c.len.ensures, c.reserve.new.self.ok.0, ap length c.in_ok-reserve.ensures.items)
-    in
-    let stores =
-    c.note_stores.ensures
-    ∙ same_stores Actor.Dma c.in_ok-reserve-2.ensures.items number c.memory-in-Ok.ensures refl
-    in
-    dma-stands r0 s0 v c.serve_dma.new.self n c.in-Ok.words.words gone kept stores c.requires.playing
+    let is = c.dma_commit-commit.ensures in
+    let number = ap (λ (cs : List Commit). s.past.first + length cs) c.in_ok-reserve.ensures.items in
+    on-two c.note.result _ _ _ c.note.ensures.state c.note.ensures.stores
+    (λ laid stores. transferred-come r new s n left v c.in-Ok.words.words commit went noted laid (words-in (stored ∙ went.verdict)) is
+    (stores ∙ (λ i. s.stores.items ++ stores_of (number i) (is i).actor (went.state i).memory c.in-Ok.words.words)) c.requires.playing)
+
+pub returns-in-Err-clause-log : goal.returns-in-Err-clause-log
+returns-in-Err-clause-log g c =
+    let r = c.args.replayer.now in
+    let s = c.args.sphere.now in
+    let p = progress_in s.past in
+    let v = dma_verdict r.log p s.past.state.used in
+    let agrees : Agrees s.past.state p = record { commits = c.requires.playing.counted; last = refl; request = refl } in
+    let new = c.serve_dma.new.self in
+    let left = c.serve_dma.new.state in
+    let why = c.in-Err.field-0 in
+    let said = rw c.in-Err.is at (c.in_ok-words.ensures.judged p agrees) in
+    let fell = dma-failed r s.past.state p new left v why said in
+    ap (λ (x : Following). x.log) fell.replay
+
+pub returns-in-Err-clause-playing : goal.returns-in-Err-clause-playing
+returns-in-Err-clause-playing g c =
+    let r = c.args.replayer.now in
+    let s = c.args.sphere.now in
+    let p = progress_in s.past in
+    let v = dma_verdict r.log p s.past.state.used in
+    let agrees : Agrees s.past.state p = record { commits = c.requires.playing.counted; last = refl; request = refl } in
+    let new = c.serve_dma.new.self in
+    let left = c.serve_dma.new.state in
+    let why = c.in-Err.field-0 in
+    let said = rw c.in-Err.is at (c.in_ok-words.ensures.judged p agrees) in
+    let fell = dma-failed r s.past.state p new left v why said in
+    let n : Sphere = record s { past = record s.past { commits = c.reserve.new.self; state = left } } in
+    failed-playing r new s n left why fell c.serve_dma.ensures.at
+    (record { first = refl; commits = c.in_ok-reserve.ensures.items; state = refl; capacity = refl }) c.requires.playing
 
 pub returns-in-Err-clause-came : goal.returns-in-Err-clause-came
 returns-in-Err-clause-came g c =
-    let r0 = c.args.replayer.now in
-    let s0 = c.args.sphere.now in
-    let p = progress_in r0 s0 in
-    let v = dma_verdict r0.log p r0.used in
-    let agrees : Agrees r0 p = record { done = c.requires.playing.done; last = refl } in
-    let said = rw c.in-Err.is at (c.in_ok-words.ensures.judged p agrees refl) in
-    let n : Sphere = record { store = s0.store; threads = s0.threads; request = c.serve_dma.new.request; commits = c.reserve.new.self; stores = c.reserve-2.new.self } in
-    let fell = dma-fell r0 p s0.threads s0.request c.serve_dma.new.self s0.threads n.request nothing_served nothing_served v c.in-Err.field-0 said in
-    dma-fell-stands r0 s0 v c.in-Err.field-0 c.serve_dma.new.self n fell.0
-    (record { replay = fell.1; memory = refl; room = refl; threads = refl; request = fell.2; commits = c.in_ok-reserve.ensures.items }) c.in_ok-reserve-2.ensures.items c.requires.playing
+    let r = c.args.replayer.now in
+    let s = c.args.sphere.now in
+    let p = progress_in s.past in
+    let v = dma_verdict r.log p s.past.state.used in
+    let agrees : Agrees s.past.state p = record { commits = c.requires.playing.counted; last = refl; request = refl } in
+    let new = c.serve_dma.new.self in
+    let left = c.serve_dma.new.state in
+    let why = c.in-Err.field-0 in
+    let said = rw c.in-Err.is at (c.in_ok-words.ensures.judged p agrees) in
+    let fell = dma-failed r s.past.state p new left v why said in
+    let n : Sphere = record s { past = record s.past { commits = c.reserve.new.self; state = left } } in
+    not-transferred-come r new s n left v why (dma-fails r s.past.state p new left v why said) fell
+    (record { first = refl; commits = c.in_ok-reserve.ensures.items; state = refl; capacity = refl }) refl c.requires.playing

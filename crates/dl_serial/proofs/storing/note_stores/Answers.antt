@@ -1,14 +1,13 @@
-use Rattle.std.proofs.Common.{◌≡◌, ◌∷◌, ◌++◌, [], List, Vec, Global, sym, ap, ◌∙◌, arith}
-use Rattle.std.specs.Prelude.{vec_capacity, vec_len}
+use Rattle.std.proofs.Common.{◌∷◌, ◌++◌, [], Vec, Global, sym, ap, ◌∙◌, arith}
 use Rattle.spec_isa.specs.Words.{lays}
 use Rattle.spec_query.specs.declared.Store.{Store}
 use Rattle.spec_query.specs.Stores.{store_of}
 use Rattle.dl_serial.proofs.Buffered.{each_inside, is_there, one_more}
 use Rattle.dl_serial.proofs.storing.note_stores.Goals as goal
-use Rattle.dl_serial.proofs.storing.note_stores.Goals.{in-Some, in_default}
+use Rattle.dl_serial.proofs.storing.note_stores.Goals.{in-Some+in_ok-push, in_default}
 
 pub store_of-requires : goal.store_of-requires
-store_of-requires c = each_inside _ c.args.words.now.words c.loop-i.i c.in-Some.stored (sym c.in-Some.ensures.value) c.requires.inside
+store_of-requires c = each_inside _ c.args.words.now.words c.loop-i.i c.in-Some.stored (sym c.in-Some.ensures.value) c.requires
 
 pub loop-i-preserved : goal.loop-i-preserved
 loop-i-preserved c =
@@ -16,12 +15,8 @@ loop-i-preserved c =
     let f = store_of c.args.by.commit c.args.by.actor (lays c.args.memory.now ws) in
     let now = c.loop-i.stores.items in
     elim c.match-nth.branch [
-      | in-Some w ↦ record {
-        noted =
-            ap (λ (v : Vec Store Global). v.items) w.stores-is ∙ w.push_reserved.ensures.items ∙ ap (λ (s : Store). now ++ s ∷ []) w.store_of.ensures
-            ∙ one_more f c.args.stores.now.items now ws c.loop-i.i w.in-Some.stored (sym w.in-Some.ensures.value) c.loop-i.invariant.noted;
-        count = omega (arith, ap (λ (v : Vec Store Global). vec_len v) w.stores-is, w.push_reserved.ensures.len, c.loop-i.invariant.count);
-        room = ap (λ (v : Vec Store Global). vec_capacity v) w.stores-is ∙ w.push_reserved.ensures.capacity ∙ c.loop-i.invariant.room;
-      }
+      | in-Some+in_ok-push w ↦
+          ap (λ (v : Vec Store Global). v.items) w.stores-is ∙ w.in_ok-push.ensures.items ∙ ap (λ (s : Store). now ++ s ∷ []) w.store_of.ensures
+          ∙ one_more f c.args.stores.now.items now ws c.loop-i.i w.in-Some.stored (sym w.in-Some.ensures.value) c.loop-i.invariant
       | in_default w ↦ absurd (is_there ws c.loop-i.i (omega (arith, c.loop-i-test.true, c.len-i-end.ensures.value)) (sym w.in_default.ensures.value))
     ]

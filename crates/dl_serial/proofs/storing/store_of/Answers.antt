@@ -1,4 +1,4 @@
-use Rattle.std.proofs.Common.{◌≡◌, ℕ, ◌+◌, ◌*◌, ◌/◌, ◌≤◌, length, sym, ap, ◌∙◌, arith}
+use Rattle.std.proofs.Common.{◌≡◌, ◌*◌, ◌/◌, sym, ap, ◌∙◌, arith}
 use Rattle.spec_isa.specs.Words.{Stored, lays, read}
 use Rattle.spec_isa.specs.Masks.{over}
 use Rattle.dl_serial.proofs.Laying.{word_shown}

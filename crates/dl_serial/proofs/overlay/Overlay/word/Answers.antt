@@ -1,21 +1,14 @@
-use Rattle.std.proofs.Common.{◌≡◌, ◌/◌, ◌+◌, ◌≤◌, length, ap, sym, ◌∙◌, subst}
-use Rattle.spec_isa.specs.Words.{lays, read}
+use Rattle.std.proofs.Common.{◌/◌, ap, ◌∙◌}
 use Rattle.spec_isa.specs.Masks.{over}
-use Rattle.dl_serial.specs.Overlays.{Overlaid}
 use Rattle.dl_serial.proofs.Laying.{within, word_shown}
 use Rattle.dl_serial.proofs.overlay.Overlay.word.Goals as goal
 
 pub word-requires-clause-inside : goal.word-requires-clause-inside
-word-requires-clause-inside c =
-    within c.self.inside.memory c.self.inside.words.words c.args.addr
-    (subst (λ (o : Overlaid). c.args.addr + 4 ≤ length (lays o.memory o.words)) (sym c.self.view_is) c.requires.inside)
+word-requires-clause-inside c = within c.args.self.now.memory.now c.args.self.now.words.now.words c.args.addr c.requires.inside
 
 pub returns : goal.returns
 returns c =
-    let inside : c.args.addr + 4 ≤ length c.self.inside.memory =
-    within c.self.inside.memory c.self.inside.words.words c.args.addr
-    (subst (λ (o : Overlaid). c.args.addr + 4 ≤ length (lays o.memory o.words)) (sym c.self.view_is) c.requires.inside)
-    in
-    subst (λ (o : Overlaid). c.over.result ≡ read (lays o.memory o.words) (c.args.addr / 4)) c.self.view_is
-    (c.over.ensures.value ∙ ap (over c.self.inside.words.words (c.args.addr / 4)) c.word.ensures.value
-    ∙ word_shown c.self.inside.memory c.self.inside.words.words c.args.addr c.over.ensures.apart c.word.ensures.memory.bytes c.requires.aligned inside)
+    let m = c.args.self.now.memory.now in
+    let ws = c.args.self.now.words.now.words in
+    c.over.ensures.value ∙ ap (over ws (c.args.addr / 4)) c.word.ensures.value
+    ∙ word_shown m ws c.args.addr c.over.ensures.apart c.word.ensures.memory.bytes c.requires.aligned (within m ws c.args.addr c.requires.inside)
