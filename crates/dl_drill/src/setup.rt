@@ -1,14 +1,14 @@
 //! The two machines of a drill.
-ghost use Rattle.std.specs.Prelude.{◌≡◌, ◌∷◌, [], IfOk, length, map};
+ghost use Rattle.std.specs.Prelude.{◌≡◌, ◌∷◌, [], All, None, IfOk, length, map};
 ghost use Rattle.dl_machine.specs.Setups.{IsWithin, setup_in};
-ghost use Rattle.dl_sphere.specs.Setups.{role_setup, setup_of};
+ghost use Rattle.dl_sphere.specs.Setups.{HasBegun, begun_as, role_setup, setup_of};
 ghost use Rattle.spec_program.specs.Drills.{drill_image, drill_sphere, recorded_log, recording, replaying};
 
 use dl_elf::{ElfError, Image, load};
 use dl_entry::{Bytes, OutOfMemory, Sequence};
 use dl_machine::Setup;
 use dl_make::make;
-use dl_sphere::{Role, SphereSetup};
+use dl_sphere::{Replay, Role, SphereSetup};
 use spec_log::{Log, ModeName};
 use std::alloc::Global;
 
@@ -41,7 +41,8 @@ pub fn replaying_setup(alloc: Global, number: u32, log: Log) -> Result<Setup, Ou
     ensures value { IfOk result (λ s. setup_in s ≡ replaying number) }
     ensures within { IfOk result IsWithin }
 {
-    let spheres = one_sphere(alloc, number, Role::Replay(log))?;
+    let role = Role::Replay(Replay { log, begun: None });
+    let spheres = one_sphere(alloc, number, role)?;
     Ok(Setup {
         cores: 1,
         window: 1,
@@ -57,8 +58,10 @@ pub fn replaying_setup(alloc: Global, number: u32, log: Log) -> Result<Setup, Ou
 
 // A sphere in that role, with the image of the number.
 fn one_sphere(alloc: Global, number: u32, role: Role) -> Result<Sequence<SphereSetup>, OutOfMemory>
+    requires { begun_as role ≡ None }
     ensures value { IfOk result (λ spheres. map setup_of spheres ≡ drill_sphere number (role_setup role) ∷ []) }
     ensures count { IfOk result (λ spheres. length spheres ≡ 1) }
+    ensures begun { IfOk result (λ spheres. All HasBegun spheres) }
 {
     let image = image(alloc, number)?;
     let mut spheres = Sequence::new(alloc);

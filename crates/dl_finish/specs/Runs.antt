@@ -9,7 +9,7 @@ use Rattle.spec_finishing.specs.Function.{finishing_of, finished}
 use Rattle.dl_machine.specs.Events.{wants_memory}
 use Rattle.dl_machine.specs.Runs.{IsRun}
 
--- the events that finish the run have happened, all of them and no others, and each replay has done its log's whole play
+-- the events that finish the run have happened, all of them and no others, and each replay has done all that was asked for
 pub record HasEnded (s : Setup) (es : List Event) (w : World) : Type 0 where
   pub world : w ≡ finished s es
   pub run : IsRun s (es ++ finishing_of s es) w
@@ -18,7 +18,7 @@ pub record HasEnded (s : Setup) (es : List Event) (w : World) : Type 0 where
   pub played : (i : ℕ) (image : SphereSetup) (asked : ReplaySetup)
       → slice_get s.spheres i ≡ Some image
       → image.role ≡ IsReplayed asked
-      → HasPlayed image asked.log s (es ++ finishing_of s es) i
+      → HasPlayed image asked s (es ++ finishing_of s es) i
 
 -- the first of those events have happened, but not all: the next one takes memory
 pub record HasBegun (s : Setup) (es : List Event) (w : World) : Type 0 where

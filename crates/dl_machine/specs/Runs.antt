@@ -1,7 +1,6 @@
 -- What is promised of a machine that began as a setup and took some events.
-use Rattle.std.specs.Prelude.{◌≡◌, ℕ, true, false, List, slice_get, Some}
+use Rattle.std.specs.Prelude.{◌≡◌, ℕ, true, false, List, length, slice_get, Some}
 use Rattle.dl_entry.specs.declared.Point.{Point}
-use Rattle.spec_play.specs.Progress.{position}
 use Rattle.spec_play.specs.Plays.{plays}
 use Rattle.spec_protocol.specs.declared.event.Event.{Event}
 use Rattle.spec_protocol.specs.machine.Spheres.{Recording, Cursor, Record, Replay, Sphere, is_over}
@@ -43,7 +42,7 @@ pub record IsNow (s : Setup) (i : ℕ) (w : World) (image : SphereSetup) (p : Sp
   pub shown : slice_get (shown_of w).spheres i ≡ Some p
 
 -- where sphere i is recorded, its log so far fits its image and plays back; where it is replayed, it stands in the play of
--- its log, and once it has stopped it has done the whole play
+-- its log, and once it has stopped it has done all that was asked for
 pub record IsPromised (s : Setup) (i : ℕ) (w : World) : Type 0 where
   pub recorded : (image : SphereSetup) (asked : RecordSetup) (p : Sphere) (recording : Recording)
       → IsNow s i w image p
@@ -53,10 +52,10 @@ pub record IsPromised (s : Setup) (i : ℕ) (w : World) : Type 0 where
   pub replayed : (image : SphereSetup) (asked : ReplaySetup) (p : Sphere)
       → IsNow s i w image p
       → image.role ≡ IsReplayed asked
-      → Follows asked.log (plays asked.log (first_played image asked.log) (position p.progress)) p
+      → Follows asked (plays asked.log (first_played image asked) (length p.progress.commits)) p
   pub stopped : (image : SphereSetup) (asked : ReplaySetup) (p : Sphere) (b : Cursor)
       → IsNow s i w image p
       → image.role ≡ IsReplayed asked
       → p.role ≡ Replay b
       → is_over b.now ≡ true
-      → IsPlayed (last_played image asked.log) p b
+      → IsPlayed asked (last_played image asked) p b

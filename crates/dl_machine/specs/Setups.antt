@@ -6,7 +6,7 @@ use Rattle.spec_protocol.specs.machine.World.{Occupant, Numbers, held_afresh}
 use Rattle.spec_protocol.specs.machine.Machine as protocol
 use Rattle.spec_protocol.specs.promises.Sound.{IsChunkSize, AreFew}
 use Rattle.dl_sphere.specs.declared.setup.SphereSetup.{SphereSetup}
-use Rattle.dl_sphere.specs.Setups.{IsRecordableIf, role_setup, setup_of, standard_asked}
+use Rattle.dl_sphere.specs.Setups.{HasBegun, IsRecordableIf, role_setup, setup_of, standard_asked}
 use Rattle.dl_machine.specs.declared.setup.Setup.{Setup}
 use Rattle.dl_machine.specs.Rows.{Spheres}
 
@@ -22,7 +22,8 @@ setup_in s =
       spheres = map setup_of s.spheres;
     }
 
--- its numbers are within the limits, and standard chunks fit the version of each log that is recorded
+-- its numbers are within the limits, standard chunks fit the version of each log that is recorded, and each interval that is
+-- replayed begins in its log's play
 pub record IsWithin (s : Setup) : Type 0 where
   pub cores : AreFew s.cores
   pub window : AreFew s.window
@@ -34,6 +35,7 @@ pub record IsWithin (s : Setup) : Type 0 where
   pub depth : 1 ≤ s.depth
   pub most_depth : s.depth ≤ 2
   pub recorded : All (λ image. IsRecordableIf s.s image.role) (map setup_of s.spheres)
+  pub begun : All HasBegun s.spheres
 
 -- the greatest standard size: that of the plan, or of a log that is replayed
 abbrev pub greatest : (s : ℕ) → List SphereSetup → ℕ

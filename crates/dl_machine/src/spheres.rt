@@ -12,7 +12,7 @@ ghost use Rattle.spec_protocol.specs.machine.Asking.{is_short};
 ghost use Rattle.spec_protocol.specs.machine.Commits.{chunk_moved, dma_moved, is_piece, raised, serial_moved};
 ghost use Rattle.dl_fly.specs.Slots.{set_slot};
 ghost use Rattle.spec_protocol.specs.machine.Machine.{sphere_of};
-ghost use Rattle.dl_sphere.specs.Setups.{IsRecordableIf, setup_of, standard_in};
+ghost use Rattle.dl_sphere.specs.Setups.{HasBegun, IsRecordableIf, setup_of, standard_in};
 ghost use Rattle.dl_machine.specs.Setups.{greatest};
 ghost use Rattle.dl_sphere.specs.Moving.{CanCommit, IsTurnOf, IsTurnOfDma, came};
 
@@ -52,6 +52,7 @@ impl Spheres {
         requires few { AreFew (length setups.now) }
         requires size { IsChunkSize s }
         requires recorded { All (λ image. IsRecordableIf s image.role) (map setup_of setups.now) }
+        requires begun { All HasBegun setups.now }
         ensures made { IfOk result (λ r. r ≡ record { s = s; most = greatest s setups.now; spheres = map (sphere_of s) (map setup_of setups.now) }) }
         ensures images { IfOk result (λ r. All (λ setup. IsImage s (setup_of setup)) setups.now) }
     {
@@ -123,7 +124,7 @@ impl Spheres {
         requires sphere { i < length self.old.spheres }
         requires thread { thread < length (nth_sphere i self.old).threads }
         requires chunk { (how : How) × CanCommit self.old.s (nth_sphere i self.old) thread how chunk.now.chunk }
-        requires few { position (nth_sphere i self.old).progress < 2 ^ 24 }
+        requires few { let p = nth_sphere i self.old in replays p.role ≡ false → position p.progress < 2 ^ 24 }
         ensures ok { IfOk result (λ m. (d : Devices) (how : How) → chunk.now.chunk.closed ≡ Some how →
             let p = nth_sphere i self.old in
             let short = is_short self.old.s how chunk.now.chunk.limit in
@@ -146,7 +147,7 @@ impl Spheres {
         requires sphere { i < length self.old.spheres }
         requires thread { thread < length (nth_sphere i self.old).threads }
         requires turn { IsTurnOf thread (nth_sphere i self.old).role }
-        requires few { position (nth_sphere i self.old).progress < 2 ^ 24 }
+        requires few { let p = nth_sphere i self.old in replays p.role ≡ false → position p.progress < 2 ^ 24 }
         requires devices { HaveByteInput devices.old }
         ensures ok { IfOk result (λ m. (t : Parts) → slice_get (nth_sphere i self.old).threads thread ≡ Some t →
             let p = nth_sphere i self.old in
@@ -180,7 +181,7 @@ impl Spheres {
         requires request { let p = nth_sphere i self.old in IfSome p.progress.request (IsSoundRequest (length p.memory)) }
         requires turn { IsTurnOfDma (nth_sphere i self.old).role }
         requires some { IsSome (dma_moved devices.old (nth_sphere i self.old)) }
-        requires few { position (nth_sphere i self.old).progress < 2 ^ 24 }
+        requires few { let p = nth_sphere i self.old in replays p.role ≡ false → position p.progress < 2 ^ 24 }
         requires devices { HaveByteInput devices.old }
         ensures ok { IfOk result (λ m. let p = nth_sphere i self.old in
             dma_moved devices.old p ≡ Some (came m (nth_sphere i self.new) devices.new)) }

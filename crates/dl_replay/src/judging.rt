@@ -7,8 +7,11 @@ ghost use Rattle.spec_play.specs.Effects.{Effect, chunk_effect};
 ghost use Rattle.spec_play.specs.Progress.{Progress};
 ghost use Rattle.spec_play.specs.Verdicts.{ended, chunk_why, chunk_verdict, serial_why, given, serial_verdict};
 ghost use Rattle.spec_play.specs.Transfers.{is_for, dma_verdict};
+ghost use Rattle.spec_play.specs.Resuming.{IsBounded};
 ghost use Rattle.spec_play.specs.Spawned.{AreNew};
+ghost use Rattle.spec_isa.specs.declared.thread.Parts.{Parts};
 ghost use Rattle.dl_kernel.specs.Calls.{spawned_list};
+ghost use Rattle.dl_kernel.specs.States.{state_in};
 ghost use Rattle.dl_replay.specs.Replays.{Agrees, IsInside};
 ghost use Rattle.dl_replay.specs.Judging.{verdict_of, given_by, step_verdict, transfer_seen, transfer_verdict};
 
@@ -16,7 +19,7 @@ use crate::lookup::Lookup;
 use dl_entry::{Actor, Input, OutOfMemory, Request, Why};
 use dl_kernel::{
     Injected, State, Step, StepResult, counted, dma_words, inject, interrupted, serve,
-    takes_interrupt, wants_record,
+    takes_interrupt, thread_at, wants_record,
 };
 use dl_mem::Memory;
 use dl_mode::Mode;
@@ -109,33 +112,43 @@ pub struct Taken<'a> {
     pub used: Used,
 }
 
-/// Judges a serial step, and does it apart from the sphere. Spawn is refused at as many threads as the log may have.
+/// Judges a serial step of a thread, and does it apart from the sphere's state. Spawn is refused at as many threads as the
+/// log may have.
 pub fn judge_step<M: Mode>(
     alloc: Global,
     log: &Lookup<M>,
-    used: Used,
-    step: &Step<'_>,
+    number: u8,
+    state: &State,
 ) -> Result<Result<Done, Why>, OutOfMemory>
-    requires few { used.interrupts + 1 < 2 ^ 32 }
-    requires commits { step.now.thread.commits + 1 < 2 ^ 32 }
-    requires request { IsInside (length step.now.memory.now) step.now.request }
-    ensures verdict { let s = step.now in (p : Progress) → p.request ≡ s.request →
-        IfOk result (λ r. step_verdict s.number r ≡ serial_verdict log.now p used s.number s.threads.now s.thread s.memory.now) }
-    ensures commits { IfOk result (λ r. IfOk r (λ d. d.finish.thread.commits ≡ step.now.thread.commits + 1)) }
-    ensures interrupts { IfOk result (λ r. IfOk r (λ d. d.finish.used.interrupts ≤ used.interrupts + 1)) }
+    requires bounded { IsBounded log.now (state_in state.now) }
+    requires few { state.now.commits + 1 < 2 ^ 32 }
+    requires thread { number < length state.now.threads }
+    requires request { IsInside (length state.now.memory) state.now.request }
+    ensures verdict { (p : Progress) (t : Parts) → let s = state.now in Agrees s p → slice_get s.threads number ≡ Some t →
+        IfOk result (λ r. step_verdict number r ≡ serial_verdict log.now p s.used number s.threads t s.memory) }
+    ensures commits { IfOk result (λ r. IfOk r (λ d. d.finish.thread.commits ≤ state.now.commits + 1)) }
+    ensures interrupts { IfOk result (λ r. IfOk r (λ d. d.finish.used.interrupts ≤ state.now.used.interrupts + 1)) }
     ensures spawned { IfOk result (λ r. IfOk r (λ d. AreNew (spawned_list d.left.spawned))) }
-    ensures room { IfOk result (λ r. IfOk r (λ d. OnSome d.left.spawned (length step.now.threads.now < most_threads))) }
-    ensures request { IfOk result (λ r. IfOk r (λ d. IsInside (length step.now.memory.now) d.left.request)) }
+    ensures room { IfOk result (λ r. IfOk r (λ d. OnSome d.left.spawned (length state.now.threads < most_threads))) }
+    ensures request { IfOk result (λ r. IfOk r (λ d. IsInside (length state.now.memory) d.left.request)) }
 {
-    let size = log.size(Actor::Thread(step.number), step.thread.commits());
+    let thread = thread_at(&state.threads, number);
+    let size = log.size(Actor::Thread(number), thread.commits());
     if let Some(why) = serial_why(size) {
         return Ok(Err(why));
     }
-    let Some(given) = given(log, used, &step.thread, step.memory) else {
+    let Some(given) = given(log, state.used, &thread, &state.memory) else {
         return Ok(Err(Why::Input));
     };
-    let left = serve(alloc, step, given.input, log.threads())?;
-    match ended(log, step.number, &counted(&left.thread), given.used) {
+    let step = Step {
+        number,
+        thread,
+        threads: &state.threads,
+        request: state.request,
+        memory: &state.memory,
+    };
+    let left = serve(alloc, &step, given.input, log.threads())?;
+    match ended(log, number, &counted(&left.thread), given.used) {
         Ok(finish) => Ok(Ok(Done { left, finish })),
         Err(why) => Ok(Err(why)),
     }

@@ -22,7 +22,7 @@ ghost use Rattle.dl_kernel.specs.Calls.{spawned_list};
 ghost use Rattle.dl_kernel.specs.States.{state_in};
 ghost use Rattle.dl_replay.specs.Following.{cursor_of, diverged, end_of, followed, followed_from};
 ghost use Rattle.dl_replay.specs.Judged.{dma_judged, judged};
-ghost use Rattle.dl_replay.specs.Judging.{step_verdict, transfer_verdict};
+ghost use Rattle.dl_replay.specs.Judging.{transfer_verdict};
 ghost use Rattle.dl_replay.specs.Left.{SaysSize, served_by, served_left, verdict_left, verdict_stored};
 ghost use Rattle.dl_replay.specs.Limits.{chunk_limit, chunk_limit_in};
 ghost use Rattle.dl_replay.specs.Replays.{Agrees, IsInside, IsReplaying};
@@ -33,7 +33,7 @@ use crate::turn_or_end::TurnOrEnd;
 use crate::turning::now_in;
 use crate::verdict::Verdict;
 use dl_entry::{Actor, End, OutOfMemory, Request, Why};
-use dl_kernel::{State, Step, StepResult, settle, thread_at};
+use dl_kernel::{State, StepResult, settle};
 use dl_mode::{Mode, Noting};
 use dl_thread::Thread;
 use dl_wbuf::Buffer;
@@ -225,7 +225,7 @@ impl<M: Mode> Replayer<M> {
             IfOk result (λ r. served_left r ≡ served_by (serial_verdict self.old.log p s.used number s.threads t s.memory)) }
         ensures still { OnErr result ((self.new ≡ self.old) × (state.new ≡ state.old)) }
     {
-        match self.judge_step(number, state)? {
+        match judge_step(self.alloc, &self.log, number, state)? {
             Ok(Done { left, finish }) => {
                 let change = Change {
                     finish,
@@ -240,28 +240,6 @@ impl<M: Mode> Replayer<M> {
                 Ok(Err(why))
             }
         }
-    }
-
-    // Judges a serial step, and changes nothing.
-    fn judge_step(&self, number: u8, state: &State) -> Result<Result<Done, Why>, OutOfMemory>
-        requires at { IsReplaying self.now state.now }
-        requires thread { number < length state.now.threads }
-        ensures verdict { (p : Progress) (t : Parts) → let s = state.now in Agrees s p → slice_get s.threads number ≡ Some t →
-            IfOk result (λ r. step_verdict number r ≡ serial_verdict self.now.log p s.used number s.threads t s.memory) }
-        ensures commits { IfOk result (λ r. IfOk r (λ d. d.finish.thread.commits ≤ state.now.commits + 1)) }
-        ensures interrupts { IfOk result (λ r. IfOk r (λ d. d.finish.used.interrupts ≤ state.now.used.interrupts + 1)) }
-        ensures spawned { IfOk result (λ r. IfOk r (λ d. AreNew (spawned_list d.left.spawned))) }
-        ensures room { IfOk result (λ r. IfOk r (λ d. OnSome d.left.spawned (length state.now.threads < most_threads))) }
-        ensures request { IfOk result (λ r. IfOk r (λ d. IsInside (length state.now.memory) d.left.request)) }
-    {
-        let step = Step {
-            number,
-            thread: thread_at(&state.threads, number),
-            threads: &state.threads,
-            request: state.request,
-            memory: &state.memory,
-        };
-        judge_step(self.alloc, &self.log, state.used, &step)
     }
 
     // ---- DMAs

@@ -1,9 +1,9 @@
 -- What a run that is over tells, sphere by sphere, in the words of the machine is what its texts say.
-use Rattle.std.proofs.Common.{◌≡◌, ℕ, zero, suc, ◌+◌, ◌<◌, ◌≤◌, ◌^◌, Bool, true, false, List, [], ◌∷◌, ◌++◌, length, Some, None, refl, sym, ap, ◌∙◌, subst, arith, get_or, inl, inr}
+use Rattle.std.proofs.Common.{◌≡◌, ℕ, zero, suc, ◌+◌, ◌<◌, ◌≤◌, Bool, true, false, List, [], ◌∷◌, ◌++◌, length, Some, None, refl, sym, ap, ◌∙◌, subst, arith, get_or, inl, inr}
 use Rattle.std.specs.Prelude.{◌⊎◌, ◌||◌, slice_get, drop}
 use Rattle.std.proofs.lemmas.List.{append_assoc}
 use Rattle.std.proofs.lemmas.Bool.{true≢false}
-use Rattle.std.proofs.lemmas.Option.{none-some}
+use Rattle.std.proofs.lemmas.Option.{none-some, same_Some}
 use Rattle.dl_account.specs.Report.{report_of}
 use Rattle.dl_account.specs.Summary.{summary_of}
 use Rattle.dl_entry.specs.declared.End.{End}
@@ -11,13 +11,14 @@ use Rattle.dl_entry.specs.declared.SphereLine.{SphereLine}
 use Rattle.spec_log.specs.declared.LogParts.{LogParts}
 use Rattle.spec_log.specs.Bytes.{log_bytes}
 use Rattle.spec_kernel.specs.Devices.{Devices}
-use Rattle.spec_play.specs.Progress.{position}
+use Rattle.spec_play.specs.Progress.{Progress, position}
+use Rattle.spec_play.specs.Plays.{Played}
 use Rattle.spec_play.specs.Turns.{TurnOrEnd, Turn, TurnOfDma, Ended}
 use Rattle.spec_protocol.specs.declared.event.Event.{Event}
-use Rattle.spec_protocol.specs.machine.Spheres.{Role, Plain, Record, Replay, Cursor, is_over}
+use Rattle.spec_protocol.specs.machine.Spheres.{Role, Plain, Record, Replay, Cursor, Sphere, is_over, no_sphere}
 use Rattle.spec_protocol.specs.machine.Placing.{replays}
 use Rattle.spec_protocol.specs.machine.World.{World, sphere_at}
-use Rattle.spec_protocol.specs.machine.Machine.{ReplaySetup, RecordSetup, RoleSetup, IsPlain, IsRecorded, IsReplayed, SphereSetup, Setup, world_of, world_after}
+use Rattle.spec_protocol.specs.machine.Machine.{ReplaySetup, RecordSetup, RoleSetup, IsPlain, IsRecorded, IsReplayed, SphereSetup, Setup, happens, world_of, world_after}
 use Rattle.spec_protocol.specs.machine.Logged.{sphere_in}
 use Rattle.spec_protocol.specs.machine.Serial.{SerialState}
 use Rattle.spec_protocol.specs.promises.Promises.{IsSetup, after}
@@ -28,10 +29,10 @@ use Rattle.spec_finishing.proofs.Ending.Function.{function_finishes}
 use Rattle.spec_finishing.proofs.Ending.Knowing.{after-event}
 use Rattle.spec_finishing.proofs.Ending.KindsKept.{is_replayed}
 use Rattle.spec_finishing.proofs.Ending.ShortRuns.{setups_finish}
-use Rattle.spec_run.specs.Runs.{executed, played, end_of, diverges, diverges_as, has_diverged}
-use Rattle.spec_run.specs.Texts.{account_text, console_text, line_as, line_of_end, lines_from, lines_of, log_as, log_of_points, log_text, report_text, summary_text}
+use Rattle.spec_finishing.proofs.Ending.Played.{replays_finished}
+use Rattle.spec_run.specs.Runs.{executed, played, played_end, end_of, diverges, diverges_as, has_diverged}
+use Rattle.spec_run.specs.Texts.{account_text, console_text, line_as, replay_line, lines_from, lines_of, log_as, log_of_points, log_text, report_text, summary_text}
 use Rattle.spec_run.specs.Promise.{end_as, account_held, HasRole, IsDescribed}
-use Rattle.spec_run.proofs.Room.{leaves_room}
 use Rattle.spec_run.proofs.Described.{spheres_described, runs_described}
 use Rattle.dl_machine.specs.Ready.{HasRoom}
 use Rattle.dl_finish.proofs.Room.{room_kept}
@@ -48,6 +49,17 @@ image_there (x ∷ xs) (suc i) l = image_there xs i (omega (arith, l))
 -- there are as many spheres as were set up
 pub as_many : (es : List Event) (r : Ran) → IsOver es r → length r.world.spheres ≡ length r.setup.spheres
 as_many es r over = ap (λ (w : World). length w.spheres) over.world ∙ (runs_described r.setup es (setups_finish r.setup over.limits).setup).spheres
+
+-- a sphere that is there is the one at its place
+at_there : (ps : List Sphere) (i : ℕ) (p : Sphere) → slice_get ps i ≡ Some p → get_or ps i no_sphere ≡ p
+at_there [] i p is = absurd (none-some p is)
+at_there (q ∷ ps) zero p is = same_Some _ _ is
+at_there (q ∷ ps) (suc i) p is = at_there ps i p is
+
+-- events after events
+after_both : (w : World) (xs ys : List Event) → world_after w (xs ++ ys) ≡ world_after (world_after w xs) ys
+after_both w [] ys = refl
+after_both w (x ∷ xs) ys = after_both (happens w x).world xs ys
 
 -- ---- a sphere
 
@@ -79,16 +91,6 @@ room_all s es (e ∷ fs) is of room =
     let kept = room_kept s es e is of.0 room in
     subst (λ (w : World). HasRoom (world_after w fs)) same
     (room_all s (es ++ e ∷ []) fs is (subst (λ (w : World). OfReplays w fs) (sym same) of.1) (subst HasRoom (sym same) kept))
-
--- a plain or recorded sphere has fewer than 2^24 commits
-pub few_commits : (es : List Event) (r : Ran) (i : ℕ) → IsOver es r → i < length r.setup.spheres → replays (sphere_at r.world i).role ≡ false → position (sphere_at r.world i).progress < 2 ^ 24
-few_commits es r i over inside live =
-    let can = setups_finish r.setup over.limits in
-    let alone = (function_finishes r.setup es (most_events r.setup es) can (omega arith)).alone in
-    let start : HasRoom (after r.setup es) = record { few = λ j l live. leaves_room r.setup es j over.limits over.few l live } in
-    let room : HasRoom r.world = subst HasRoom (sym over.world) (room_all r.setup es (finishing_of r.setup es) can.setup alone start) in
-    let many = as_many es r over in
-    room.few i (omega (arith, inside, many)) live
 
 -- ---- ends
 
@@ -174,7 +176,7 @@ commits-are es r i over inside live =
     ap (λ (w : World). position (sphere_at w i).progress) over.world ∙ ap position ((described es r i over inside).executed l)
 
 -- a replayed one ends as its log's play
-pub ends-as-played : (es : List Event) (r : Ran) (i : ℕ) (asked : ReplaySetup) (n : ℕ) → IsOver es r → i < length r.setup.spheres → (image_at r.setup i).role ≡ IsReplayed asked → end_as (sphere_at r.world i).role n ≡ end_of (played asked.log (image_at r.setup i)).now
+pub ends-as-played : (es : List Event) (r : Ran) (i : ℕ) (asked : ReplaySetup) (n : ℕ) → IsOver es r → i < length r.setup.spheres → (image_at r.setup i).role ≡ IsReplayed asked → end_as (sphere_at r.world i).role n ≡ played_end asked (image_at r.setup i)
 ends-as-played es r i asked n over inside is =
     let h = has_role es r i (IsReplayed asked) over inside is in
     let there : (sphere_at (finished r.setup es) i).role ≡ Replay h.0 = subst (λ (w : World). (sphere_at w i).role ≡ Replay h.0) over.world h.1 in
@@ -192,10 +194,27 @@ line-recorded es r i asked over inside is =
     ap SphereLine.Record (commits-are es r i over inside (not-replayed es r i (IsRecorded asked) over inside is refl))
     ∙ ap (line_as (image_at r.setup i) (sphere_in (executed r.setup es) i)) (sym is)
 
--- a replayed sphere's line, of its end in the machine, is that of the texts
-pub line-replayed : (es : List Event) (r : Ran) (i : ℕ) (asked : ReplaySetup) (how : End) → IsOver es r → i < length r.setup.spheres → (image_at r.setup i).role ≡ IsReplayed asked → how ≡ end_as (sphere_at r.world i).role (position (sphere_at r.world i).progress) → line_of_end how ≡ line_as (image_at r.setup i) (sphere_in (executed r.setup es) i) (image_at r.setup i).role
-line-replayed es r i asked how over inside is ended =
-    ap line_of_end (ended ∙ ends-as-played es r i asked (position (sphere_at r.world i).progress) over inside is)
+-- it has done what was asked for
+has_played : (es : List Event) (r : Ran) (i : ℕ) (asked : ReplaySetup) → IsOver es r → i < length r.setup.spheres → (image_at r.setup i).role ≡ IsReplayed asked → (sphere_at r.world i).progress ≡ (played asked (image_at r.setup i)).progress
+has_played es r i asked over inside is =
+    let s = r.setup in
+    let can = setups_finish s over.limits in
+    let fs = finishing_of s es in
+    let finishes = (function_finishes s es (most_events s es) can (omega arith)).finishes in
+    let h = replays_finished (image_at s i) asked s es fs i can finishes (image_there s.spheres i inside) is in
+    let same : sphere_at r.world i ≡ h.sphere =
+    ap (λ (w : World). sphere_at w i) (over.world ∙ sym (after_both (world_of s) es fs)) ∙ at_there (after s (es ++ fs)).spheres i h.sphere h.there
+    in
+    ap (λ (p : Sphere). p.progress) same ∙ h.played.progress
+
+-- a replayed sphere's line, of its commits and its end in the machine, is that of the texts
+pub line-replayed : (es : List Event) (r : Ran) (i : ℕ) (asked : ReplaySetup) (n : ℕ) (how : End) (line : SphereLine) → IsOver es r → i < length r.setup.spheres → (image_at r.setup i).role ≡ IsReplayed asked
+    → n ≡ length (sphere_at r.world i).progress.commits → how ≡ end_as (sphere_at r.world i).role (position (sphere_at r.world i).progress)
+    → ((y : Played) → n ≡ length y.progress.commits → line ≡ replay_line asked.interval y how) → line ≡ line_as (image_at r.setup i) (sphere_in (executed r.setup es) i) (image_at r.setup i).role
+line-replayed es r i asked n how line over inside is count ended said =
+    let y = played asked (image_at r.setup i) in
+    said y (count ∙ ap (λ (p : Progress). length p.commits) (has_played es r i asked over inside is))
+    ∙ ap (replay_line asked.interval y) (ended ∙ ends-as-played es r i asked (position (sphere_at r.world i).progress) over inside is)
     ∙ ap (line_as (image_at r.setup i) (sphere_in (executed r.setup es) i)) (sym is)
 
 -- a replayed sphere has diverged in the machine if it does in the texts

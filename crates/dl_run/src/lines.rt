@@ -1,15 +1,17 @@
 //! What the summary says of each sphere.
 ghost use Rattle.std.specs.Prelude.{◌≡◌, ◌<◌, List, IfOk, length};
+ghost use Rattle.spec_play.specs.Plays.{Played};
 ghost use Rattle.spec_protocol.specs.declared.event.Event.{Event};
 ghost use Rattle.spec_protocol.specs.machine.Logged.{sphere_in};
 ghost use Rattle.spec_protocol.specs.promises.Sound.{image_at};
 ghost use Rattle.spec_run.specs.Runs.{diverges, diverges_as, executed, has_diverged};
-ghost use Rattle.spec_run.specs.Texts.{line_as, line_of_end, lines_of};
+ghost use Rattle.spec_run.specs.Texts.{line_as, line_of_end, lines_of, replay_line};
 ghost use Rattle.dl_run.specs.Ran.{IsOver};
 
 use crate::run::Run;
 use dl_entry::{End, OutOfMemory, SphereLine};
 use dl_sphere::Role;
+use spec_play::Interval;
 use std::alloc::Global;
 
 impl Run {
@@ -57,8 +59,21 @@ impl Run {
         match self.role(sphere) {
             Role::Plain => SphereLine::Plain(self.commits(sphere)),
             Role::Record { .. } => SphereLine::Record(self.commits(sphere)),
-            Role::Replay(_) => line_of_end(self.end(sphere)),
+            Role::Replay(replay) => {
+                let commits = self.since_first(sphere);
+                replay_line(replay.interval(), commits, self.end(sphere))
+            },
         }
+    }
+}
+
+// What is said of a replay: of an interval's how many commits it did, and how it ended.
+fn replay_line(interval: Option<Interval>, commits: u32, end: End) -> SphereLine
+    ensures { (y : Played) → commits ≡ length y.progress.commits → result ≡ replay_line interval y end }
+{
+    match interval {
+        Some(_) => SphereLine::Interval(commits, end),
+        None => line_of_end(end),
     }
 }
 
@@ -66,7 +81,7 @@ fn line_of_end(end: End) -> SphereLine
     ensures { result ≡ line_of_end end }
 {
     match end {
-        End::Complete(commits) => SphereLine::Complete(commits),
+        End::Complete(commits) | End::At(commits) => SphereLine::Complete(commits),
         End::Diverged(index, why) => SphereLine::Diverged(index, why),
     }
 }
@@ -75,7 +90,7 @@ fn is_divergence(end: End) -> bool
     ensures { result ≡ has_diverged end }
 {
     match end {
-        End::Complete(_) => false,
+        End::Complete(_) | End::At(_) => false,
         End::Diverged(..) => true,
     }
 }

@@ -1,8 +1,7 @@
 //! What a run that is over tells of a sphere.
-ghost use Rattle.std.specs.Prelude.{◌≡◌, ◌<◌, List, false, length};
+ghost use Rattle.std.specs.Prelude.{◌≡◌, ◌<◌, List, length};
 ghost use Rattle.spec_play.specs.Progress.{position};
 ghost use Rattle.spec_protocol.specs.declared.event.Event.{Event};
-ghost use Rattle.spec_protocol.specs.machine.Placing.{replays};
 ghost use Rattle.spec_protocol.specs.promises.Sound.{image_at};
 ghost use Rattle.spec_protocol.specs.machine.World.{sphere_at};
 ghost use Rattle.spec_run.specs.Promise.{end_as};
@@ -43,12 +42,20 @@ impl Run {
         }
     }
 
-    /// The commits of a plain or recorded sphere, fewer than 2^24.
+    /// How many commits a sphere has done, those before its first one too.
     pub(crate) fn commits(&self, sphere: usize) -> u32
-        requires inside { sphere < length self.now.setup.spheres }
-        requires live { replays (sphere_at self.now.world sphere).role ≡ false }
+        requires { sphere < length self.now.setup.spheres }
         ensures { result ≡ position (sphere_at self.now.world sphere).progress }
     {
-        self.sphere(sphere).commits().len() as u32
+        self.sphere(sphere).done()
+    }
+
+    /// How many it has done from its first one on.
+    pub(crate) fn since_first(&self, sphere: usize) -> u32
+        requires { sphere < length self.now.setup.spheres }
+        ensures { result ≡ length (sphere_at self.now.world sphere).progress.commits }
+    {
+        let sphere = self.sphere(sphere);
+        sphere.done() - sphere.first()
     }
 }

@@ -51,6 +51,7 @@ impl Run {
             &sphere.request(),
             sphere.memory(),
             &end,
+            sphere.first(),
         )
     }
 

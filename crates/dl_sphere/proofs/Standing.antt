@@ -2,3 +2,4 @@
 pub mod Start
 pub mod Moves
 pub mod Sizes
+pub mod Drained

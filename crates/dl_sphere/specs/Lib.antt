@@ -1,4 +1,5 @@
 pub mod SizedSpheres
+pub mod Pasts
 pub mod Recorded
 pub mod Roles
 pub mod Setups
@@ -6,6 +7,5 @@ pub mod Moving
 pub mod Inside
 pub mod Stepping
 pub mod Played
-pub mod Judging
 pub mod Reading
 pub mod Starting

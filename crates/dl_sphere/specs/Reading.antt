@@ -6,7 +6,7 @@ use Rattle.spec_log.specs.declared.LogParts.{LogParts}
 use Rattle.spec_protocol.specs.machine.Spheres.{Role, Plain, Record, Replay}
 use Rattle.spec_play.specs.Transfers.{DmaGoes}
 use Rattle.spec_protocol.specs.machine.Commits.{MovedSphere}
-use Rattle.dl_replay.specs.Replaying.{end_of}
+use Rattle.dl_replay.specs.Following.{end_of}
 use Rattle.dl_replay.specs.Left.{Stores}
 use Rattle.dl_sphere.specs.declared.moved.DmaSize.{DmaSize}
 

@@ -1,19 +1,22 @@
 -- What a sphere keeps for its role, and how that stands to its threads and commits.
-use Rattle.std.specs.Prelude.{◌≡◌, ℕ, ◌<◌, ◌≤◌, Bool, true, List, length, slice_index, Option}
+use Rattle.std.specs.Prelude.{◌≡◌, ℕ, ◌+◌, ◌<◌, ◌≤◌, Bool, true, List, length, slice_index, Option}
 use Rattle.dl_entry.specs.declared.Commit.{Commit}
 use Rattle.dl_entry.specs.declared.Input.{Input}
-use Rattle.dl_entry.specs.Numbers.{most_threads}
+use Rattle.dl_entry.specs.Numbers.{most_threads, plain_threads}
 use Rattle.spec_play.specs.Progress.{position}
+use Rattle.spec_play.specs.declared.used.Used.{Used}
 use Rattle.spec_protocol.specs.machine.Spheres as protocol
 use Rattle.spec_protocol.specs.promises.Sound.{IsChunkSize, commits_in}
 use Rattle.spec_protocol.specs.promises.Standing.{Stands}
 use Rattle.dl_record.specs.Recording.{IsFresh}
 use Rattle.dl_record.specs.Recording as recorder
 use Rattle.spec_play.specs.Noted.{Recorded, as_log, interrupt_kept}
-use Rattle.spec_log.specs.Log.{IsLog}
 use Rattle.spec_log.specs.Versions.{new_threads}
 use Rattle.spec_isa.specs.declared.thread.Load.{Load}
-use Rattle.dl_replay.specs.Replaying.{Replaying as Replay, Agrees, commits_of, cursor_of}
+use Rattle.dl_kernel.specs.declared.past.Past.{Past}
+use Rattle.dl_replay.specs.Following.{Following, cursor_of}
+use Rattle.dl_replay.specs.Replays.{IsReplaying}
+use Rattle.dl_sphere.specs.Pasts.{sphere_at}
 use Rattle.dl_sphere.specs.Recorded.{with_commit}
 use Rattle.dl_sphere.specs.declared.part.Part.{Part}
 
@@ -21,7 +24,7 @@ use Rattle.dl_sphere.specs.declared.part.Part.{Part}
 pub data Keeping : Type 0 where
   Plain : Keeping
   Recording : (recorded : Recorded) → Keeping
-  Replaying : (replay : Replay) (loads : List Load) → Keeping
+  Replaying : (replay : Following) (loads : List Load) → Keeping
 
 abbrev pub keeping_of : Part → Keeping
 keeping_of Part.Plain = Plain
@@ -34,13 +37,20 @@ has_room Part.Plain = true
 has_room (Part.Recorded r) = r.room
 has_room (Part.Replayed r) = true
 
-abbrev pub role_of : Keeping → protocol.Role
-role_of Plain = protocol.Plain
-role_of (Recording r) = protocol.Record (record { log = as_log r })
-role_of (Replaying r loads) = protocol.Replay (cursor_of r loads)
+-- its role, if so much of a log is used
+abbrev pub role_of : Used → Keeping → protocol.Role
+role_of used Plain = protocol.Plain
+role_of used (Recording r) = protocol.Record (record { log = as_log r })
+role_of used (Replaying r loads) = protocol.Replay (cursor_of r used loads)
 
-abbrev pub role_in : Part → protocol.Role
-role_in part = role_of (keeping_of part)
+abbrev pub role_in : Used → Part → protocol.Role
+role_in used part = role_of used (keeping_of part)
+
+-- how many threads its sphere may have
+abbrev pub most_of : Keeping → ℕ
+most_of Plain = plain_threads
+most_of (Recording r) = new_threads r.version
+most_of (Replaying r loads) = r.log.threads
 
 -- ---- what is noted
 
@@ -84,22 +94,27 @@ pub record HasRecorded (standard : ℕ) (p : protocol.Sphere) (r : Recorded) : T
   pub done : (k : ℕ) → slice_index r.kept.done k ≡ commits_in p.threads k
   pub stands : Stands p (as_log r)
 
--- a replay is as far in its log as the sphere is
-pub record IsReplayed (p : protocol.Sphere) (r : Replay) : Type 0 where
-  pub is_log : IsLog r.log
-  pub agrees : Agrees r p.progress
-  pub commits : r.commits ≡ commits_of p.threads
+-- what stands together: for a sphere that isn't replayed
+abbrev pub IsLiveOf : (s : ℕ) → protocol.Sphere → Keeping → Type 0
+IsLiveOf s p Plain = HasFew p
+IsLiveOf s p (Recording r) = HasRecorded s p r
+IsLiveOf s p (Replaying r loads) = ⊥
 
-abbrev pub IsKeepingOf : (s : ℕ) → protocol.Sphere → Keeping → Type 0
-IsKeepingOf s p Plain = HasFew p
-IsKeepingOf s p (Recording r) = HasRecorded s p r
-IsKeepingOf s p (Replaying r loads) = IsReplayed p r
+-- and for any: a replay is as far in its log as its sphere's state is
+abbrev pub IsKeepingOf : (s : ℕ) → Past → Keeping → Type 0
+IsKeepingOf s past Plain = HasFew (sphere_at past protocol.Plain)
+IsKeepingOf s past (Recording r) = HasRecorded s (sphere_at past (protocol.Record (record { log = as_log r }))) r
+IsKeepingOf s past (Replaying r loads) = IsReplaying r past.state
 
--- what is true of every sphere: its standard size is a log's, and there are no more threads than a sphere may have
-pub record IsSphere (s : ℕ) (p : protocol.Sphere) (keeping : Keeping) : Type 0 where
+-- the state counts the commits before the sphere's first one too
+abbrev pub IsCounted : Past → Type 0
+IsCounted past = past.first + length past.commits.items ≡ past.state.commits
+
+-- what is true of every sphere: its standard size is a log's, and its commits are counted
+pub record IsSphere (s : ℕ) (past : Past) (keeping : Keeping) : Type 0 where
   pub size : IsChunkSize s
-  pub threads : length p.threads ≤ most_threads
-  pub kept : IsKeepingOf s p keeping
+  pub counted : IsCounted past
+  pub kept : IsKeepingOf s past keeping
 
 -- the sphere is not replayed
 abbrev pub IsLive : Keeping → Type 0

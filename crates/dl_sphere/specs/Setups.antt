@@ -1,15 +1,45 @@
 -- What a plan says of a sphere, as the definitions have it.
-use Rattle.std.specs.Prelude.{ℕ}
+use Rattle.std.specs.Prelude.{◌≡◌, ℕ, ◌<◌, Option, Some, None}
+use Rattle.dl_entry.specs.declared.End.{End}
+use Rattle.dl_entry.specs.declared.Why.{Why}
+use Rattle.spec_play.specs.declared.interval.Interval.{Interval}
+use Rattle.spec_play.specs.Intervals.{IsWithin}
+use Rattle.spec_play.specs.Progress.{position}
+use Rattle.spec_play.specs.Plays.{Played}
+use Rattle.spec_play.specs.States.{state_of}
+use Rattle.spec_play.specs.Turns.{Ended}
 use Rattle.spec_protocol.specs.machine.Machine as protocol
+use Rattle.spec_protocol.specs.machine.Machine.{first_played}
 use Rattle.spec_protocol.specs.machine.Spheres as machine
 use Rattle.spec_protocol.specs.promises.Sound.{IsRecordable}
+use Rattle.dl_kernel.specs.States.{state_in}
+use Rattle.dl_sphere.specs.declared.setup.Begun.{Begun}
+use Rattle.dl_sphere.specs.declared.setup.Replay.{Replay}
 use Rattle.dl_sphere.specs.declared.setup.Role.{Role}
 use Rattle.dl_sphere.specs.declared.setup.SphereSetup.{SphereSetup}
+
+-- the interval that begins there, and why the log's play has diverged before it, if it has
+abbrev pub interval_in : Option Begun → Option Interval
+interval_in None = None
+interval_in (Some b) = Some b.interval
+
+abbrev pub diverged_in : Option Begun → Option Why
+diverged_in None = None
+diverged_in (Some b) = b.diverged
+
+-- where the role begins, if it replays an interval
+abbrev pub begun_as : Role → Option Begun
+begun_as Role.Plain = None
+begun_as (Role.Record version mode) = None
+begun_as (Role.Replay replay) = replay.begun
+
+abbrev pub replay_setup : Replay → protocol.ReplaySetup
+replay_setup r = record { log = r.log; interval = interval_in r.begun }
 
 abbrev pub role_setup : Role → protocol.RoleSetup
 role_setup Role.Plain = protocol.IsPlain
 role_setup (Role.Record version mode) = protocol.IsRecorded (record { version = version; mode = mode })
-role_setup (Role.Replay log) = protocol.IsReplayed (record { log = log })
+role_setup (Role.Replay replay) = protocol.IsReplayed (replay_setup replay)
 
 abbrev pub setup_of : SphereSetup → protocol.SphereSetup
 setup_of s = record { memory = s.image.bytes; entry = s.image.entry; role = role_setup s.role }
@@ -19,6 +49,33 @@ abbrev pub IsRecordableIf : (s : ℕ) → protocol.RoleSetup → Type 0
 IsRecordableIf s protocol.IsPlain = Unit {0}
 IsRecordableIf s (protocol.IsRecorded asked) = IsRecordable s asked
 IsRecordableIf s (protocol.IsReplayed asked) = Unit {0}
+
+-- ---- where intervals begin
+
+-- the play y has done all commits before the interval, or it has diverged at one of them for this reason
+abbrev pub HasCome : Option Why → Interval → Played → Type 0
+HasCome None i y = position y.progress ≡ i.first
+HasCome (Some why) i y =
+    (position y.progress < i.first) × (y.now ≡ Ended (End.Diverged (position y.progress) why))
+
+-- the interval is within the log, and its beginning is in the state of the log's play on the image
+pub record IsBegun (image : protocol.SphereSetup) (asked : protocol.ReplaySetup) (b : Begun) : Type 0 where
+  pub within : IsWithin asked.log.count b.interval
+  pub state : state_in b.state ≡ state_of (first_played image asked)
+  pub come : HasCome b.diverged b.interval (first_played image asked)
+
+abbrev pub IsBegunIf : protocol.SphereSetup → protocol.ReplaySetup → Option Begun → Type 0
+IsBegunIf image asked None = Unit {0}
+IsBegunIf image asked (Some b) = IsBegun image asked b
+
+abbrev pub IsBegunAs : protocol.SphereSetup → Role → Type 0
+IsBegunAs image Role.Plain = Unit {0}
+IsBegunAs image (Role.Record version mode) = Unit {0}
+IsBegunAs image (Role.Replay replay) = IsBegunIf image (replay_setup replay) replay.begun
+
+-- if an interval of a log is replayed, it begins where the log's play on the image is
+abbrev pub HasBegun : SphereSetup → Type 0
+HasBegun s = IsBegunAs (setup_of s) s.role
 
 -- ---- standard sizes
 

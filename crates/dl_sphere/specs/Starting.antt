@@ -1,12 +1,58 @@
--- What a sphere keeps for its role before its first commit.
-use Rattle.std.specs.Prelude.{ℕ, []}
+-- What a sphere is, and keeps for its role, before its first commit.
+use Rattle.std.specs.Prelude.{ℕ, [], Option, Some, None}
+use Rattle.dl_entry.specs.declared.Why.{Why}
+use Rattle.spec_play.specs.Intervals.{now_in}
 use Rattle.spec_play.specs.Noted.{nothing_recorded}
-use Rattle.spec_protocol.specs.machine.Machine.{RoleSetup, IsPlain, IsRecorded, IsReplayed}
-use Rattle.dl_replay.specs.Replaying.{replay_start}
+use Rattle.spec_play.specs.Plays.{Played}
+use Rattle.spec_play.specs.Progress.{nothing_used, position}
+use Rattle.spec_play.specs.States.{State, state_of}
+use Rattle.spec_protocol.specs.machine.Machine.{ReplaySetup, RoleSetup, IsPlain, IsRecorded, IsReplayed, SphereSetup, first_played, first_threads}
+use Rattle.dl_replay.specs.Following.{Following, diverged}
+use Rattle.dl_replay.specs.Replays.{IsReplaying}
+use Rattle.dl_kernel.specs.declared.state.State.{State as At}
 use Rattle.dl_sphere.specs.Roles.{Keeping, Plain, Recording, Replaying}
 
--- where thread 0 stands alone at an entry, and standard chunks have that size
-abbrev pub keeping_at : (entry s : ℕ) → RoleSetup → Keeping
-keeping_at entry s IsPlain = Plain
-keeping_at entry s (IsRecorded asked) = Recording (nothing_recorded asked.version asked.mode s)
-keeping_at entry s (IsReplayed asked) = Replaying (replay_start asked.log entry) []
+-- thread 0 alone, at the entry of the image
+abbrev pub first_state : SphereSetup → State
+first_state image =
+    record {
+      memory = image.memory;
+      threads = first_threads image;
+      request = None;
+      last = None;
+      commits = 0;
+      used = nothing_used;
+    }
+
+-- a replayed sphere is where its log's play is
+abbrev pub start_as : SphereSetup → RoleSetup → State
+start_as image IsPlain = first_state image
+start_as image (IsRecorded asked) = first_state image
+start_as image (IsReplayed asked) = state_of (first_played image asked)
+
+-- the replay where the play is at y
+abbrev pub following_at : ReplaySetup → Played → Following
+following_at asked y =
+    record {
+      log = asked.log;
+      interval = asked.interval;
+      now = now_in asked.interval asked.log.count (position y.progress) y.now;
+      total = 0;
+    }
+
+-- standard chunks have this size
+abbrev pub keeping_at : SphereSetup → (s : ℕ) → RoleSetup → Keeping
+keeping_at image s IsPlain = Plain
+keeping_at image s (IsRecorded asked) = Recording (nothing_recorded asked.version asked.mode s)
+keeping_at image s (IsReplayed asked) = Replaying (following_at asked (first_played image asked)) []
+
+-- the replay, diverged where so many commits are done if there is a reason
+abbrev pub diverged_if : Option Why → (commits : ℕ) → Following → Following
+diverged_if None n r = r
+diverged_if (Some why) n r = diverged why n r
+
+-- what is kept for a replay agrees with the state
+abbrev pub IsReplayingIf : Keeping → At → Type 0
+IsReplayingIf Plain s = Unit {0}
+IsReplayingIf (Recording r) s = Unit {0}
+IsReplayingIf (Replaying r loads) s = IsReplaying r s

@@ -6,10 +6,9 @@ use Rattle.spec_kernel.specs.Needs.{need}
 use Rattle.spec_kernel.specs.Answers.{Taken, taken}
 use Rattle.spec_kernel.specs.Serving.{StepResult, serve}
 use Rattle.spec_play.specs.Effects.{serial_commit}
-use Rattle.spec_protocol.specs.machine.Spheres.{most_in}
 use Rattle.dl_kernel.specs.declared.serving.Step.{Step}
 use Rattle.dl_sphere.specs.declared.part.Part.{Part}
-use Rattle.dl_sphere.specs.Roles.{role_in}
+use Rattle.dl_sphere.specs.Roles.{keeping_of, most_of}
 
 -- what comes from outside for it at a moment
 abbrev pub taken_by : Step → Devices → (moment : ℕ) → Taken
@@ -17,7 +16,7 @@ taken_by s d moment = taken (need s.thread s.memory.now) d moment
 
 -- what it does in a sphere with this part, which says how many threads it may have
 abbrev pub served_by : Part → Step → Devices → (moment : ℕ) → StepResult
-served_by part s d moment = serve (most_in (role_in part)) s.number s.threads.now s.request s.thread s.memory.now (taken_by s d moment).input
+served_by part s d moment = serve (most_of (keeping_of part)) s.number s.threads.now s.request s.thread s.memory.now (taken_by s d moment).input
 
 abbrev pub commit_by : Part → Step → Devices → (moment : ℕ) → Commit
 commit_by part s d moment = let v = served_by part s d moment in serial_commit s.number v.loads v.outputs

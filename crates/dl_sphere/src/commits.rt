@@ -1,14 +1,16 @@
 //! The commits of chunks as accounts tell them, and what is asked of a chunk before.
-ghost use Rattle.std.specs.Prelude.{◌≡◌, ◌+◌, ◌^◌, ◌<◌, ◌++◌, IfOk, OnOk, length, map, Some};
+ghost use Rattle.std.specs.Prelude.{◌≡◌, ◌+◌, ◌++◌, IfOk, OnOk, map, Some};
 ghost use Rattle.spec_engine.specs.declared.answers.How.{How};
 ghost use Rattle.spec_play.specs.Effects.{chunk_commit, entry_of};
 ghost use Rattle.spec_protocol.specs.machine.Commits.{is_piece, joined};
 ghost use Rattle.spec_protocol.specs.machine.Spheres.{Cursor};
 ghost use Rattle.spec_protocol.specs.machine.Asking.{is_short};
+ghost use Rattle.spec_protocol.specs.promises.Sound.{commits_in};
 
 use dl_chunk::Chunk;
 use dl_entry::{Commit, Load, Loads, OutOfMemory};
 use dl_sig::Sig;
+use dl_thread::Threads;
 use spec_engine::answers::How;
 use std::alloc::Global;
 
@@ -60,12 +62,14 @@ fn add_entries(entries: &mut Loads, loads: &[dl_thread::Load]) -> Result<(), Out
     Ok(())
 }
 
-// How many there are.
-pub(crate) fn count(commits: &[Commit]) -> u32
-    requires { length commits.now < 2 ^ 24 }
-    ensures { result ≡ length commits.now }
+// How many commits a thread has done, 0 if there is none of that number.
+pub(crate) fn commits_of(threads: &Threads, thread: u8) -> u32
+    ensures { result ≡ commits_in threads.now thread }
 {
-    commits.len() as u32
+    match threads.get(thread) {
+        Some(thread) => thread.commits(),
+        None => 0,
+    }
 }
 
 // Whether the closed chunk was closed before its standard size.

@@ -1,4 +1,5 @@
-//! A sphere: its memory, threads and commits, in one of three roles: plain, recorded in a mode, or a replay of its log.
+//! A sphere: its memory, threads and commits, in one of three roles: plain, recorded in a mode, or a replay of its log or of an
+//! interval of that.
 #![tactic(auto)]
 
 mod commits;
@@ -22,11 +23,13 @@ pub use dl_dev::Devices;
 pub use dl_elf::Image;
 pub use dl_entry::{Actor, Commit, End, OutOfMemory, Request, Why};
 pub use dl_fly::{Drain, Flights};
+pub use dl_kernel::State;
 pub use dl_mem::Memory;
 pub use dl_sig::Sig;
 pub use dl_thread::Threads;
 pub use dl_wbuf::Buffer;
 pub use moved::{DmaSize, Moved};
-pub use setup::{Role, SphereSetup};
+pub use setup::{Begun, Replay, Role, SphereSetup};
+pub use spec_play::Interval;
 pub use spec_log::{Log, ModeName};
 pub use sphere::Sphere;

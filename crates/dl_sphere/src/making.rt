@@ -1,65 +1,118 @@
 //! A sphere before its first commit.
-ghost use Rattle.std.specs.Prelude.{◌≡◌, ℕ, IfOk};
+ghost use Rattle.std.specs.Prelude.{◌≡◌, ℕ, ◌%◌, IfOk, length};
+ghost use Rattle.spec_isa.specs.Words.{IsBytes};
+ghost use Rattle.spec_play.specs.Resuming.{IsBounded};
 ghost use Rattle.spec_protocol.specs.machine.Machine.{sphere_of};
 ghost use Rattle.spec_protocol.specs.promises.Sound.{IsChunkSize, IsImage, IsRole};
+ghost use Rattle.dl_kernel.specs.States.{state_in};
+ghost use Rattle.dl_replay.specs.Following.{followed_from};
+ghost use Rattle.dl_replay.specs.Replays.{IsInside, IsReplaying};
 ghost use Rattle.dl_sphere.specs.Roles.{keeping_of};
-ghost use Rattle.dl_sphere.specs.Setups.{IsRecordableIf, role_setup, setup_of};
-ghost use Rattle.dl_sphere.specs.Starting.{keeping_at};
+ghost use Rattle.dl_sphere.specs.Setups.{HasBegun, IsRecordableIf, diverged_in, interval_in, role_setup, setup_of};
+ghost use Rattle.dl_sphere.specs.Starting.{IsReplayingIf, diverged_if, keeping_at, start_as};
 
-use crate::part::{Part, Replay};
+use crate::part::{Part, Replayed};
 use crate::player::Player;
 use crate::recording::Recording;
-use crate::setup::{Role, SphereSetup};
+use crate::setup::{Replay, Role, SphereSetup};
 use crate::sphere::Sphere;
+use dl_elf::Image;
 use dl_entry::OutOfMemory;
 use dl_kernel::{Past, State};
 use dl_mem::Memory;
-use dl_thread::Threads;
 use std::alloc::Global;
 
 impl Sphere {
-    /// A sphere of this plan, with standard chunks of so many instructions. If it is recorded, they fit the version of its log.
+    /// A sphere of this plan, with standard chunks of so many instructions. If it is recorded, they fit the version of its
+    /// log; if it replays an interval, this begins in its log's play on the image.
     pub fn new(alloc: Global, setup: &SphereSetup, s: u32) -> Result<Sphere, OutOfMemory>
         requires size { IsChunkSize s }
         requires role { IsRecordableIf s (role_setup setup.now.role) }
+        requires begun { HasBegun setup.now }
         ensures made { IfOk result (λ p. p ≡ record { s = s; sphere = sphere_of s (setup_of setup.now) }) }
         ensures image { IfOk result (λ p. IsImage s (setup_of setup.now)) }
     {
-        let image = &setup.image;
-        let state = State {
-            memory: Memory::new(alloc, image)?,
-            threads: Threads::start(image.entry()),
-            request: None,
-            last: None,
-        };
+        let state = start_of(alloc, setup)?;
+        let part = part_of(alloc, setup, s, &state)?;
         let past = Past {
             alloc,
+            first: state.commits,
             commits: Vec::new(alloc),
             state,
         };
-        let part = part_of(alloc, &setup.role, s)?;
         Ok(Sphere { s, past, part })
     }
 }
 
-// What is kept for a role at first.
-fn part_of(alloc: Global, role: &Role, s: u32) -> Result<Part, OutOfMemory>
-    requires { IsRecordableIf s (role_setup role.now) }
-    ensures kept { (entry : ℕ) → IfOk result (λ part. keeping_of part ≡ keeping_at entry s (role_setup role.now)) }
-    ensures role { IfOk result (λ part. IsRole s (role_setup role.now)) }
+// The image before the first commit, or where the interval of a replay begins.
+fn start_of(alloc: Global, setup: &SphereSetup) -> Result<State, OutOfMemory>
+    requires begun { HasBegun setup.now }
+    ensures state { let image = setup_of setup.now in IfOk result (λ state. state_in state ≡ start_as image image.role) }
+    ensures image { let image = setup_of setup.now in (s : ℕ) → IsRole s image.role → IsImage s image }
 {
-    match role {
+    let entry = entry_of(setup);
+    match setup.role.begun() {
+        Some(begun) => begun.state.again(alloc),
+        None => Ok(State::first(Memory::new(alloc, &setup.image)?, entry)),
+    }
+}
+
+// Where thread 0 starts in the image, which is one for any role.
+fn entry_of(setup: &SphereSetup) -> u32
+    ensures value { result ≡ setup.now.image.entry }
+    ensures aligned { result % 4 ≡ 0 }
+    ensures image { let image = setup_of setup.now in (s : ℕ) → IsRole s image.role → IsImage s image }
+{
+    // the proof sees here that the image has bytes
+    let _ = bytes_of(&setup.image);
+    setup.image.entry()
+}
+
+fn bytes_of(image: &Image) -> &[u8]
+    ensures { IsBytes image.now.bytes }
+{
+    let bytes = image.bytes();
+    bytes
+}
+
+// What is kept for its role where the sphere starts.
+fn part_of(alloc: Global, setup: &SphereSetup, s: u32, state: &State) -> Result<Part, OutOfMemory>
+    requires recorded { IsRecordableIf s (role_setup setup.now.role) }
+    requires begun { HasBegun setup.now }
+    requires start { let image = setup_of setup.now in state_in state.now ≡ start_as image image.role }
+    requires image { let image = setup_of setup.now in IsRole s image.role → IsImage s image }
+    ensures kept { let image = setup_of setup.now in IfOk result (λ part. keeping_of part ≡ keeping_at image s image.role) }
+    ensures at { IfOk result (λ part. IsReplayingIf (keeping_of part) state.now) }
+    ensures role { IfOk result (λ part. IsRole s (role_setup setup.now.role)) }
+{
+    match &setup.role {
         Role::Plain => Ok(Part::Plain),
         Role::Record { version, mode } => {
             let recording = Recording::new(alloc, *version, *mode, s)?;
             Ok(Part::Recorded(recording))
         }
-        Role::Replay(log) => {
-            let _ = log.parts();
-            Ok(Part::Replayed(Replay {
-                player: Player::new(alloc, log)?,
+        Role::Replay(replay) => {
+            // the proof sees here that it is a log
+            let _ = replay.log.parts();
+            Ok(Part::Replayed(Replayed {
+                player: player_of(alloc, replay, state)?,
                 loads: Vec::new(alloc),
             }))
         }
     }
+}
+
+// The replay of a log from a state of its play on; it has diverged if the play did before the interval.
+fn player_of(alloc: Global, replay: &Replay, state: &State) -> Result<Player, OutOfMemory>
+    requires bounded { IsBounded replay.now.log (state_in state.now) }
+    requires request { IsInside (length state.now.memory) state.now.request }
+    ensures from { let r = replay.now in IfOk result (λ player.
+        player ≡ diverged_if (diverged_in r.begun) state.now.commits (followed_from r.log (interval_in r.begun) (state_in state.now))) }
+    ensures at { IfOk result (λ player. IsReplaying player state.now) }
+{
+    let mut player = Player::at(alloc, &replay.log, replay.interval(), state)?;
+    if let Some(why) = replay.diverged() {
+        player.diverge(why, state);
+    }
+    Ok(player)
 }

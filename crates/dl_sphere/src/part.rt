@@ -2,8 +2,7 @@
 ghost use Rattle.std.specs.Prelude.{◌≡◌, ◌≤◌, None, false, IfOk, IfSome, IsOk, IsTrue, OnOk, OnErr, option_map};
 ghost use Rattle.dl_entry.specs.Numbers.{most_threads};
 ghost use Rattle.spec_log.specs.Log.{IsInput, AreFewBytes};
-ghost use Rattle.spec_protocol.specs.machine.Spheres.{most_in};
-ghost use Rattle.dl_sphere.specs.Roles.{keeping_of, role_in, with_noted, with_raised, CanNote, CanRaise, has_room};
+ghost use Rattle.dl_sphere.specs.Roles.{keeping_of, most_of, with_noted, with_raised, CanNote, CanRaise, has_room};
 
 use crate::player::Player;
 use crate::recording::Recording;
@@ -14,12 +13,12 @@ use dl_thread::Load;
 pub(crate) enum Part {
     Plain,
     Recorded(Recording),
-    Replayed(Replay),
+    Replayed(Replayed),
 }
 
 // A replay, and the loads of the pieces of its present commit.
 #[derive(Drop)]
-pub(crate) struct Replay {
+pub(crate) struct Replayed {
     pub(crate) player: Player,
     pub(crate) loads: Vec<Load>,
 }
@@ -61,7 +60,7 @@ pub(crate) fn note_interrupt(
 
 // How many threads the sphere may have.
 pub(crate) fn threads_allowed(part: &Part) -> u8
-    ensures value { result ≡ most_in (role_in part.now) }
+    ensures value { result ≡ most_of (keeping_of part.now) }
     ensures few { result ≤ most_threads }
 {
     match part {

@@ -1,30 +1,33 @@
 //! The replay of a log in any of the three modes.
-ghost use Rattle.std.specs.Prelude.{◌≡◌, ℕ, List, Option, ◌<◌, ◌≤◌, ◌+◌, [], Some, IfOk, OnErr, length, slice_get, slice_index};
+ghost use Rattle.std.specs.Prelude.{◌≡◌, ℕ, List, ◌<◌, ◌≤◌, ◌+◌, IfOk, OnErr, Some, length, slice_get};
 ghost use Rattle.dl_entry.specs.Numbers.{most_threads};
 ghost use Rattle.spec_isa.specs.declared.thread.Parts.{Parts};
 ghost use Rattle.spec_isa.specs.declared.thread.Load.{Load};
-ghost use Rattle.dl_entry.specs.declared.Why.{Why};
 ghost use Rattle.spec_isa.specs.Runs.{Run};
 ghost use Rattle.spec_play.specs.Progress.{Progress};
+ghost use Rattle.spec_play.specs.Resuming.{IsBounded};
 ghost use Rattle.spec_play.specs.Turns.{Turn, TurnOfDma};
 ghost use Rattle.spec_play.specs.Transfers.{dma_verdict};
 ghost use Rattle.spec_play.specs.Verdicts.{chunk_verdict, serial_verdict};
-ghost use Rattle.spec_protocol.specs.machine.Spheres.{Replay, actor_of, limit_in};
-ghost use Rattle.dl_replay.specs.Served.{Served, nothing_served, served_left, served_stored};
-ghost use Rattle.dl_replay.specs.Judged.{HasRun, IsInside, chunk_judged, dma_judged, serial_judged};
+ghost use Rattle.spec_play.specs.declared.used.Used.{Used};
+ghost use Rattle.spec_protocol.specs.machine.Spheres.{Replay, actor_of};
+ghost use Rattle.dl_kernel.specs.States.{state_in};
+ghost use Rattle.dl_kernel.specs.declared.state.State.{State as At};
+ghost use Rattle.dl_replay.specs.Following.{cursor_of, diverged, end_of, followed_from};
+ghost use Rattle.dl_replay.specs.Judged.{dma_judged, judged};
 ghost use Rattle.dl_replay.specs.Judging.{transfer_verdict};
+ghost use Rattle.dl_replay.specs.Left.{SaysSize, served_by, served_left, verdict_left, verdict_stored};
 ghost use Rattle.dl_replay.specs.Limits.{chunk_limit, chunk_limit_in};
-ghost use Rattle.dl_replay.specs.Left.{SaysSize, verdict_left, verdict_stored};
-ghost use Rattle.dl_replay.specs.Replaying.{Agrees, replay_start, commits_of, cursor_of, end_of};
+ghost use Rattle.dl_replay.specs.Replays.{Agrees, IsInside, IsReplaying};
 
-use dl_entry::{Actor, End, OutOfMemory, Request, Why};
-use dl_kernel::StepResult;
-use dl_mem::Memory;
+use dl_entry::{Actor, End, OutOfMemory, Why};
+use dl_kernel::{State, StepResult};
 use dl_mode::{OrderAndSize, OrderOnly, PicoLog};
 use dl_replay::{Replayer, Verdict};
-use dl_thread::Threads;
+use dl_thread::Thread;
 use dl_wbuf::Buffer;
 use spec_log::{Log, ModeName};
+use spec_play::Interval;
 use std::alloc::Global;
 use std::marker::Model;
 
@@ -53,23 +56,31 @@ pub(crate) struct Player {
 }
 
 impl Model for Player {
-    ghost use Rattle.dl_replay.specs.Replaying.{Replaying};
-    ghost use Rattle.dl_sphere.specs.Played.{replaying_of};
+    ghost use Rattle.dl_replay.specs.Following.{Following};
+    ghost use Rattle.dl_sphere.specs.Played.{following_of};
 
-    ghost Value = { Replaying };
+    ghost Value = { Following };
 
-    ghost view = { λ p. replaying_of p.players };
+    ghost view = { λ p. following_of p.players };
 }
 
 impl Player {
-    // The replay of a log from its first commit on.
-    pub(crate) fn new(alloc: Global, log: &Log) -> Result<Player, OutOfMemory>
-        ensures { (entry : ℕ) → IfOk result (λ player. player ≡ replay_start log.now entry) }
+    // The replay of a log, or of an interval of it, from a state of its play on.
+    pub(crate) fn at(
+        alloc: Global,
+        log: &Log,
+        interval: Option<Interval>,
+        state: &State,
+    ) -> Result<Player, OutOfMemory>
+        requires bounded { IsBounded log.now (state_in state.now) }
+        requires request { IsInside (length state.now.memory) state.now.request }
+        ensures from { IfOk result (λ player. player ≡ followed_from log.now interval (state_in state.now)) }
+        ensures at { IfOk result (λ player. IsReplaying player state.now) }
     {
         let players = match log.parts().mode {
-            ModeName::OrderSize => Players::OrderSize(Replayer::new(alloc, log)?),
-            ModeName::OrderOnly => Players::OrderOnly(Replayer::new(alloc, log)?),
-            ModeName::Picolog => Players::Picolog(Replayer::new(alloc, log)?),
+            ModeName::OrderSize => Players::OrderSize(Replayer::at(alloc, log, interval, state)?),
+            ModeName::OrderOnly => Players::OrderOnly(Replayer::at(alloc, log, interval, state)?),
+            ModeName::Picolog => Players::Picolog(Replayer::at(alloc, log, interval, state)?),
         };
         Ok(Player { players })
     }
@@ -107,105 +118,106 @@ impl Player {
         in_mode!(&self.players, replayer => replayer.standard())
     }
 
-    pub(crate) fn limit(&self, thread: u8, after: bool) -> u32
-        ensures value { (s : ℕ) (loads : List Load) →
-            result ≡ chunk_limit_in after (Replay (cursor_of self.now loads)) s thread (slice_index self.now.commits thread) }
-        ensures of_thread { (s : ℕ) (loads : List Load) (threads : List Parts) (t : Parts) →
-            length threads ≤ most_threads → self.now.commits ≡ commits_of threads → slice_get threads thread ≡ Some t →
-            result ≡ chunk_limit after s (Replay (cursor_of self.now loads)) thread t }
+    // How many instructions a chunk may run of the thread, which has done so many commits.
+    pub(crate) fn limit(&self, thread: u8, commits: u32, after: bool) -> u32
+        requires { commits ≤ self.now.log.count }
+        ensures value { (s : ℕ) (used : Used) (loads : List Load) →
+            result ≡ chunk_limit_in after (Replay (cursor_of self.now used loads)) s thread commits }
+        ensures of_thread { (s : ℕ) (used : Used) (loads : List Load) (t : Parts) → t.commits ≡ commits →
+            result ≡ chunk_limit after s (Replay (cursor_of self.now used loads)) thread t }
         ensures most { result ≤ self.now.log.s }
     {
-        in_mode!(&self.players, replayer => replayer.limit(thread, after))
+        in_mode!(&self.players, replayer => replayer.limit(thread, commits, after))
     }
 
     // A piece of the present commit went, of `n` instructions.
-    pub(crate) fn accept_piece(&mut self, thread: u8, n: u32)
-        requires turn { self.old.now ≡ Turn thread }
-        requires some { 1 ≤ n }
-        requires few { n < limit_in (Replay (cursor_of self.old [])) 0 thread (slice_index self.old.commits thread) }
-        ensures { self.new ≡ record self.old { total = self.old.total + n } }
+    pub(crate) fn accept_piece(&mut self, n: u32)
+        requires { self.old.total + n ≤ self.old.log.s }
+        ensures value { self.new ≡ record self.old { total = self.old.total + n } }
+        ensures at { (s : At) → IsReplaying self.old s → IsReplaying self.new s }
     {
-        in_mode!(&mut self.players, replayer => replayer.accept_piece(thread, n))
+        in_mode!(&mut self.players, replayer => replayer.accept_piece(n))
     }
 
-    // Judges the last part of a chunk, which its thread has run.
-    pub(crate) fn end_chunk(&mut self, thread: u8, total: u32, threads: &mut Threads) -> Verdict
-        requires turn { self.old.now ≡ Turn thread }
-        requires thread { thread < length threads.old }
-        requires commits { self.old.commits ≡ commits_of threads.old }
-        ensures log { self.new.log ≡ self.old.log }
-        ensures threads_left { (why : Why) → result ≡ Verdict.Diverged why → threads.new ≡ threads.old }
-        ensures judged { (p : Progress) (before : List Parts) (r : Run) (request : Option Request) (served : Served) →
-            Agrees self.old p → p.request ≡ request → HasRun before threads.old thread total r →
-            record { verdict = result; replay = self.new; threads = threads.new; request = request; served = served }
-            ≡ chunk_judged self.old p thread before threads.old request served (chunk_verdict self.old.log p self.old.used thread r) }
+    // Judges the last part of a chunk of so many instructions, which has left its thread so.
+    pub(crate) fn end_chunk(
+        &mut self,
+        number: u8,
+        thread: &Thread,
+        total: u32,
+        state: &mut State,
+    ) -> Verdict
+        requires turn { self.old.now ≡ Turn number }
+        requires at { IsReplaying self.old state.old }
+        requires thread { number < length state.old.threads }
+        requires commits { thread.now.commits ≤ state.old.commits }
+        ensures at { IsReplaying self.new state.new }
+        ensures judged { (p : Progress) (r : Run) → Agrees state.old p → r.thread ≡ thread.now → r.n ≡ total →
+            record { verdict = result; replay = self.new; state = state.new }
+            ≡ judged self.old state.old p number (chunk_verdict self.old.log p state.old.used number r) }
     {
-        in_mode!(&mut self.players, replayer => replayer.end_chunk(thread, total, threads))
+        in_mode!(&mut self.players, replayer => replayer.end_chunk(number, thread, total, state))
     }
 
     // Judges a serial step, and does it.
     pub(crate) fn serve_step(
         &mut self,
-        thread: u8,
-        threads: &mut Threads,
-        request: &mut Option<Request>,
-        memory: &Memory,
+        number: u8,
+        state: &mut State,
     ) -> Result<Result<StepResult, Why>, OutOfMemory>
-        requires turn { self.old.now ≡ Turn thread }
-        requires thread { thread < length threads.old }
-        requires commits { self.old.commits ≡ commits_of threads.old }
-        ensures judged { (p : Progress) (t : Parts) → Agrees self.old p →
-            p.request ≡ request.old → slice_get threads.old thread ≡ Some t →
-            let v = serial_verdict self.old.log p self.old.used thread threads.old t memory.now in
-            IfOk result (λ r. record { verdict = verdict_left r; replay = self.new; threads = threads.new; request = request.new; served = served_left r }
-            ≡ serial_judged self.old p thread threads.old request.old nothing_served v) }
-        ensures log { self.new.log ≡ self.old.log }
-        ensures replay_still { OnErr result (self.new ≡ self.old) }
-        ensures threads_still { OnErr result (threads.new ≡ threads.old) }
-        ensures request_still { OnErr result (request.new ≡ request.old) }
+        requires turn { self.old.now ≡ Turn number }
+        requires at { IsReplaying self.old state.old }
+        requires thread { number < length state.old.threads }
+        ensures at { IsReplaying self.new state.new }
+        ensures judged { (p : Progress) (t : Parts) → let s = state.old in Agrees s p → slice_get s.threads number ≡ Some t →
+            let v = serial_verdict self.old.log p s.used number s.threads t s.memory in
+            IfOk result (λ r. record { verdict = verdict_left r; replay = self.new; state = state.new } ≡ judged self.old s p number v) }
+        ensures served { (p : Progress) (t : Parts) → let s = state.old in Agrees s p → slice_get s.threads number ≡ Some t →
+            IfOk result (λ r. served_left r ≡ served_by (serial_verdict self.old.log p s.used number s.threads t s.memory)) }
+        ensures still { OnErr result ((self.new ≡ self.old) × (state.new ≡ state.old)) }
     {
-        in_mode!(&mut self.players, replayer => replayer.serve_step(thread, threads, request, memory))
+        in_mode!(&mut self.players, replayer => replayer.serve_step(number, state))
     }
 
     // Judges a DMA, and gives the words that it stores.
     pub(crate) fn serve_dma(
         &mut self,
-        threads: &Threads,
-        request: &mut Option<Request>,
-        memory: &Memory,
+        state: &mut State,
     ) -> Result<Result<Buffer, Why>, OutOfMemory>
         requires turn { self.old.now ≡ TurnOfDma }
-        requires commits { self.old.commits ≡ commits_of threads.now }
-        requires request { IsInside (length memory.now) request.old }
-        ensures judged { (p : Progress) → Agrees self.old p → p.request ≡ request.old →
-            let v = dma_verdict self.old.log p self.old.used in
-            IfOk result (λ r. record { verdict = verdict_stored r; replay = self.new; threads = threads.now; request = request.new; served = served_stored r }
-            ≡ dma_judged self.old p threads.now request.old nothing_served v) }
-        ensures log { self.new.log ≡ self.old.log }
-        ensures replay_still { OnErr result (self.new ≡ self.old) }
-        ensures request_still { OnErr result (request.new ≡ request.old) }
+        requires at { IsReplaying self.old state.old }
+        ensures at { IsReplaying self.new state.new }
+        ensures judged { (p : Progress) → let s = state.old in Agrees s p → let v = dma_verdict self.old.log p s.used in
+            IfOk result (λ r. record { verdict = verdict_stored r; replay = self.new; state = state.new } ≡ dma_judged self.old s p v) }
+        ensures stored { (p : Progress) → Agrees state.old p →
+            IfOk result (λ r. transfer_verdict r ≡ dma_verdict self.old.log p state.old.used) }
+        ensures still { OnErr result ((self.new ≡ self.old) × (state.new ≡ state.old)) }
     {
-        in_mode!(&mut self.players, replayer => replayer.serve_dma(threads, request, memory))
+        in_mode!(&mut self.players, replayer => replayer.serve_dma(state))
     }
 
     // The words that a DMA would store, or why it diverges.
-    pub(crate) fn dma_words(
-        &self,
-        request: Option<Request>,
-        memory: &Memory,
-    ) -> Result<Result<Buffer, Why>, OutOfMemory>
-        requires { IsInside (length memory.now) request }
-        ensures { (p : Progress) → Agrees self.now p → p.request ≡ request →
-            IfOk result (λ r. transfer_verdict r ≡ dma_verdict self.now.log p self.now.used) }
+    pub(crate) fn dma_words(&self, state: &State) -> Result<Result<Buffer, Why>, OutOfMemory>
+        requires { IsReplaying self.now state.now }
+        ensures { (p : Progress) → Agrees state.now p →
+            IfOk result (λ r. transfer_verdict r ≡ dma_verdict self.now.log p state.now.used) }
     {
-        in_mode!(&self.players, replayer => replayer.dma_words(request, memory))
+        in_mode!(&self.players, replayer => replayer.dma_words(state))
     }
 
     // How many bytes a DMA would store, or why it diverges.
-    pub(crate) fn dma_size(&self, request: Option<Request>) -> Result<u32, Why>
-        ensures { (p : Progress) → Agrees self.now p → p.request ≡ request →
-            SaysSize result request (dma_verdict self.now.log p self.now.used) }
+    pub(crate) fn dma_size(&self, state: &State) -> Result<u32, Why>
+        ensures { (p : Progress) → Agrees state.now p →
+            SaysSize result state.now.request (dma_verdict self.now.log p state.now.used) }
     {
-        in_mode!(&self.players, replayer => replayer.dma_size(request))
+        in_mode!(&self.players, replayer => replayer.dma_size(state))
+    }
+
+    // The replay ends here, diverged for this reason.
+    pub(crate) fn diverge(&mut self, why: Why, state: &State) -> Verdict
+        ensures replay { self.new ≡ diverged why state.now.commits self.old }
+        ensures at { (s : At) → IsReplaying self.old s → IsReplaying self.new s }
+    {
+        in_mode!(&mut self.players, replayer => replayer.diverge(why, state))
     }
 }

@@ -14,6 +14,7 @@ ghost use Rattle.dl_sphere.specs.Moving.{SaysOutcome};
 ghost use Rattle.dl_sphere.specs.Reading.{end_in, pieces_in, log_in, SaysBytes};
 ghost use Rattle.dl_sphere.specs.Setups.{standard_in};
 
+use crate::commits::commits_of;
 use crate::moved::DmaSize;
 use crate::part::Part;
 use crate::peeking::{live_size, live_words};
@@ -40,7 +41,10 @@ impl Sphere {
     {
         match &self.part {
             Part::Plain | Part::Recorded(_) => self.s,
-            Part::Replayed(replay) => replay.player.limit(thread, after),
+            Part::Replayed(replay) => {
+                let commits = commits_of(&self.past.state.threads, thread);
+                replay.player.limit(thread, commits, after)
+            }
         }
     }
 
@@ -144,10 +148,23 @@ impl Sphere {
 
     /// The whole commits so far, the first one first.
     pub fn commits(&self) -> &[Commit]
-        ensures value { result.now ≡ self.now.sphere.progress.commits }
-        ensures all { position self.now.sphere.progress ≡ length result.now }
+        ensures { result.now ≡ self.now.sphere.progress.commits }
     {
         &self.past.commits
+    }
+
+    /// The number of the first of them in the log's play, which is 0 unless an interval is replayed.
+    pub fn first(&self) -> u32
+        ensures { result ≡ self.now.sphere.progress.first }
+    {
+        self.past.first
+    }
+
+    /// How many whole commits are done, those before the first one too.
+    pub fn done(&self) -> u32
+        ensures { result ≡ position self.now.sphere.progress }
+    {
+        self.past.state.commits
     }
 
     /// The log of a recording so far.
@@ -173,7 +190,7 @@ impl Sphere {
         flights.drain(k, &mut self.past.state.memory)
     }
 
-    /// How many bytes a DMA would store behind its count, where so many of the input are left; or why the replay leaves
+    /// How many bytes a DMA would store after its count, where so many of the input are left; or why the replay leaves
     /// its log there.
     #[tactic(auto, unfolding(spec_protocol::specs::machine::Commits::dma_moved))]
     pub fn dma_size(&self, input_left: u32) -> DmaSize
@@ -187,7 +204,7 @@ impl Sphere {
             Part::Plain | Part::Recorded(_) => {
                 DmaSize::Bytes(live_size(self.past.state.request, input_left))
             }
-            Part::Replayed(replay) => match replay.player.dma_size(self.past.state.request) {
+            Part::Replayed(replay) => match replay.player.dma_size(&self.past.state) {
                 Ok(bytes) => DmaSize::Bytes(bytes),
                 Err(why) => DmaSize::Diverged(why),
             },
@@ -206,7 +223,7 @@ impl Sphere {
         let _ = state.memory.size();
         match &self.part {
             Part::Plain | Part::Recorded(_) => live_words(alloc, state.request, devices),
-            Part::Replayed(replay) => match replay.player.dma_words(state.request, &state.memory)? {
+            Part::Replayed(replay) => match replay.player.dma_words(state)? {
                 Ok(words) => Ok(words),
                 Err(_) => Ok(Buffer::new(alloc, 1)?),
             },

@@ -1,13 +1,35 @@
 //! What a plan says of a sphere.
+ghost use Rattle.std.specs.Prelude.{◌≡◌, option_map};
+ghost use Rattle.dl_sphere.specs.Setups.{begun_as, diverged_in, interval_in};
+
 use dl_elf::Image;
+use dl_entry::Why;
+use dl_kernel::State;
 use spec_log::{Log, ModeName};
+use spec_play::Interval;
 
 /// A sphere's role: plain, recorded in a version of logs, 1 or 2, and a mode, or replayed.
 #[derive(Drop)]
 pub enum Role {
     Plain,
     Record { version: u8, mode: ModeName },
-    Replay(Log),
+    Replay(Replay),
+}
+
+/// What is replayed: all commits of a log, or those of an interval, where that begins.
+#[derive(Drop)]
+pub struct Replay {
+    pub log: Log,
+    pub begun: Option<Begun>,
+}
+
+/// Where an interval of a log begins: the state of the log's play on the sphere's image before the interval's first commit.
+/// If the play diverges before that, the state is the one where it does, with the reason.
+#[derive(Drop)]
+pub struct Begun {
+    pub interval: Interval,
+    pub state: State,
+    pub diverged: Option<Why>,
 }
 
 /// A sphere before it starts.
@@ -15,4 +37,38 @@ pub enum Role {
 pub struct SphereSetup {
     pub image: Image,
     pub role: Role,
+}
+
+impl Role {
+    /// Where an interval begins, if one is replayed.
+    pub fn begun(&self) -> Option<&Begun>
+        ensures { option_map (λ b. b.now) result ≡ begun_as self.now }
+    {
+        match self {
+            Role::Plain | Role::Record { .. } => None,
+            Role::Replay(replay) => replay.begun.as_ref(),
+        }
+    }
+}
+
+impl Replay {
+    /// The interval that is replayed, if not all commits are.
+    pub fn interval(&self) -> Option<Interval>
+        ensures { result ≡ interval_in self.now.begun }
+    {
+        match &self.begun {
+            Some(begun) => Some(begun.interval),
+            None => None,
+        }
+    }
+
+    /// Why the log's play diverges before its interval, if it does.
+    pub fn diverged(&self) -> Option<Why>
+        ensures { result ≡ diverged_in self.now.begun }
+    {
+        match &self.begun {
+            Some(begun) => begun.diverged,
+            None => None,
+        }
+    }
 }

@@ -45,7 +45,7 @@ impl Model for Sphere {
 
     ghost view = { λ p. record { s = p.s; sphere = sphere_in p } };
 
-    ghost invariant = { λ p. IsSphere p.s (sphere_in p) (keeping_of p.part) };
+    ghost invariant = { λ p. IsSphere p.s p.past (keeping_of p.part) };
 }
 
 impl Sphere {
@@ -59,7 +59,7 @@ impl Sphere {
         ghost how: { How }
         requires thread { thread < length self.old.sphere.threads }
         requires chunk { CanCommit self.old.s self.old.sphere thread how chunk.now.chunk }
-        requires few { position self.old.sphere.progress < 2 ^ 24 }
+        requires few { replays self.old.sphere.role ≡ false → position self.old.sphere.progress < 2 ^ 24 }
         ensures ok { IfOk result (λ m. (d : Devices) →
             came m self.new.sphere d
             ≡ chunk_moved thread (is_piece how) (is_short self.old.s how chunk.now.chunk.limit) chunk.now.chunk.done d self.old.sphere) }
@@ -77,8 +77,10 @@ impl Sphere {
         note(&mut self.part, &commit, is_short(self.s, chunk), None)?;
         self.past.commits.push_reserved(commit);
         let after = counted(chunk.state());
-        self.past.state.threads.set(thread, &after);
-        self.past.state.last = Some(thread);
+        let state = &mut self.past.state;
+        state.threads.set(thread, &after);
+        state.last = Some(thread);
+        state.commits += 1;
         Ok(Moved::Granted(words))
     }
 
@@ -91,7 +93,7 @@ impl Sphere {
     ) -> Result<Moved, OutOfMemory>
         requires thread { thread < length self.old.sphere.threads }
         requires turn { IsTurnOf thread self.old.sphere.role }
-        requires few { position self.old.sphere.progress < 2 ^ 24 }
+        requires few { replays self.old.sphere.role ≡ false → position self.old.sphere.progress < 2 ^ 24 }
         requires devices { HaveByteInput devices.old }
         ensures ok { IfOk result (λ m. (t : Parts) → slice_get self.old.sphere.threads thread ≡ Some t →
             came m self.new.sphere devices.new ≡ serial_moved thread moment t devices.old self.old.sphere) }
@@ -115,9 +117,11 @@ impl Sphere {
         let left = live_step(self.past.alloc, &mut self.part, &step, devices, moment)?;
         self.past.commits.push_reserved(left.commit);
         let after = counted(&left.thread);
-        settle(&mut self.past.state.threads, thread, &after, left.spawned);
-        self.past.state.request = left.request;
-        self.past.state.last = Some(thread);
+        let state = &mut self.past.state;
+        settle(&mut state.threads, thread, &after, left.spawned);
+        state.request = left.request;
+        state.last = Some(thread);
+        state.commits += 1;
         Ok(Moved::Granted(left.words))
     }
 
@@ -126,7 +130,7 @@ impl Sphere {
         requires request { IfSome self.old.sphere.progress.request (IsSoundRequest (length self.old.sphere.memory)) }
         requires turn { IsTurnOfDma self.old.sphere.role }
         requires some { IsSome (dma_moved devices.old self.old.sphere) }
-        requires few { position self.old.sphere.progress < 2 ^ 24 }
+        requires few { replays self.old.sphere.role ≡ false → position self.old.sphere.progress < 2 ^ 24 }
         requires devices { HaveByteInput devices.old }
         ensures ok { IfOk result (λ m. dma_moved devices.old self.old.sphere ≡ Some (came m self.new.sphere devices.new)) }
         ensures standard { self.new.s ≡ self.old.s }
@@ -145,6 +149,7 @@ impl Sphere {
         let words = live_dma(self.past.alloc, &mut self.part, &request, devices)?;
         self.past.commits.push_reserved(dma_commit(self.past.alloc));
         self.past.state.request = None;
+        self.past.state.commits += 1;
         Ok(Moved::Granted(words))
     }
 

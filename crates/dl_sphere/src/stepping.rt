@@ -6,8 +6,7 @@ ghost use Rattle.spec_log.specs.Log.{IsInput};
 ghost use Rattle.spec_play.specs.Effects.{serial_commit};
 ghost use Rattle.spec_protocol.specs.promises.Sound.{HaveByteInput};
 ghost use Rattle.dl_kernel.specs.Calls.{spawned_list};
-ghost use Rattle.spec_protocol.specs.machine.Spheres.{most_in};
-ghost use Rattle.dl_sphere.specs.Roles.{keeping_of, role_in, with_noted, CanNote};
+ghost use Rattle.dl_sphere.specs.Roles.{keeping_of, most_of, with_noted, CanNote};
 ghost use Rattle.dl_sphere.specs.Stepping.{taken_by, served_by, commit_by};
 
 use crate::part::{Part, note_reserved, reserve, threads_allowed};
@@ -43,7 +42,7 @@ pub(crate) fn live_step(
     requires devices { HaveByteInput devices.old }
     ensures thread { IfOk result (λ l. l.thread ≡ (served_by part.old step.now devices.old moment).thread) }
     ensures spawned { IfOk result (λ l. spawned_list l.spawned ≡ (served_by part.old step.now devices.old moment).spawned) }
-    ensures room { IfOk result (λ l. OnSome l.spawned (length step.now.threads.now < most_in (role_in part.old))) }
+    ensures room { IfOk result (λ l. OnSome l.spawned (length step.now.threads.now < most_of (keeping_of part.old))) }
     ensures places { IfOk result (λ l. OnSome l.spawned (length step.now.threads.now < most_threads)) }
     ensures request { IfOk result (λ l. l.request ≡ (served_by part.old step.now devices.old moment).request) }
     ensures words { IfOk result (λ l. l.words.words ≡ (served_by part.old step.now devices.old moment).words) }

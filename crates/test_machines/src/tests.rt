@@ -1,7 +1,7 @@
 //! Machines that were worked out event by event.
 ghost use Rattle.std.specs.Prelude.{◌≡◌, true, All, IfOk, map};
 ghost use Rattle.spec_protocol.specs.promises.Sound.{AreFew};
-ghost use Rattle.dl_sphere.specs.Setups.{IsRecordableIf, role_setup, setup_of as as_defined};
+ghost use Rattle.dl_sphere.specs.Setups.{HasBegun, IsRecordableIf, role_setup, setup_of as as_defined};
 ghost use Rattle.dl_machine.specs.Setups.{IsWithin};
 
 use dl_elf::load;
@@ -10,7 +10,7 @@ use dl_finish::{finish, next_event};
 use dl_logfmt::{read_log, write_log};
 use dl_machine::{Machine, Setup};
 use dl_sig::Banked;
-use dl_sphere::{Role, Sphere, SphereSetup};
+use dl_sphere::{Replay, Role, Sphere, SphereSetup};
 use spec_log::ModeName;
 use spec_protocol::{Event, Reply};
 use std::alloc::{AllocError, Global};
@@ -201,6 +201,7 @@ fn is_within(setup: &Setup) -> bool
         && setup.bits == 64
         && (1..=2).contains(&setup.depth)
         && are_recordable(setup.s, setup.spheres.as_slice())
+        && are_whole(setup.spheres.as_slice())
 }
 
 // Whether standard chunks of so many instructions fit the log of each sphere that is recorded.
@@ -222,6 +223,25 @@ fn is_recordable(s: u32, role: &Role) -> bool
         Role::Plain | Role::Replay(_) => true,
         Role::Record { version, .. } => *version == 1 && (16..=4096).contains(&s),
     }
+}
+
+// Whether none of the spheres replays an interval.
+fn are_whole(spheres: &[SphereSetup]) -> bool
+    ensures { result ≡ true → All HasBegun spheres.now }
+{
+    for sphere in spheres {
+        if !is_whole(sphere) {
+            return false;
+        }
+    }
+    true
+}
+
+#[tactic(auto, using(dl_sphere::proofs::Standing::Start::unless_begun))]
+fn is_whole(sphere: &SphereSetup) -> bool
+    ensures { result ≡ true → HasBegun sphere.now }
+{
+    sphere.role.begun().is_none()
 }
 
 fn are_few(count: usize) -> bool
@@ -255,7 +275,10 @@ fn role_of(alloc: Global, lived: Lived) -> Result<Role, Fail> {
     match lived {
         Lived::Plain => Ok(Role::Plain),
         Lived::Recorded { mode, .. } => Ok(Role::Record { version: 1, mode }),
-        Lived::Replayed { log, .. } => Ok(Role::Replay(read_log(alloc, log)?)),
+        Lived::Replayed { log, .. } => Ok(Role::Replay(Replay {
+            log: read_log(alloc, log)?,
+            begun: None,
+        })),
     }
 }
 

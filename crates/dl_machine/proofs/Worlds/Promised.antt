@@ -1,5 +1,5 @@
 -- What the protocol promises holds of every world that a setup has come to.
-use Rattle.std.proofs.Common.{◌≡◌, ℕ, ◌<◌, ◌^◌, [], ◌∷◌, ◌++◌, List, Some, refl, sym, ap, ◌∙◌, subst, arith}
+use Rattle.std.proofs.Common.{◌≡◌, ℕ, ◌<◌, ◌≤◌, ◌^◌, [], ◌∷◌, ◌++◌, List, length, Some, refl, sym, ap, ◌∙◌, subst, arith}
 use Rattle.std.specs.Prelude.{slice_get}
 use Rattle.spec_log.specs.Log.{IsLog}
 use Rattle.spec_protocol.specs.declared.event.Event.{Event}
@@ -10,13 +10,13 @@ use Rattle.spec_protocol.specs.promises.Sound.{IsRole, IsWithinLimits}
 use Rattle.spec_protocol.proofs.Points.Serial.{commits_are}
 use Rattle.spec_protocol.proofs.PlayingBack.All.{logs_play_back}
 use Rattle.spec_replay.proofs.Replays.All.{replays_follow}
+use Rattle.spec_run.proofs.Room.{leaves_room, schedule_counted}
 use Rattle.spec_replay.proofs.Replays.Stopping.{stopped_played}
 use Rattle.dl_machine.specs.Runs.{HasRun, IsRun, IsSerial, IsPromised}
 use Rattle.spec_protocol.proofs.Invariants.Schedules.{invariants_hold}
 use Rattle.spec_protocol.proofs.Sound.Schedules.{worlds_sound}
 use Rattle.dl_machine.specs.Ready.{HasRoom, IsReady}
 use Rattle.dl_machine.proofs.Worlds.First.{setup_within}
-use Rattle.dl_machine.proofs.Worlds.Ready.{young_has_room}
 
 -- ---- one event more
 
@@ -50,7 +50,12 @@ run_ready w r =
 
 -- before so many events it has room
 pub young_run_has_room : (w : World) → HasRun w → w.counts.events < 2 ^ 24 → HasRoom w
-young_run_has_room w r young = young_has_room w (run_ready w r) young
+young_run_has_room w r young =
+    let s = r.setup in
+    let es = r.schedule in
+    let counted = ap (λ (u : World). u.counts.events) r.run.here ∙ schedule_counted s es in
+    let few : length es ≤ 2 ^ 24 = omega (arith, young, counted) in
+    subst HasRoom (sym r.run.here) (record { few = λ i within live. leaves_room s es i r.run.limits few within live })
 
 -- ---- what is promised
 
@@ -64,7 +69,7 @@ pub serial_run : (s : Setup) (es : List Event) (w : World) → IsRun s es w → 
 serial_run s es w run = subst (λ (u : World). IsSerial s u u.points) (sym run.here) (serial_after s es run.limits)
 
 role_log : (s : ℕ) (role : RoleSetup) (asked : ReplaySetup) → role ≡ IsReplayed asked → IsRole s role → IsLog asked.log
-role_log s role asked is of_role = subst (IsRole s) is of_role
+role_log s role asked is of_role = (subst (IsRole s) is of_role).0
 
 promised_after : (s : Setup) (i : ℕ) (es : List Event) → IsWithinLimits s → IsPromised s i (after s es)
 promised_after s i es limits =

@@ -1,5 +1,5 @@
 -- In a world that is ready, what a core, a slot or a sphere holds is of the sizes that calls ask for.
-use Rattle.std.proofs.Common.{◌≡◌, ℕ, ◌<◌, ◌^◌, length, Option, Some, None, refl, sym, ap, ◌∙◌, subst, arith}
+use Rattle.std.proofs.Common.{◌≡◌, ℕ, ◌<◌, length, Option, Some, None, refl, sym, ap, ◌∙◌, subst}
 use Rattle.std.specs.Prelude.{IfSome, option_map}
 use Rattle.std.proofs.lemmas.Option.{none-some, same_Some, slice_get_within}
 use Rattle.spec_engine.specs.Flights.{Flight, AreInside, AreOfSize, IsInside, IsOfSize, at}
@@ -9,7 +9,7 @@ use Rattle.spec_protocol.specs.machine.World.{Occupant, World, sphere_at}
 use Rattle.dl_machine.specs.Cores.{seen, reads_in, writes_in}
 use Rattle.dl_machine.specs.declared.one_core.Held.{Held as Seen}
 use Rattle.dl_machine.specs.Held.{IsOf, sphere_of}
-use Rattle.dl_machine.specs.Ready.{HasRoom, IsReady}
+use Rattle.dl_machine.specs.Ready.{IsReady}
 
 seen_of : (w : World) (c : ℕ) (o : Option Occupant) → IsReady w → at w.cores c ≡ o → IfSome (option_map seen o) (IsOf w)
 seen_of w c None ready is = tt
@@ -71,7 +71,3 @@ pub chunk_writes : (w : World) (c : ℕ) (o : Option Occupant) (ch : Chunk) → 
 chunk_writes w c None ch ready is e = absurd (none-some ch (sym e))
 chunk_writes w c (Some h) ch ready is e =
     subst (λ (n : ℕ). AreOfSize n w.slots) (sym (ap (λ (d : Chunk). d.writes.bits) (same_Some _ _ e) ∙ (ready.good.held c h is).chunk.writes_size)) (slots_size w ready)
-
--- a sphere has no more commits than there were events
-pub young_has_room : (w : World) → IsReady w → w.counts.events < 2 ^ 24 → HasRoom w
-young_has_room w ready young = record { few = λ i there live. let c = (ready.sound.spheres i there).commits in omega (arith, c, young) }

@@ -15,81 +15,82 @@ use Rattle.spec_play.specs.Recording.{noted, input_noted}
 use Rattle.spec_protocol.specs.machine.Spheres as protocol
 use Rattle.spec_protocol.specs.machine.Commits.{Granted, MovedSphere, chunk_moved, dma_moved, serial_moved}
 use Rattle.spec_protocol.proofs.Logs.Growing.{commits_if}
-use Rattle.dl_sphere.specs.Inside.{sphere_with}
+use Rattle.spec_play.specs.declared.used.Used.{Used}
+use Rattle.dl_sphere.specs.Pasts.{sphere_with}
 use Rattle.spec_play.specs.Noted.{as_log}
-use Rattle.dl_sphere.specs.Roles.{Keeping, Plain, Recording, Replaying, role_of, with_noted, IsKeepingOf, IsLive}
+use Rattle.dl_sphere.specs.Roles.{Keeping, Plain, Recording, Replaying, role_of, most_of, with_noted, IsLive, IsLiveOf}
 use Rattle.dl_sphere.proofs.Standing.Moves.{log_with, transferred_role}
 
 -- the step of thread k, which is t, with what was taken and done
-abbrev pub moved_by : List ℕ → List Parts → List Commit → (k : ℕ) → Parts → Taken → StepResult → protocol.Role → MovedSphere
-moved_by m ts cs k t g v role =
+abbrev pub moved_by : (first : ℕ) → List ℕ → List Parts → List Commit → (k : ℕ) → Parts → Taken → StepResult → protocol.Role → MovedSphere
+moved_by first m ts cs k t g v role =
     record {
       outcome = Granted;
-      sphere = sphere_with m (set ts k (counted v.thread) ++ v.spawned) (cs ++ serial_commit k v.loads v.outputs ∷ []) (Some k) v.request role;
+      sphere = sphere_with first m (set ts k (counted v.thread) ++ v.spawned) (cs ++ serial_commit k v.loads v.outputs ∷ []) (Some k) v.request role;
       words = v.words;
       devices = console_written t m v.outputs g.devices;
     }
 
 -- the chunk of thread k, which is a run
-abbrev pub chunk_by : List ℕ → List Parts → List Commit → (k : ℕ) → Option Request → Run → Devices → protocol.Role → MovedSphere
-chunk_by m ts cs k q r d role =
+abbrev pub chunk_by : (first : ℕ) → List ℕ → List Parts → List Commit → (k : ℕ) → Option Request → Run → Devices → protocol.Role → MovedSphere
+chunk_by first m ts cs k q r d role =
     record {
       outcome = Granted;
-      sphere = sphere_with m (set ts k (counted r.thread)) (cs ++ chunk_commit k r ∷ []) (Some k) q role;
+      sphere = sphere_with first m (set ts k (counted r.thread)) (cs ++ chunk_commit k r ∷ []) (Some k) q role;
       words = r.words;
       devices = d;
     }
 
 -- it spawns no thread
-chunk_same : (m : List ℕ) (ts : List Parts) (cs : List Commit) (k : ℕ) (q : Option Request) (r : Run) (d : Devices) (role : protocol.Role)
-    → chunk_by m ts cs k q r d role
+chunk_same : (first : ℕ) (m : List ℕ) (ts : List Parts) (cs : List Commit) (k : ℕ) (q : Option Request) (r : Run) (d : Devices) (role : protocol.Role)
+    → chunk_by first m ts cs k q r d role
     ≡ record {
       outcome = Granted;
-      sphere = sphere_with m (set ts k (counted r.thread) ++ []) (cs ++ chunk_commit k r ∷ []) (Some k) q role;
+      sphere = sphere_with first m (set ts k (counted r.thread) ++ []) (cs ++ chunk_commit k r ∷ []) (Some k) q role;
       words = r.words;
       devices = d;
     }
-chunk_same m ts cs k q r d role =
+chunk_same first m ts cs k q r d role =
     λ i. record {
       outcome = Granted;
-      sphere = sphere_with m (sym (append-nil (set ts k (counted r.thread))) i) (cs ++ chunk_commit k r ∷ []) (Some k) q role;
+      sphere = sphere_with first m (sym (append-nil (set ts k (counted r.thread))) i) (cs ++ chunk_commit k r ∷ []) (Some k) q role;
       words = r.words;
       devices = d;
     }
 
 -- A plain or recorded sphere of this memory and these threads has done these commits, the last one of a thread being of the
 -- thread `last`; the devices are d.
-module _ (m : List ℕ) (ts : List Parts) (cs : List Commit) (last : Option ℕ) (d : Devices) where
+module _ (first : ℕ) (m : List ℕ) (u : Used) (ts : List Parts) (cs : List Commit) (last : Option ℕ) (d : Devices) where
   -- a serial step of the sphere moves it as the definitions do
   pub step_is_moved : (s : ℕ) (x : Keeping) (q : Option Request) (k moment : ℕ) (t : Parts)
-      → IsLive x → slice_get ts k ≡ Some t → IsKeepingOf s (sphere_with m ts cs last q (role_of x)) x →
+      → slice_get ts k ≡ Some t → IsLiveOf s (sphere_with first m ts cs last q (role_of u x)) x →
       let g = taken (need t m) d moment in
-      let v = serve (protocol.most_in (role_of x)) k ts q t m g.input in
-      moved_by m ts cs k t g v (role_of (with_noted (serial_commit k v.loads v.outputs) false g.input None x)) ≡ serial_moved k moment t d (sphere_with m ts cs last q (role_of x))
+      let v = serve (most_of x) k ts q t m g.input in
+      moved_by first m ts cs k t g v (role_of u (with_noted (serial_commit k v.loads v.outputs) false g.input None x)) ≡ serial_moved k moment t d (sphere_with first m ts cs last q (role_of u x))
   unfolding serial_moved
-  step_is_moved s Plain q k moment t live start h = refl
-  step_is_moved s (Replaying r loads) q k moment t live start h = absurd live
-  step_is_moved s (Recording r) q k moment t live start h =
+  step_is_moved s Plain q k moment t start h = refl
+  step_is_moved s (Replaying r loads) q k moment t start h = absurd h
+  step_is_moved s (Recording r) q k moment t start h =
       let g = taken (need t m) d moment in
-      let v = serve (protocol.most_in (role_of (Recording r))) k ts q t m g.input in
+      let v = serve (most_of (Recording r)) k ts q t m g.input in
       let c : Commit = serial_commit k v.loads v.outputs in
-      ap (λ l. moved_by m ts cs k t g v (protocol.Record (record { log = l }))) (log_with r c false g.input ∙ ap (λ i. input_noted g.input (noted c i false (as_log r))) (h.done k ∙ ap commits_if start))
+      ap (λ l. moved_by first m ts cs k t g v (protocol.Record (record { log = l }))) (log_with r c false g.input ∙ ap (λ i. input_noted g.input (noted c i false (as_log r))) (h.done k ∙ ap commits_if start))
 
   -- a chunk of the sphere moves it as the definitions do
   pub chunk_is_moved : (s : ℕ) (x : Keeping) (q : Option Request) (k : ℕ) (t : Parts) (piece short : Bool) (r : Run)
-      → IsLive x → slice_get ts k ≡ Some t → r.thread.commits ≡ t.commits → IsKeepingOf s (sphere_with m ts cs last q (role_of x)) x
-      → chunk_by m ts cs k q r d (role_of (with_noted (chunk_commit k r) short None None x)) ≡ chunk_moved k piece short r d (sphere_with m ts cs last q (role_of x))
+      → slice_get ts k ≡ Some t → r.thread.commits ≡ t.commits → IsLiveOf s (sphere_with first m ts cs last q (role_of u x)) x
+      → chunk_by first m ts cs k q r d (role_of u (with_noted (chunk_commit k r) short None None x)) ≡ chunk_moved k piece short r d (sphere_with first m ts cs last q (role_of u x))
   unfolding chunk_moved
-  chunk_is_moved s Plain q k t piece short r live start same h = chunk_same m ts cs k q r d protocol.Plain
-  chunk_is_moved s (Replaying p loads) q k t piece short r live start same h = absurd live
-  chunk_is_moved s (Recording p) q k t piece short r live start same h =
+  chunk_is_moved s Plain q k t piece short r start same h = chunk_same first m ts cs k q r d protocol.Plain
+  chunk_is_moved s (Replaying p loads) q k t piece short r start same h = absurd h
+  chunk_is_moved s (Recording p) q k t piece short r start same h =
       let c : Commit = chunk_commit k r in
-      ap (λ l. chunk_by m ts cs k q r d (protocol.Record (record { log = l })))
+      ap (λ l. chunk_by first m ts cs k q r d (protocol.Record (record { log = l })))
       (log_with p c short None ∙ ap (λ i. noted c i short (as_log p)) (h.done k ∙ ap commits_if start ∙ sym same))
-      ∙ chunk_same m ts cs k q r d (protocol.Record (record { log = noted c r.thread.commits short (as_log p) }))
+      ∙ chunk_same first m ts cs k q r d (protocol.Record (record { log = noted c r.thread.commits short (as_log p) }))
 
   -- without a request it has no DMA
-  pub none_moved : (x : Keeping) → IsLive x → dma_moved d (sphere_with m ts cs last None (role_of x)) ≡ None
+  pub none_moved : (x : Keeping) → IsLive x → dma_moved d (sphere_with first m ts cs last None (role_of u x)) ≡ None
   unfolding dma_moved
   none_moved Plain live = refl
   none_moved (Recording r) live = refl
@@ -97,23 +98,23 @@ module _ (m : List ℕ) (ts : List Parts) (cs : List Commit) (last : Option ℕ)
 
   -- a DMA moves it as the definitions do
   pub dma_is_moved : (s : ℕ) (x : Keeping) (request : Request)
-      → IsLive x → IsKeepingOf s (sphere_with m ts cs last (Some request) (role_of x)) x
-      → dma_moved d (sphere_with m ts cs last (Some request) (role_of x))
+      → IsLiveOf s (sphere_with first m ts cs last (Some request) (role_of u x)) x
+      → dma_moved d (sphere_with first m ts cs last (Some request) (role_of u x))
       ≡ Some (record {
         outcome = Granted;
-        sphere = sphere_with m ts (cs ++ dma_commit ∷ []) last None (role_of (with_noted dma_commit false None (Some (dma_bytes d request)) x));
+        sphere = sphere_with first m ts (cs ++ dma_commit ∷ []) last None (role_of u (with_noted dma_commit false None (Some (dma_bytes d request)) x));
         words = dma_words request (dma_bytes d request);
         devices = dma_taken d request;
       })
   unfolding dma_moved
-  dma_is_moved s Plain request live h = refl
-  dma_is_moved s (Replaying r loads) request live h = absurd live
-  dma_is_moved s (Recording r) request live h =
+  dma_is_moved s Plain request h = refl
+  dma_is_moved s (Replaying r loads) request h = absurd h
+  dma_is_moved s (Recording r) request h =
       let moved : protocol.Role → Option MovedSphere = λ role. Some (record {
         outcome = Granted;
-        sphere = sphere_with m ts (cs ++ dma_commit ∷ []) last None role;
+        sphere = sphere_with first m ts (cs ++ dma_commit ∷ []) last None role;
         words = dma_words request (dma_bytes d request);
         devices = dma_taken d request;
       })
       in
-      ap moved (sym (transferred_role (sphere_with m ts cs last (Some request) (role_of (Recording r))) s (dma_bytes d request) r h))
+      ap moved (sym (transferred_role u (sphere_with first m ts cs last (Some request) (role_of u (Recording r))) s (dma_bytes d request) r h))

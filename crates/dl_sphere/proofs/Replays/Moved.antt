@@ -1,129 +1,130 @@
--- What the replayer answers of a commit makes of its sphere what the definitions make of it, and the sphere stands.
-use Rattle.std.proofs.Common.{◌≡◌, ℕ, suc, ◌+◌, ◌≤◌, length, List, [], ◌∷◌, ◌++◌, Option, Some, refl, sym, ap, ◌∙◌, subst, arith}
+-- What the replayer judges of a commit makes of its sphere what the definitions make of it.
+use Rattle.std.proofs.Common.{◌≡◌, ℕ, ◌+◌, List, [], ◌∷◌, ◌++◌, refl, sym, ap, ◌∙◌}
 use Rattle.dl_entry.specs.declared.Commit.{Commit}
 use Rattle.dl_entry.specs.declared.End.{End}
-use Rattle.dl_entry.specs.declared.Request.{Request}
 use Rattle.dl_entry.specs.declared.Why.{Why}
 use Rattle.spec_isa.specs.declared.thread.Load.{Load}
-use Rattle.spec_isa.specs.declared.thread.Parts.{Parts}
 use Rattle.spec_isa.specs.Words.{Stored}
-use Rattle.spec_log.specs.Log.{IsLog}
 use Rattle.spec_kernel.specs.Devices.{Devices}
 use Rattle.spec_play.specs.Effects.{dma_commit}
-use Rattle.spec_play.specs.Progress.{position}
-use Rattle.spec_play.specs.Transfers.{DmaVerdict}
+use Rattle.spec_play.specs.Progress.{Progress}
+use Rattle.spec_play.specs.Transfers.{DmaVerdict, DmaGoes, DmaFails}
 use Rattle.spec_play.specs.Turns.{Ended}
-use Rattle.spec_play.specs.Verdicts.{LogVerdict}
-use Rattle.spec_protocol.specs.machine.Commits.{Diverged, Granted, by_verdict, dma_by_verdict, diverged as leaves}
-use Rattle.spec_protocol.specs.machine.Spheres.{Replay, Sphere}
-use Rattle.spec_protocol.proofs.Logs.Growing.{pushed_length}
-use Rattle.dl_replay.specs.Judged.{diverged}
-use Rattle.dl_replay.proofs.Answered.{HasGone, HasTransferred}
-use Rattle.dl_replay.specs.Replaying.{Replaying, commits_of, cursor_of}
-use Rattle.dl_sphere.specs.Roles as roles
-use Rattle.dl_sphere.specs.Roles.{IsSphere}
+use Rattle.spec_play.specs.Verdicts.{LogVerdict, Goes, Fails}
+use Rattle.spec_protocol.specs.machine.Commits.{Diverged, Granted, MovedSphere, by_verdict, dma_by_verdict}
+use Rattle.spec_protocol.specs.machine.Spheres.{Replay, Role, Sphere}
+use Rattle.dl_kernel.specs.declared.past.Past.{Past}
+use Rattle.dl_kernel.specs.declared.state.State.{State}
+use Rattle.dl_replay.specs.Following.{Following, cursor_of}
+use Rattle.dl_replay.specs.Judged.{Judged, judged, dma_judged}
+use Rattle.dl_replay.specs.Replays.{Agrees}
+use Rattle.dl_replay.specs.declared.verdict.Verdict.{Verdict}
+use Rattle.dl_sphere.specs.Pasts.{sphere_at, sphere_with}
+use Rattle.dl_sphere.specs.Roles.{IsCounted}
+use Rattle.dl_sphere.proofs.Replays.Judging.{IfGoes}
 
--- The sphere x is replayed: r is its replay, and these are the loads of the pieces of its present commit.
-module _ (x : Sphere) (r : Replaying) (loads : List Load) where
-  abbrev played : Sphere
-  played = record x { role = Replay (cursor_of r loads) }
+not-went : (why : Why) → Verdict.Diverged why ≡ Verdict.Went → ⊥
+not-went why e = cc
 
-  -- with these threads, commits and request, and this replay
-  abbrev moved_to : List Parts → List Commit → (last : Option ℕ) → Option Request → Replaying → List Load → Sphere
-  moved_to us ds last q new ls =
-      record x { threads = us; progress = record x.progress { commits = ds; last = last; request = q }; role = Replay (cursor_of new ls) }
+-- The sphere has come so far; these are the loads of the pieces of its present commit, and the devices.
+module _ (past : Past) (loads : List Load) (d : Devices) where
+  -- the sphere in a state, with these commits, and so far in its log
+  abbrev pub in_state : State → List Commit → Following → List Load → Sphere
+  in_state s cs r ls = sphere_with past.first s.memory s.threads cs s.last s.request (Replay (cursor_of r s.used ls))
 
-  -- a commit of thread k that goes on moves the sphere as its verdict says
-  pub granted : (new : Replaying) (us : List Parts) (q : Option Request) (k : ℕ) (v : LogVerdict) (c : Commit) (words : List Stored) (d : Devices)
-      → (w : HasGone r x.progress k x.threads v new us q) → w.effect.commit ≡ c → w.effect.words ≡ words
-      → record { outcome = Granted; sphere = moved_to us (x.progress.commits ++ c ∷ []) (Some k) q new []; words = words; devices = d } ≡ by_verdict (cursor_of r loads) k v d played
-  granted new us q k v c words d w commit stored =
+  abbrev now_at : Following → Sphere
+  now_at r = in_state past.state past.commits.items r loads
+
+  -- what an answer, with what it leaves, makes of the sphere: if it goes, by this commit, which stores these words
+  abbrev answered : Commit → List Stored → Verdict → Following → State → MovedSphere
+  answered c words Verdict.Went r s =
+      record { outcome = Granted; sphere = in_state s (past.commits.items ++ c ∷ []) r []; words = words; devices = d }
+  answered c words (Verdict.Diverged why) r s =
+      record { outcome = Diverged past.state.commits why; sphere = in_state s past.commits.items r loads; words = []; devices = d }
+
+  abbrev pub made_of : Commit → List Stored → Judged → MovedSphere
+  made_of c words j = answered c words j.verdict j.replay j.state
+
+  -- a commit of a thread
+  pub commit_moved : (r : Following) (k : ℕ) (v : LogVerdict) (c : Commit) (words : List Stored) → IsCounted past → IfGoes c words v
+      → made_of c words (judged r past.state (now_at r).progress k v) ≡ by_verdict (cursor_of r past.state.used loads) k v d (now_at r)
+  commit_moved r k (Fails why) c words counted of =
       (λ i. record {
-        outcome = Granted;
-        sphere = moved_to (w.threads i) (x.progress.commits ++ sym commit i ∷ []) (Some k) (w.request i) (w.replay i) [];
-        words = sym stored i;
-        devices = d;
-      })
-      ∙ ap (λ (o : LogVerdict). by_verdict (cursor_of r loads) k o d played) (sym w.verdict)
-
-  -- where the replay leaves its log the sphere moves as that says
-  pub left : (new : Replaying) (us : List Parts) (q : Option Request) (why : Why) (d : Devices) → position x.progress ≡ r.done → new ≡ diverged why r → us ≡ x.threads → q ≡ x.progress.request
-      → record { outcome = Diverged (position x.progress) why; sphere = moved_to us x.progress.commits x.progress.last q new loads; words = []; devices = d } ≡ leaves (cursor_of r loads) why d played
-  left new us q why d done is threads request =
-      (λ i. record {
-        outcome = Diverged (position x.progress) why;
-        sphere = moved_to (threads i) x.progress.commits x.progress.last (request i) (is i) loads;
+        outcome = Diverged (sym counted i) why;
+        sphere = sphere_at past (Replay (record (cursor_of r past.state.used loads) { now = Ended (End.Diverged (sym counted i) why) }));
         words = [];
         devices = d;
       })
-      ∙ ap (λ n. record {
-        outcome = Diverged (position x.progress) why;
-        sphere = record x { role = Replay (record (cursor_of r loads) { now = Ended (End.Diverged n why) }) };
+  commit_moved r k (Goes e u) c words counted of =
+      (λ i. made_of (sym of.commit i) (sym of.stored i) (judged r past.state (now_at r).progress k (Goes e u)))
+
+  -- a DMA
+  abbrev pub IfStores : List Stored → DmaVerdict → Type 0
+  IfStores words (DmaGoes stored) = stored ≡ words
+  IfStores words (DmaFails why) = Unit {0}
+
+  pub dma_goes : (r : Following) (v : DmaVerdict) (words : List Stored) → IsCounted past → IfStores words v
+      → made_of dma_commit words (dma_judged r past.state (now_at r).progress v) ≡ dma_by_verdict (cursor_of r past.state.used loads) v d (now_at r)
+  dma_goes r (DmaFails why) words counted of =
+      (λ i. record {
+        outcome = Diverged (sym counted i) why;
+        sphere = sphere_at past (Replay (record (cursor_of r past.state.used loads) { now = Ended (End.Diverged (sym counted i) why) }));
         words = [];
         devices = d;
-      }) (sym done)
-
-  -- a DMA that goes on moves the sphere as its verdict says
-  pub dma_granted : (new : Replaying) (q : Option Request) (v : DmaVerdict) (words : List Stored) (d : Devices) → HasTransferred r x.progress x.threads v new q words
-      → record { outcome = Granted; sphere = moved_to x.threads (x.progress.commits ++ dma_commit ∷ []) x.progress.last q new []; words = words; devices = d } ≡ dma_by_verdict (cursor_of r loads) v d played
-  dma_granted new q v words d g =
-      (λ i. record {
-        outcome = Granted;
-        sphere = moved_to x.threads (x.progress.commits ++ dma_commit ∷ []) x.progress.last (g.request i) (g.replay i) [];
-        words = words;
-        devices = d;
       })
-      ∙ ap (λ (o : DmaVerdict). dma_by_verdict (cursor_of r loads) o d played) (sym g.verdict)
+  dma_goes r (DmaGoes stored) words counted of = (λ i. made_of dma_commit (sym of i) (dma_judged r past.state (now_at r).progress (DmaGoes stored)))
 
-  -- ---- what stands
+  -- the words that a DMA gives are those of its verdict
+  pub dma_stores : (words : List Stored) (v : DmaVerdict) → DmaGoes words ≡ v → IfStores words v
+  dma_stores words (DmaGoes stored) is = (let e : DmaGoes words ≡ DmaGoes stored = is in cc)
+  dma_stores words (DmaFails why) is = tt
 
-  -- after one commit more the sphere stands
-  pub stands_more : (new : Replaying) (us : List Parts) (last : Option ℕ) (q : Option Request) (c : Commit) (s : ℕ) → length us ≤ 63
-      → new.log ≡ r.log → new.done ≡ r.done + 1 → new.last ≡ last → new.commits ≡ commits_of us
-      → IsSphere s x (roles.Replaying r loads) → IsSphere s (moved_to us (x.progress.commits ++ c ∷ []) last q new []) (roles.Replaying new [])
-  stands_more new us last q c s few log done is commits h =
-      let cs = x.progress.commits in
-      let count : length (cs ++ c ∷ []) ≡ suc (length cs) = pushed_length cs c (length cs) refl in
-      let was : position x.progress ≡ r.done = h.kept.agrees.done in
-      record {
-        size = h.size;
-        threads = few;
-        kept = record {
-          is_log = subst IsLog (sym log) h.kept.is_log;
-          agrees = record { done = omega (arith, count, done, was); last = sym is };
-          commits = commits;
-        };
-      }
+  -- ---- where the replay leaves its log
 
-  -- after a commit of thread k that goes on it stands
-  pub stands_granted : (new : Replaying) (us : List Parts) (q : Option Request) (k : ℕ) (v : LogVerdict) (c : Commit) (s : ℕ) → length us ≤ 63 → HasGone r x.progress k x.threads v new us q
-      → IsSphere s x (roles.Replaying r loads) → IsSphere s (moved_to us (x.progress.commits ++ c ∷ []) (Some k) q new []) (roles.Replaying new [])
-  stands_granted new us q k v c s few w h =
-      let is = w.replay in
-      stands_more new us (Some k) q c s few (ap (λ (n : Replaying). n.log) is) (ap (λ (n : Replaying). n.done) is) (ap (λ (n : Replaying). n.last) is)
-      (ap (λ (n : Replaying). n.commits) is ∙ sym (ap commits_of w.threads)) h
+  fails : (why : Why) (new : Following) (t : State) (j : Judged) → record { verdict = Verdict.Diverged why; replay = new; state = t } ≡ j → (c : Commit) (words : List Stored) → answered c words (Verdict.Diverged why) new t ≡ made_of c words j
+  fails why new t j is c words = ap (made_of c words) is
 
-  -- where the replay leaves its log it stands
-  pub stands_left : (new : Replaying) (us : List Parts) (q : Option Request) (why : Why) (s : ℕ) → new ≡ diverged why r → us ≡ x.threads
-      → IsSphere s x (roles.Replaying r loads) → IsSphere s (moved_to us x.progress.commits x.progress.last q new loads) (roles.Replaying new loads)
-  stands_left new us q why s is threads h =
-      record {
-        size = h.size;
-        threads = subst (λ xs. length xs ≤ 63) (sym threads) h.threads;
-        kept = record {
-          is_log = subst IsLog (sym (ap (λ (n : Replaying). n.log) is)) h.kept.is_log;
-          agrees = record {
-            done = h.kept.agrees.done ∙ sym (ap (λ (n : Replaying). n.done) is);
-            last = h.kept.agrees.last ∙ sym (ap (λ (n : Replaying). n.last) is);
-          };
-          commits = ap (λ (n : Replaying). n.commits) is ∙ h.kept.commits ∙ sym (ap commits_of threads);
-        };
-      }
+  pub commit_left : (r : Following) (k : ℕ) (v : LogVerdict) (why : Why) (new : Following) (t : State) → IsCounted past
+      → record { verdict = Verdict.Diverged why; replay = new; state = t } ≡ judged r past.state (now_at r).progress k v
+      → answered dma_commit [] (Verdict.Diverged why) new t ≡ by_verdict (cursor_of r past.state.used loads) k v d (now_at r)
+  commit_left r k (Fails other) why new t counted is = fails why new t _ is dma_commit [] ∙ commit_moved r k (Fails other) dma_commit [] counted tt
+  commit_left r k (Goes e u) why new t counted is = absurd (not-went why (ap (λ (j : Judged). j.verdict) is))
 
-  -- after a DMA that goes on it stands
-  pub dma_stands : (new : Replaying) (q : Option Request) (v : DmaVerdict) (words : List Stored) (s : ℕ) → HasTransferred r x.progress x.threads v new q words
-      → IsSphere s x (roles.Replaying r loads) → IsSphere s (moved_to x.threads (x.progress.commits ++ dma_commit ∷ []) x.progress.last q new []) (roles.Replaying new [])
-  dma_stands new q v words s g h =
-      let is = g.replay in
-      stands_more new x.threads x.progress.last q dma_commit s h.threads (ap (λ (n : Replaying). n.log) is) (ap (λ (n : Replaying). n.done) is)
-      (ap (λ (n : Replaying). n.last) is ∙ sym h.kept.agrees.last) (ap (λ (n : Replaying). n.commits) is) h
+  pub dma_left : (r : Following) (v : DmaVerdict) (why : Why) (new : Following) (t : State) → IsCounted past
+      → record { verdict = Verdict.Diverged why; replay = new; state = t } ≡ dma_judged r past.state (now_at r).progress v
+      → answered dma_commit [] (Verdict.Diverged why) new t ≡ dma_by_verdict (cursor_of r past.state.used loads) v d (now_at r)
+  dma_left r (DmaFails other) why new t counted is = fails why new t _ is dma_commit [] ∙ dma_goes r (DmaFails other) [] counted tt
+  dma_left r (DmaGoes words) why new t counted is = absurd (not-went why (ap (λ (j : Judged). j.verdict) is))
+
+-- ---- what is counted
+
+-- an answer by which a commit goes counts one more, and one by which it doesn't leaves the state
+abbrev Counts : Verdict → (before after : State) → Type 0
+Counts Verdict.Went s t = t.commits ≡ s.commits + 1
+Counts (Verdict.Diverged why) s t = t ≡ s
+
+abbrev pub HasCounted : State → Judged → Type 0
+HasCounted s j = Counts j.verdict s j.state
+
+pub commit_counted : (r : Following) (s : State) (p : Progress) (k : ℕ) (v : LogVerdict) → HasCounted s (judged r s p k v)
+commit_counted r s p k (Fails why) = refl
+commit_counted r s p k (Goes e u) = refl
+
+pub dma_counted : (r : Following) (s : State) (p : Progress) (v : DmaVerdict) → HasCounted s (dma_judged r s p v)
+dma_counted r s p (DmaFails why) = refl
+dma_counted r s p (DmaGoes words) = refl
+
+-- ---- what stays
+
+-- the log
+pub commit_log : (r : Following) (s : State) (p : Progress) (k : ℕ) (v : LogVerdict) → (judged r s p k v).replay.log ≡ r.log
+commit_log r s p k (Fails why) = refl
+commit_log r s p k (Goes e u) = refl
+
+pub dma_log : (r : Following) (s : State) (p : Progress) (v : DmaVerdict) → (dma_judged r s p v).replay.log ≡ r.log
+dma_log r s p (DmaFails why) = refl
+dma_log r s p (DmaGoes words) = refl
+
+-- a sphere has come as far as its state says
+pub agreed : (past : Past) (role : Role) → IsCounted past → Agrees past.state (sphere_at past role).progress
+agreed past role counted = record { commits = counted; last = refl; request = refl }

@@ -17,7 +17,7 @@ use Rattle.spec_play.specs.Progress.{position}
 use Rattle.spec_play.specs.Recording.{noted, input_noted, dma_noted}
 use Rattle.spec_play.proofs.Keeping.{grows-alike}
 use Rattle.spec_log.specs.declared.LogParts.{LogParts}
-use Rattle.spec_protocol.specs.machine.Spheres.{Sphere, Record, most_in}
+use Rattle.spec_protocol.specs.machine.Spheres.{Sphere, Record}
 use Rattle.spec_protocol.specs.machine.Commits.{role_raised}
 use Rattle.spec_protocol.proofs.Moves.Threads.{AreNew}
 use Rattle.spec_protocol.proofs.Logs.Growing.{commits_in, commits_if, commits-other, commits-same, ThreadCommit, HasCommitted, has_committed-stands}
@@ -25,7 +25,8 @@ use Rattle.spec_protocol.proofs.Logs.Lookups.{none-there}
 use Rattle.spec_protocol.proofs.Logs.Coming.{Transferred, transferred-stands, WasRaised, raised-stands}
 use Rattle.spec_play.specs.Noted.{Recorded, as_log, interrupt_kept}
 use Rattle.dl_sphere.specs.Recorded.{with_commit}
-use Rattle.dl_sphere.specs.Roles.{Keeping, Plain, Recording, Replaying, role_of, HasFew, IsLive, with_noted, with_raised, CanNote, CanRaise, HasRecorded, IsKeepingOf, IsSphere}
+use Rattle.spec_play.specs.declared.used.Used.{Used}
+use Rattle.dl_sphere.specs.Roles.{Keeping, Plain, Recording, Replaying, role_of, most_of, HasFew, with_noted, with_raised, CanNote, CanRaise, HasRecorded, IsLiveOf}
 
 -- ---- the commit of a thread
 
@@ -34,7 +35,6 @@ pub record Commits (p q : Sphere) (k : ℕ) (t u : Parts) (spawned : List Parts)
   pub start : slice_get p.threads k ≡ Some t
   pub within : k ≤ 62
   pub threads : q.threads ≡ set p.threads k u ++ spawned
-  pub few : length q.threads ≤ 63
   pub commits : u.commits ≡ t.commits + 1
   pub new : AreNew spawned
   pub position_ : position q.progress ≡ suc (position p.progress)
@@ -88,12 +88,13 @@ module _ (p q : Sphere) (k : ℕ) (t u : Parts) (spawned : List Parts) (c : Comm
 
   -- it has no more threads than its part allows, if it had no more before
   abbrev pub Allows : Keeping → Type 0
-  Allows x = length p.threads ≤ most_in (role_of x) → length q.threads ≤ most_in (role_of x)
+  Allows x = length p.threads ≤ most_of x → length q.threads ≤ most_of x
 
-  keeping-after : (s : ℕ) (early : Bool) (o : Option Input) (x : Keeping) → IsLive x → Allows x → IsKeepingOf s p x → IsKeepingOf s q (with_noted c early o None x)
-  keeping-after s early o Plain live allows h = few-after h
-  keeping-after s early o (Replaying r loads) live allows h = absurd live
-  keeping-after s early o (Recording r) live allows h =
+  -- what a sphere keeps stands by it after a commit of a thread
+  pub commits_stand : (s : ℕ) (early : Bool) (o : Option Input) (x : Keeping) → Allows x → IsLiveOf s p x → IsLiveOf s q (with_noted c early o None x)
+  commits_stand s early o Plain allows h = few-after h
+  commits_stand s early o (Replaying r loads) allows h = absurd h
+  commits_stand s early o (Recording r) allows h =
       let commit : ThreadCommit = record { thread = k; before = t; after = u; spawned = spawned; commit = c; short = early; input = o } in
       let has : HasCommitted commit p q (as_log r) (as_log (with_commit c early o None r)) =
       record {
@@ -115,15 +116,6 @@ module _ (p q : Sphere) (k : ℕ) (t u : Parts) (spawned : List Parts) (c : Comm
         stands = has_committed-stands commit p q (as_log r) (as_log (with_commit c early o None r)) has h.stands;
       }
 
-  -- what a sphere keeps stands by it after a commit of a thread
-  pub commits_stand : (s : ℕ) (early : Bool) (o : Option Input) (x : Keeping) → IsLive x → Allows x → IsSphere s p x → IsSphere s q (with_noted c early o None x)
-  commits_stand s early o x live allows h =
-      record {
-        size = h.size;
-        threads = d.few;
-        kept = keeping-after s early o x live allows h.kept;
-      }
-
 -- ---- an interrupt
 
 few-same : (p q : Sphere) → q.progress ≡ p.progress → ((j : ℕ) → commits_in q.threads j ≡ commits_in p.threads j) → HasFew p → HasFew q
@@ -131,10 +123,10 @@ few-same p q progress same h =
     record { few = λ j. let e = same j in let f = h.few j in let n : position q.progress ≡ position p.progress = ap position progress in omega arith }
 
 kept-raised : (p q : Sphere) (k value : ℕ) (t : Parts) (s : ℕ) (x : Keeping) → slice_get p.threads k ≡ Some t → takes_interrupt t ≡ true → q.threads ≡ set p.threads k (interrupted value t) → q.progress ≡ p.progress
-    → ((j : ℕ) → commits_in q.threads j ≡ commits_in p.threads j) → IsLive x → IsKeepingOf s p x → IsKeepingOf s q (with_raised k t.commits value x)
-kept-raised p q k value t s Plain start takes threads progress same live h = few-same p q progress same h
-kept-raised p q k value t s (Replaying r loads) start takes threads progress same live h = absurd live
-kept-raised p q k value t s (Recording r) start takes threads progress same live h =
+    → ((j : ℕ) → commits_in q.threads j ≡ commits_in p.threads j) → IsLiveOf s p x → IsLiveOf s q (with_raised k t.commits value x)
+kept-raised p q k value t s Plain start takes threads progress same h = few-same p q progress same h
+kept-raised p q k value t s (Replaying r loads) start takes threads progress same h = absurd h
+kept-raised p q k value t s (Recording r) start takes threads progress same h =
     let was : WasRaised k value p q (as_log r) (as_log (interrupt_kept k t.commits value r)) t =
     record { start = start; takes = takes; threads = threads; progress = progress; log_ = refl }
     in
@@ -159,16 +151,9 @@ same-raised ts k j value t start =
 
 -- what a sphere keeps stands by it after an interrupt
 pub raised_stand : (p q : Sphere) (k value : ℕ) (t : Parts) (s : ℕ) (x : Keeping) → slice_get p.threads k ≡ Some t → takes_interrupt t ≡ true → q.threads ≡ set p.threads k (interrupted value t) → q.progress ≡ p.progress
-    → IsLive x → IsSphere s p x → IsSphere s q (with_raised k t.commits value x)
-raised_stand p q k value t s x start takes threads progress live h =
-    let same : (j : ℕ) → commits_in q.threads j ≡ commits_in p.threads j =
-    λ j. ap (λ ts. commits_in ts j) threads ∙ same-raised p.threads k j value t start
-    in
-    record {
-      size = h.size;
-      threads = let n : length q.threads ≡ length p.threads = ap length threads ∙ length-set p.threads k (interrupted value t) in let m = h.threads in omega arith;
-      kept = kept-raised p q k value t s x start takes threads progress same live h.kept;
-    }
+    → IsLiveOf s p x → IsLiveOf s q (with_raised k t.commits value x)
+raised_stand p q k value t s x start takes threads progress h =
+    kept-raised p q k value t s x start takes threads progress (λ j. ap (λ ts. commits_in ts j) threads ∙ same-raised p.threads k j value t start) h
 
 unmasked : (t : Parts) → takes_interrupt t ≡ true → t.mask ≡ false
 unmasked t takes =
@@ -176,19 +161,19 @@ unmasked t takes =
     elim (t.mask) as (λ (m : Bool). not m ≡ true → m ≡ false) [ true ↦ λ no. absurd (true≢false (sym no)) | false ↦ λ _. refl ] last.1
 
 -- an interrupt that its thread takes is of a new moment
-pub can_raise : (p : Sphere) (k : ℕ) (t : Parts) (s : ℕ) (x : Keeping) → slice_get p.threads k ≡ Some t → takes_interrupt t ≡ true → IsSphere s p x → CanRaise k t.commits x
+pub can_raise : (p : Sphere) (k : ℕ) (t : Parts) (s : ℕ) (x : Keeping) → slice_get p.threads k ≡ Some t → takes_interrupt t ≡ true → IsLiveOf s p x → CanRaise k t.commits x
 can_raise p k t s Plain start takes h = tt
 can_raise p k t s (Replaying r loads) start takes h = tt
 can_raise p k t s (Recording r) start takes h =
     let inside = slice_get_within p.threads k t start in
-    let few = h.kept.threads in
-    (omega arith, none-there r.interrupts k t.commits (h.kept.stands.unmasked k t start (unmasked t takes)))
+    let few = h.threads in
+    (omega arith, none-there r.interrupts k t.commits (h.stands.unmasked k t start (unmasked t takes)))
 
 -- an interrupt leaves the role that the definitions give the sphere
-pub raised_role : (k i value : ℕ) (x : Keeping) → role_of (with_raised k i value x) ≡ role_raised k i value (role_of x)
-raised_role k i value Plain = refl
-raised_role k i value (Recording r) = refl
-raised_role k i value (Replaying r loads) = refl
+pub raised_role : (u : Used) (k i value : ℕ) (x : Keeping) → role_of u (with_raised k i value x) ≡ role_raised k i value (role_of u x)
+raised_role u k i value Plain = refl
+raised_role u k i value (Recording r) = refl
+raised_role u k i value (Replaying r loads) = refl
 
 -- a thread is spawned only where there is a place for it
 pub threads_few : (most : ℕ) (ts : List Parts) (k : ℕ) (u : Parts) (spawned : Option Parts) (after : List Parts) → after ≡ set ts k u ++ spawned_list spawned → OnSome spawned (length ts < most) → length ts ≤ most → length after ≤ most
@@ -210,10 +195,11 @@ few-more : (p q : Sphere) → q.threads ≡ p.threads → position q.progress �
 few-more p q threads more h =
     record { few = λ j. let e : commits_in q.threads j ≡ commits_in p.threads j = ap (λ ts. commits_in ts j) threads in let f = h.few j in omega arith }
 
-kept-transferred : (p q : Sphere) (s : ℕ) (bytes : List ℕ) (x : Keeping) → IsLive x → q.threads ≡ p.threads → position q.progress ≡ suc (position p.progress) → IsKeepingOf s p x → IsKeepingOf s q (with_noted dma_commit false None (Some bytes) x)
-kept-transferred p q s bytes Plain live threads more h = few-more p q threads more h
-kept-transferred p q s bytes (Replaying r loads) live threads more h = absurd live
-kept-transferred p q s bytes (Recording r) live threads more h =
+-- what a sphere keeps stands by it after a DMA
+pub transferred_stand : (p q : Sphere) (s : ℕ) (bytes : List ℕ) (x : Keeping) → q.threads ≡ p.threads → position q.progress ≡ suc (position p.progress) → IsLiveOf s p x → IsLiveOf s q (with_noted dma_commit false None (Some bytes) x)
+transferred_stand p q s bytes Plain threads more h = few-more p q threads more h
+transferred_stand p q s bytes (Replaying r loads) threads more h = absurd h
+transferred_stand p q s bytes (Recording r) threads more h =
     let count : r.kept.count ≡ position p.progress = h.stands.count in
     let was : Transferred p q (as_log r) (as_log (with_commit dma_commit false None (Some bytes) r)) bytes =
     record { threads = threads; position_ = more; log_ = dma_log_at r bytes (position p.progress) count }
@@ -227,29 +213,20 @@ kept-transferred p q s bytes (Recording r) live threads more h =
       stands = transferred-stands p q (as_log r) (as_log (with_commit dma_commit false None (Some bytes) r)) bytes was h.stands;
     }
 
--- what a sphere keeps stands by it after a DMA
-pub transferred_stand : (p q : Sphere) (s : ℕ) (bytes : List ℕ) (x : Keeping) → IsLive x → q.threads ≡ p.threads → position q.progress ≡ suc (position p.progress) → IsSphere s p x → IsSphere s q (with_noted dma_commit false None (Some bytes) x)
-transferred_stand p q s bytes x live threads more h =
-    record {
-      size = h.size;
-      threads = let n : length q.threads ≡ length p.threads = ap length threads in let m = h.threads in omega arith;
-      kept = kept-transferred p q s bytes x live threads more h.kept;
-    }
-
 -- a DMA of a recorded sphere leaves its log with the commit and the bytes noted
-pub transferred_role : (p : Sphere) (s : ℕ) (bytes : List ℕ) (r : Recorded) → HasRecorded s p r → role_of (with_noted dma_commit false None (Some bytes) (Recording r)) ≡ Record (record { log = dma_noted (position p.progress) bytes (noted dma_commit (position p.progress) false (as_log r)) })
-transferred_role p s bytes r h = ap (λ l. Record (record { log = l })) (dma_log_at r bytes (position p.progress) h.stands.count)
+pub transferred_role : (u : Used) (p : Sphere) (s : ℕ) (bytes : List ℕ) (r : Recorded) → HasRecorded s p r → role_of u (with_noted dma_commit false None (Some bytes) (Recording r)) ≡ Record (record { log = dma_noted (position p.progress) bytes (noted dma_commit (position p.progress) false (as_log r)) })
+transferred_role u p s bytes r h = ap (λ l. Record (record { log = l })) (dma_log_at r bytes (position p.progress) h.stands.count)
 
 -- ---- what can be noted
 
 -- a commit of one of the threads, no larger than a standard chunk, and over 0 if it is short
-pub can_note : (s : ℕ) (p : Sphere) (x : Keeping) (k : ℕ) (c : Commit) (short : Bool) → IsSphere s p x → k < length p.threads → c.actor ≡ Actor.Thread k → c.size ≤ s → (short ≡ true → 1 ≤ c.size) → position p.progress < 2 ^ 24 → CanNote c short x
+pub can_note : (s : ℕ) (p : Sphere) (x : Keeping) (k : ℕ) (c : Commit) (short : Bool) → IsLiveOf s p x → k < length p.threads → c.actor ≡ Actor.Thread k → c.size ≤ s → (short ≡ true → 1 ≤ c.size) → position p.progress < 2 ^ 24 → CanNote c short x
 can_note s p Plain k c short h inside actor size over few = tt
 can_note s p (Replaying r loads) k c short h inside actor size over few = tt
 can_note s p (Recording r) k c short h inside actor size over few =
     record {
-      actor = subst (IsActor (new_threads r.version)) (sym actor) (omega (arith, inside, h.kept.threads));
-      size = omega (arith, size, h.kept.s);
+      actor = subst (IsActor (new_threads r.version)) (sym actor) (omega (arith, inside, h.threads));
+      size = omega (arith, size, h.s);
       over = over;
-      few = omega (arith, few, h.kept.stands.count);
+      few = omega (arith, few, h.stands.count);
     }

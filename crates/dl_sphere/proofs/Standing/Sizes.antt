@@ -2,15 +2,16 @@
 use Rattle.std.proofs.Common.{◌≡◌, ℕ, Bool, List, Option, refl}
 use Rattle.dl_entry.specs.declared.Commit.{Commit}
 use Rattle.dl_entry.specs.declared.Input.{Input}
+use Rattle.spec_play.specs.declared.used.Used.{Used}
 use Rattle.dl_sphere.specs.Roles.{Keeping, Plain, Recording, Replaying, role_of, with_noted, with_raised}
 use Rattle.dl_sphere.specs.Setups.{standard_in}
 
-pub noted_size : (s : ℕ) (c : Commit) (short : Bool) (input : Option Input) (dma : Option (List ℕ)) (x : Keeping) → standard_in s (role_of (with_noted c short input dma x)) ≡ standard_in s (role_of x)
-noted_size s c short input dma Plain = refl
-noted_size s c short input dma (Recording r) = refl
-noted_size s c short input dma (Replaying r loads) = refl
+pub noted_size : (u : Used) (s : ℕ) (c : Commit) (short : Bool) (input : Option Input) (dma : Option (List ℕ)) (x : Keeping) → standard_in s (role_of u (with_noted c short input dma x)) ≡ standard_in s (role_of u x)
+noted_size u s c short input dma Plain = refl
+noted_size u s c short input dma (Recording r) = refl
+noted_size u s c short input dma (Replaying r loads) = refl
 
-pub raised_size : (s thread index value : ℕ) (x : Keeping) → standard_in s (role_of (with_raised thread index value x)) ≡ standard_in s (role_of x)
-raised_size s thread index value Plain = refl
-raised_size s thread index value (Recording r) = refl
-raised_size s thread index value (Replaying r loads) = refl
+pub raised_size : (u : Used) (s thread index value : ℕ) (x : Keeping) → standard_in s (role_of u (with_raised thread index value x)) ≡ standard_in s (role_of u x)
+raised_size u s thread index value Plain = refl
+raised_size u s thread index value (Recording r) = refl
+raised_size u s thread index value (Replaying r loads) = refl

@@ -1,19 +1,46 @@
 -- What is true of every sphere is true before its first commit.
-use Rattle.std.proofs.Common.{◌≡◌, ℕ, zero, suc, ◌≤◌, ◌==◌, List, [], ◌∷◌, replicate, slice_index, None, inl, inr, refl, arith}
+use Rattle.std.proofs.Common.{◌≡◌, ℕ, zero, suc, ◌+◌, ◌<◌, ◌≤◌, ◌==◌, Bool, false, ◌&&◌, cond, nat_le, nat_lt, List, [], ◌∷◌, length, replicate, slice_index, Option, Some, None, inl, inr, refl, sym, ap, ◌∙◌, subst, arith}
 use Rattle.std.proofs.Math.ListN.{get_or}
-use Rattle.std.proofs.lemmas.Bool.{cases_Bool}
+use Rattle.std.proofs.lemmas.Bool.{cases_Bool, lt-leb}
+use Rattle.std.proofs.lemmas.Option.{none-some, same_Some}
 use Rattle.dl_entry.specs.declared.Commit.{Commit}
-use Rattle.spec_isa.specs.declared.thread.Parts.{Parts}
+use Rattle.dl_entry.specs.declared.End.{End}
+use Rattle.dl_entry.specs.declared.Request.{Request}
+use Rattle.dl_entry.specs.declared.Why.{Why}
 use Rattle.spec_isa.specs.Threads.{started}
+use Rattle.spec_log.specs.declared.LogParts.{LogParts}
 use Rattle.spec_log.specs.Versions.{new_threads}
-use Rattle.spec_protocol.specs.machine.Machine.{RoleSetup, IsPlain, IsRecorded, IsReplayed, SphereSetup, sphere_of, role_of as role_at}
-use Rattle.spec_protocol.specs.promises.Sound.{IsChunkSize, IsRole}
+use Rattle.spec_play.specs.declared.interval.Interval.{Interval}
+use Rattle.spec_log.specs.Log.{IsLog}
+use Rattle.spec_play.specs.Intervals.{IsWithin, IsWithinIf, before, now_in}
+use Rattle.spec_play.specs.Plays.{Played, opened, plays}
+use Rattle.spec_play.specs.Progress.{position}
+use Rattle.spec_play.specs.Resuming.{IsBounded}
+use Rattle.spec_play.specs.States.{State, state_after, state_of, resumed}
+use Rattle.spec_play.specs.Turns.{TurnOrEnd, Ended}
+use Rattle.spec_play.proofs.Bounds.{after-bounded}
+use Rattle.spec_play.proofs.Resuming.{plays_resume}
+use Rattle.spec_protocol.specs.machine.Machine.{ReplaySetup, RoleSetup, IsPlain, IsRecorded, IsReplayed, SphereSetup, first_played, sphere_as}
+use Rattle.spec_protocol.specs.machine.Spheres as machine
+use Rattle.spec_protocol.specs.machine.Spheres.{Sphere}
+use Rattle.spec_protocol.specs.promises.Sound.{IsChunkSize, IsImage, IsRole, IsSoundIf}
 use Rattle.spec_protocol.proofs.PlayingBack.All.{start-stands}
 use Rattle.spec_protocol.proofs.Logs.Growing.{commits_in}
-use Rattle.dl_sphere.specs.Inside.{sphere_with}
-use Rattle.dl_sphere.specs.Roles.{Keeping, role_of, IsKeepingOf, IsSphere}
-use Rattle.dl_sphere.specs.SizedSpheres.{SizedSphere}
-use Rattle.dl_sphere.specs.Starting.{keeping_at}
+use Rattle.spec_protocol.proofs.Sound.Plays.{replay-sound}
+use Rattle.dl_kernel.specs.States.{state_in}
+use Rattle.dl_replay.specs.Following.{followed_from}
+use Rattle.dl_replay.specs.Replays.{IsInside}
+use Rattle.dl_sphere.specs.Setups.{HasCome, IsBegunAs, IsBegunIf, begun_as, diverged_in, interval_in, replay_setup, role_setup}
+use Rattle.dl_sphere.specs.declared.setup.Begun.{Begun}
+use Rattle.dl_sphere.specs.declared.setup.Replay.{Replay}
+use Rattle.dl_sphere.specs.declared.setup.Role.{Role}
+use Rattle.spec_play.specs.Noted.{as_log, nothing_recorded}
+use Rattle.dl_kernel.specs.declared.past.Past.{Past}
+use Rattle.dl_sphere.specs.Pasts.{sphere_at, sphere_with}
+use Rattle.dl_sphere.specs.Roles.{Keeping, Plain, Recording, Replaying, role_of, HasFew, HasRecorded, IsKeepingOf, IsSphere}
+use Rattle.dl_sphere.specs.Starting.{IsReplayingIf, diverged_if, first_state, following_at, keeping_at, start_as}
+
+-- ---- a live sphere
 
 no-commits : (entry k : ℕ) → commits_in (started entry ∷ []) k ≡ 0
 no-commits entry zero = refl
@@ -24,56 +51,210 @@ zeros zero k = refl
 zeros (suc n) zero = refl
 zeros (suc n) (suc k) = zeros n k
 
-no-more : (entry k : ℕ) → commits_in (started entry ∷ []) k ≤ 0
+pub no-more : (entry k : ℕ) → commits_in (started entry ∷ []) k ≤ 0
 no-more entry k = let e = no-commits entry k in omega arith
 
-none-done : (entry k : ℕ) → slice_index (let none : ℕ = 0 in replicate 63 none) k ≡ commits_in (started entry ∷ []) k
+pub none-done : (entry k : ℕ) → slice_index (let none : ℕ = 0 in replicate 63 none) k ≡ commits_in (started entry ∷ []) k
 none-done entry zero = refl
 none-done entry (suc k) = zeros 62 k
 
 -- any version of logs has a thread
-one-thread : (version : ℕ) → 1 ≤ new_threads version
+pub one-thread : (version : ℕ) → 1 ≤ new_threads version
 one-thread version =
     elim (cases_Bool (version == 1)) [
       | inl first ↦ rw first (omega arith)
       | inr second ↦ rw second (omega arith)
     ]
 
-start_role : (s entry : ℕ) (role : RoleSetup) → role_of (keeping_at entry s role) ≡ role_at s (started entry ∷ []) role
-start_role s entry IsPlain = refl
-start_role s entry (IsRecorded asked) = refl
-start_role s entry (IsReplayed asked) = refl
+-- ---- a replay
 
-start_keeping : (s entry : ℕ) (m : List ℕ) (role : RoleSetup) → IsRole s role → IsKeepingOf s (sphere_with m (started entry ∷ []) [] None None (role_of (keeping_at entry s role))) (keeping_at entry s role)
-start_keeping s entry m IsPlain is = record { few = no-more entry }
-start_keeping s entry m (IsRecorded asked) is =
+-- the commits before an interval are counted, and then forgotten
+begun_state : (image : SphereSetup) (asked : ReplaySetup) → state_of (first_played image asked) ≡ state_after asked.log image.memory image.entry (before asked.interval)
+begun_state image asked =
+    let s : State = state_after asked.log image.memory image.entry (before asked.interval) in
+    let none : s.commits + 0 ≡ s.commits = omega arith in
+    ap (λ (n : ℕ). record s { commits = n }) none
+
+-- the state where a replay begins is within its log
+pub start_bounded : (image : SphereSetup) (asked : ReplaySetup) (s : State) → s ≡ state_of (first_played image asked) → IsBounded asked.log s
+start_bounded image asked s is =
+    subst (IsBounded asked.log) (sym (is ∙ begun_state image asked)) (after-bounded asked.log image.memory image.entry (before asked.interval))
+
+inside_if : (size : ℕ) (o : Option Request) → IsSoundIf size o → IsInside size o
+inside_if size None h = tt
+inside_if size (Some r) h = h.inside
+
+-- and its request is inside its memory
+pub start_inside : (size : ℕ) (image : SphereSetup) (asked : ReplaySetup) (s : State) → IsImage size image → image.role ≡ IsReplayed asked → s ≡ state_of (first_played image asked) → IsInside (length s.memory) s.request
+start_inside size image asked s is role same =
+    let good : IsRole size (IsReplayed asked) = subst (IsRole size) role is.role in
+    let sound = replay-sound size image asked is good.0 in
+    subst (λ (x : State). IsInside (length x.memory) x.request) (sym same)
+    (subst (λ (n : ℕ). IsInside n (first_played image asked).progress.request) (sym sound.size) (inside_if (length image.memory) (first_played image asked).progress.request sound.request))
+
+-- ---- whose turn it is where a replay begins
+
+-- the turn of a play that has done all commits before is the log's
+turn_there : (image : SphereSetup) (asked : ReplaySetup) → position (first_played image asked).progress ≡ before asked.interval
+    → let s = state_of (first_played image asked) in (resumed asked.log s).now ≡ (first_played image asked).now
+turn_there image asked done =
+    let log = asked.log in
+    let n = before asked.interval in
+    let start : Played = opened log image.memory image.entry in
+    let y : Played = plays log start n in
+    let none : position y.progress + 0 ≡ position y.progress = omega arith in
+    let again : n + 0 ≡ n = omega arith in
+    let r = plays_resume log image.memory image.entry n 0 (sym none ∙ done) in
+    ap (λ (s : State). (resumed log s).now) (begun_state image asked) ∙ r.now ∙ ap (λ (i : ℕ). (plays log start i).now) again
+
+not_over : (first last n count : ℕ) (a b : TurnOrEnd) → n < first → first ≤ last → cond (nat_le last n && nat_lt n count) a b ≡ b
+not_over first last n count a b early order =
+    let no : nat_le last n ≡ false = lt-leb last n (omega (arith, early, order)) in
+    ap (λ (x : Bool). cond (x && nat_lt n count) a b) no
+
+-- where a play diverges before an interval, so does its replay
+early_end : (i : Interval) (n count : ℕ) (why : Why) (now : TurnOrEnd) → IsWithin count i → n < i.first → now ≡ Ended (End.Diverged n why) → now_in (Some i) count n now ≡ Ended (End.Diverged n why)
+early_end i n count why now within early is =
+    ap (now_in (Some i) count n) is
+    ∙ not_over i.first i.last n count (Ended (End.At n)) (Ended (End.Diverged n why)) early within.order
+
+-- a replay of an interval that begins in a state of its log's play is where the play is
+pub start_follows : (image : SphereSetup) (log : LogParts) (i : Interval) (why : Option Why) → let asked : ReplaySetup = record { log = log; interval = Some i } in
+    IsWithin log.count i → HasCome why i (first_played image asked)
+    → diverged_if why (state_of (first_played image asked)).commits (followed_from log (Some i) (state_of (first_played image asked))) ≡ following_at asked (first_played image asked)
+start_follows image log i None within come =
+    let asked : ReplaySetup = record { log = log; interval = Some i } in
+    let y : Played = first_played image asked in
+    let s : State = state_of y in
+    let none : s.commits + 0 ≡ s.commits = omega arith in
+    let turn = turn_there image asked come in
+    (λ k. record { log = log; interval = Some i; now = now_in (Some i) log.count (none k) (turn k); total = 0 })
+start_follows image log i (Some why) within come =
+    let asked : ReplaySetup = record { log = log; interval = Some i } in
+    let y : Played = first_played image asked in
+    let now = early_end i (position y.progress) log.count why y.now within come.0 come.1 in
+    (λ k. record { log = log; interval = Some i; now = sym now k; total = 0 })
+
+-- one that replays the whole log is, too
+pub start_follows_all : (image : SphereSetup) (log : LogParts) → let asked : ReplaySetup = record { log = log; interval = None } in
+    followed_from log None (state_of (first_played image asked)) ≡ following_at asked (first_played image asked)
+start_follows_all image log = refl
+
+-- ---- by its setup
+
+within-if : (image : SphereSetup) (asked : ReplaySetup) (o : Option Begun) → IsBegunIf image asked o → IsWithinIf asked.log.count (interval_in o)
+within-if image asked None h = tt
+within-if image asked (Some b) h = h.within
+
+-- what is replayed is a log, and an interval is within it
+pub role_of_replay : (s : ℕ) (image : SphereSetup) (r : Replay) → IsLog r.log → IsBegunIf image (replay_setup r) r.begun → IsRole s (IsReplayed (replay_setup r))
+role_of_replay s image r good h = (good, within-if image (replay_setup r) r.begun h)
+
+follows-start : (image : SphereSetup) (log : LogParts) (o : Option Begun) (s : State) → let asked : ReplaySetup = record { log = log; interval = interval_in o } in
+    IsBegunIf image asked o → s ≡ state_of (first_played image asked)
+    → diverged_if (diverged_in o) s.commits (followed_from log (interval_in o) s) ≡ following_at asked (first_played image asked)
+follows-start image log None s h is = ap (followed_from log None) is ∙ start_follows_all image log
+follows-start image log (Some b) s h is =
+    ap (λ (x : State). diverged_if b.diverged x.commits (followed_from log (Some b.interval) x)) is
+    ∙ start_follows image log b.interval b.diverged h.within h.come
+
+-- its player is where its log's play is
+pub follows_start : (image : SphereSetup) (r : Replay) (s : State) → IsBegunIf image (replay_setup r) r.begun → s ≡ state_of (first_played image (replay_setup r))
+    → diverged_if (diverged_in r.begun) s.commits (followed_from r.log (interval_in r.begun) s) ≡ following_at (replay_setup r) (first_played image (replay_setup r))
+follows_start image r s h is = follows-start image r.log r.begun s h is
+
+first-start : (image : SphereSetup) (log : LogParts) (o : Option Begun) → o ≡ None → first_state image ≡ start_as image (IsReplayed (record { log = log; interval = interval_in o }))
+first-start image log None is = refl
+first-start image log (Some b) is = absurd (none-some b (sym is))
+
+-- unless an interval is replayed, the sphere starts with its image
+pub starts_first : (image : SphereSetup) (role : Role) → begun_as role ≡ None → first_state image ≡ start_as image (role_setup role)
+starts_first image Role.Plain is = refl
+starts_first image (Role.Record version mode) is = refl
+starts_first image (Role.Replay r) is = first-start image r.log r.begun is
+
+begun-start : (image : SphereSetup) (log : LogParts) (o : Option Begun) (b : Begun) → o ≡ Some b → IsBegunIf image (record { log = log; interval = interval_in o }) o
+    → state_in b.state ≡ start_as image (IsReplayed (record { log = log; interval = interval_in o }))
+begun-start image log None b is h = absurd (none-some b is)
+begun-start image log (Some other) b is h = ap (λ (x : Begun). state_in x.state) (sym (same_Some _ _ is)) ∙ h.state
+
+unless-begun : (image : SphereSetup) (asked : ReplaySetup) (o : Option Begun) → o ≡ None → IsBegunIf image asked o
+unless-begun image asked None is = tt
+unless-begun image asked (Some b) is = absurd (none-some b (sym is))
+
+-- and nothing is asked of where it begins
+pub unless_begun : (image : SphereSetup) (role : Role) → begun_as role ≡ None → IsBegunAs image role
+unless_begun image Role.Plain is = tt
+unless_begun image (Role.Record version mode) is = tt
+unless_begun image (Role.Replay r) is = unless-begun image (replay_setup r) r.begun is
+
+-- else where the interval begins
+pub starts_begun : (image : SphereSetup) (role : Role) (b : Begun) → begun_as role ≡ Some b → IsBegunAs image role → state_in b.state ≡ start_as image (role_setup role)
+starts_begun image Role.Plain b is h = absurd (none-some b is)
+starts_begun image (Role.Record version mode) b is h = absurd (none-some b is)
+starts_begun image (Role.Replay r) b is h = begun-start image r.log r.begun b is h
+
+-- ---- the whole sphere
+
+-- a state and what is kept at it stand together, except of a replay
+abbrev pub AloneOr : (s : ℕ) → State → List Commit → Keeping → Type 0
+AloneOr s st cs Plain = HasFew (sphere_with st.commits st.memory st.threads cs st.last st.request machine.Plain)
+AloneOr s st cs (Recording r) = HasRecorded s (sphere_with st.commits st.memory st.threads cs st.last st.request (machine.Record (record { log = as_log r }))) r
+AloneOr s st cs (Replaying r loads) = Unit {0}
+
+start_alone : (s : ℕ) (image : SphereSetup) (role : RoleSetup) → AloneOr s (start_as image role) [] (keeping_at image s role)
+start_alone s image IsPlain = record { few = no-more image.entry }
+start_alone s image (IsRecorded asked) =
     record {
-      few = record { few = no-more entry };
+      few = record { few = no-more image.entry };
       s = refl;
       threads = one-thread asked.version;
       all = refl;
-      done = none-done entry;
-      stands = start-stands s (record { memory = m; entry = entry; role = IsRecorded asked }) asked.version asked.mode;
+      done = none-done image.entry;
+      stands = start-stands s image (machine.Record (record { log = as_log (nothing_recorded asked.version asked.mode s) })) asked.version asked.mode;
     }
-start_keeping s entry m (IsReplayed asked) is =
-    record { is_log = is; agrees = record { done = refl; last = refl }; commits = refl }
+start_alone s image (IsReplayed asked) = tt
 
--- a sphere of these parts is at the start of its setup
-pub record Starts (s : ℕ) (setup : SphereSetup) (m : List ℕ) (ts : List Parts) (cs : List Commit) (x : Keeping) : Type 0 where
-  pub memory : m ≡ setup.memory
-  pub threads : ts ≡ started setup.entry ∷ []
-  pub commits : cs ≡ []
-  pub kept : x ≡ keeping_at setup.entry s setup.role
+kept-from : (s : ℕ) (past : Past) (x : Keeping) → past.state.commits ≡ past.first → AloneOr s (state_in past.state) past.commits.items x → IsReplayingIf x past.state → IsKeepingOf s past x
+kept-from s past Plain first h at =
+    subst (λ (n : ℕ). HasFew (sphere_with n past.state.memory past.state.threads past.commits.items past.state.last past.state.request machine.Plain)) first h
+kept-from s past (Recording r) first h at =
+    subst (λ (n : ℕ). HasRecorded s (sphere_with n past.state.memory past.state.threads past.commits.items past.state.last past.state.request (machine.Record (record { log = as_log r }))) r) first h
+kept-from s past (Replaying r loads) first h at = at
+
+-- a sphere's past and what it keeps are at the start of its setup
+pub record Starts (s : ℕ) (image : SphereSetup) (past : Past) (x : Keeping) : Type 0 where
+  pub state : state_in past.state ≡ start_as image image.role
+  pub first : past.state.commits ≡ past.first
+  pub commits : past.commits.items ≡ []
+  pub kept : x ≡ keeping_at image s image.role
+  pub at : IsReplayingIf x past.state
 
 -- a sphere that has just been set up stands
-pub start_standing : (s : ℕ) (setup : SphereSetup) (m : List ℕ) (ts : List Parts) (cs : List Commit) (x : Keeping) → IsChunkSize s → IsRole s setup.role → Starts s setup m ts cs x
-    → IsSphere s (sphere_with m ts cs None None (role_of x)) x
-start_standing s setup m ts cs x size is h =
-    rw (h.threads, h.commits, h.kept)
-    (record { size = size; threads = omega arith; kept = start_keeping s setup.entry m setup.role is })
+pub start_standing : (s : ℕ) (image : SphereSetup) (past : Past) (x : Keeping) → IsChunkSize s → Starts s image past x → IsSphere s past x
+start_standing s image past x size h =
+    let here : AloneOr s (state_in past.state) past.commits.items x =
+    subst (AloneOr s (state_in past.state) past.commits.items) (sym h.kept)
+    (subst (λ (st : State). AloneOr s st past.commits.items (keeping_at image s image.role)) (sym h.state)
+    (subst (λ (cs : List Commit). AloneOr s (start_as image image.role) cs (keeping_at image s image.role)) (sym h.commits) (start_alone s image image.role)))
+    in
+    let none : length past.commits.items ≡ 0 = ap length h.commits in
+    let first = h.first in
+    record { size = size; counted = omega (arith, none, first); kept = kept-from s past x h.first here h.at }
 
--- a sphere that has just been set up is seen as its setup starts it
-pub start_seen : (s : ℕ) (setup : SphereSetup) (m : List ℕ) (ts : List Parts) (cs : List Commit) (x : Keeping) → Starts s setup m ts cs x
-    → let v : SizedSphere = record { s = s; sphere = sphere_with m ts cs None None (role_of x) } in v ≡ record { s = s; sphere = sphere_of s setup }
-start_seen s setup m ts cs x h =
-    rw (h.memory, h.threads, h.commits, h.kept, start_role s setup.entry setup.role) refl
+abbrev seen_at : State → (first : ℕ) → List Commit → Keeping → Sphere
+seen_at st first cs x = sphere_with first st.memory st.threads cs st.last st.request (role_of st.used x)
+
+start_as_seen : (s : ℕ) (image : SphereSetup) (role : RoleSetup) → seen_at (start_as image role) (start_as image role).commits [] (keeping_at image s role) ≡ sphere_as s image role
+start_as_seen s image IsPlain = refl
+start_as_seen s image (IsRecorded asked) = refl
+start_as_seen s image (IsReplayed asked) =
+    let y : Played = first_played image asked in
+    let none : y.progress.first + 0 ≡ y.progress.first = omega arith in
+    ap (λ (n : ℕ). seen_at (state_of y) n [] (Replaying (following_at asked y) [])) none
+
+-- and is seen as its setup starts it
+pub start_seen : (s : ℕ) (image : SphereSetup) (past : Past) (x : Keeping) → Starts s image past x → sphere_at past (role_of past.state.used x) ≡ sphere_as s image image.role
+start_seen s image past x h =
+    let both : past.first ≡ (start_as image image.role).commits = sym h.first ∙ ap (λ (st : State). st.commits) h.state in
+    (λ i. seen_at (h.state i) (both i) (h.commits i) (h.kept i)) ∙ start_as_seen s image image.role

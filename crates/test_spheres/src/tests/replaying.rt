@@ -1,15 +1,17 @@
 //! Logs of one commit, and how their replays end.
-ghost use Rattle.std.specs.Prelude.{◌≡◌, ◌∷◌, []};
+ghost use Rattle.std.specs.Prelude.{◌≡◌, ◌∷◌, [], IfOk};
 ghost use Rattle.spec_isa.specs.Threads.{started};
-ghost use Rattle.spec_play.specs.Turns.{Turn, TurnOfDma};
-ghost use Rattle.dl_replay.specs.Replaying.{commits_of};
+ghost use Rattle.spec_play.specs.Turns.{Turn};
+ghost use Rattle.dl_replay.specs.Replays.{IsReplaying};
+ghost use Rattle.test_spheres.specs.Replaying.{IsFirst};
 
 use dl_entry::{Actor, End, OutOfMemory, Why};
 use dl_logfmt::read_log;
 use dl_mem::Memory;
 use dl_mode::{Noting, OrderAndSize, OrderOnly, PicoLog};
 use dl_replay::Replayer;
-use dl_thread::Threads;
+use dl_kernel::State;
+use dl_thread::Thread;
 use spec_log::{Log, ModeName};
 use std::alloc::Global;
 use std::test::Fail;
@@ -35,25 +37,29 @@ struct Row {
 
 #[test]
 fn replays_end_where_they_leave_their_logs(rt: HostRuntime) -> Result<(), Fail> {
-    let memory = memory(rt.alloc(), FILE)?;
+    let start = start(rt.alloc(), FILE)?;
     for row in ROWS {
-        let end = ended(rt.alloc(), row, &memory)?;
+        let end = ended(rt.alloc(), row, &start)?;
         assert!(rt; end == Some(row.end));
     }
     Ok(())
 }
 
-fn memory(alloc: Global, file: &[u8]) -> Result<Memory, Fail> {
+fn start(alloc: Global, file: &[u8]) -> Result<State, Fail>
+    ensures { IfOk result IsFirst }
+{
     let image = dl_elf::load(alloc, file, 4096)?;
-    Ok(Memory::new(alloc, &image)?)
+    Ok(State::first(Memory::new(alloc, &image)?, 0))
 }
 
-fn ended(alloc: Global, row: &Row, memory: &Memory) -> Result<Option<End>, Fail> {
+fn ended(alloc: Global, row: &Row, start: &State) -> Result<Option<End>, Fail>
+    requires { IsFirst start.now }
+{
     let log = read_log(alloc, row.log)?;
     match log.parts().mode {
-        ModeName::OrderSize => ended_in::<OrderAndSize>(alloc, &log, row, memory),
-        ModeName::OrderOnly => ended_in::<OrderOnly>(alloc, &log, row, memory),
-        ModeName::Picolog => ended_in::<PicoLog>(alloc, &log, row, memory),
+        ModeName::OrderSize => ended_in::<OrderAndSize>(alloc, &log, row, start),
+        ModeName::OrderOnly => ended_in::<OrderOnly>(alloc, &log, row, start),
+        ModeName::Picolog => ended_in::<PicoLog>(alloc, &log, row, start),
     }
 }
 
@@ -62,14 +68,18 @@ fn ended_in<M: Noting>(
     alloc: Global,
     log: &Log,
     row: &Row,
-    memory: &Memory,
+    start: &State,
 ) -> Result<Option<End>, Fail>
-    requires { log.now.mode ≡ M.mode }
+    requires mode { log.now.mode ≡ M.mode }
+    requires start { IsFirst start.now }
 {
-    let mut replayer = Replayer::<M>::new(alloc, log)?;
+    let mut state = start.again(alloc)?;
+    let mut replayer = Replayer::<M>::at(alloc, log, None, &state)?;
     match replayer.head() {
-        Some(Actor::Thread(thread)) => ask(&mut replayer, thread, row, memory)?,
-        Some(Actor::Dma) => ask_for_dma(&mut replayer, memory)?,
+        Some(Actor::Thread(thread)) => ask(&mut replayer, thread, row, &mut state)?,
+        Some(Actor::Dma) => {
+            let _ = replayer.serve_dma(&mut state)?;
+        }
         None => {}
     }
     Ok(replayer.ended())
@@ -80,29 +90,21 @@ fn ask<M: Noting>(
     replayer: &mut Replayer<M>,
     thread: u8,
     row: &Row,
-    memory: &Memory,
+    state: &mut State,
 ) -> Result<(), OutOfMemory>
     requires turn { replayer.old.now ≡ Turn thread }
-    requires commits { replayer.old.commits ≡ commits_of (started 0 ∷ []) }
+    requires at { IsReplaying replayer.old state.old }
+    requires threads { state.old.threads ≡ started 0 ∷ [] }
+    requires commits { state.old.commits ≡ 0 }
 {
-    let mut threads = Threads::start(0);
     if thread != 0 {
         return Ok(());
     }
     if row.serial && row.total == 0 {
-        let _ = replayer.serve_step(thread, &mut threads, &mut None, memory)?;
+        let _ = replayer.serve_step(thread, state)?;
         return Ok(());
     }
-    let _ = replayer.end_chunk(thread, row.total, &mut threads);
-    Ok(())
-}
-
-/// The DMA is done, which nobody asked for.
-fn ask_for_dma<M: Noting>(replayer: &mut Replayer<M>, memory: &Memory) -> Result<(), OutOfMemory>
-    requires turn { replayer.old.now ≡ TurnOfDma }
-    requires commits { replayer.old.commits ≡ commits_of (started 0 ∷ []) }
-{
-    let _ = replayer.serve_dma(&Threads::start(0), &mut None, memory)?;
+    let _ = replayer.end_chunk(thread, &Thread::started(0), row.total, state);
     Ok(())
 }
 

@@ -1,13 +1,13 @@
 //! Spheres in each of their roles.
-ghost use Rattle.std.specs.Prelude.{◌≡◌, ℕ, IfOk, length};
+ghost use Rattle.std.specs.Prelude.{◌≡◌, ℕ, None, IfOk, length};
 ghost use Rattle.spec_log.specs.Versions.{IsStandard};
-ghost use Rattle.dl_sphere.specs.Setups.{IsRecordableIf, role_setup};
+ghost use Rattle.dl_sphere.specs.Setups.{IsRecordableIf, begun_as, role_setup};
 
 mod beginnings;
 mod moves;
 
 use dl_logfmt::read_log;
-use dl_sphere::{Role, Sphere, SphereSetup};
+use dl_sphere::{Replay, Role, Sphere, SphereSetup};
 use spec_log::ModeName;
 use std::alloc::Global;
 use std::test::Fail;
@@ -19,6 +19,7 @@ enum Begins {
     Replayed(&'static [u8]),
 }
 
+#[tactic(auto, using(dl_sphere::proofs::Standing::Start::unless_begun))]
 fn begin(alloc: Global, file: &[u8], begins: Begins, s: u32) -> Result<Sphere, Fail>
     requires { IsStandard 1 s }
     ensures { IfOk result (λ p. length p.sphere.threads ≡ 1) }
@@ -31,11 +32,15 @@ fn begin(alloc: Global, file: &[u8], begins: Begins, s: u32) -> Result<Sphere, F
 }
 
 fn role(alloc: Global, begins: Begins) -> Result<Role, Fail>
-    ensures { IfOk result (λ role. (s : ℕ) → IsStandard 1 s → IsRecordableIf s (role_setup role)) }
+    ensures recorded { IfOk result (λ role. (s : ℕ) → IsStandard 1 s → IsRecordableIf s (role_setup role)) }
+    ensures begun { IfOk result (λ role. begun_as role ≡ None) }
 {
     match begins {
         Begins::Plain => Ok(Role::Plain),
         Begins::Recorded(mode) => Ok(Role::Record { version: 1, mode }),
-        Begins::Replayed(bytes) => Ok(Role::Replay(read_log(alloc, bytes)?)),
+        Begins::Replayed(bytes) => Ok(Role::Replay(Replay {
+            log: read_log(alloc, bytes)?,
+            begun: None,
+        })),
     }
 }

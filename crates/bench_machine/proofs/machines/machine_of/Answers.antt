@@ -3,7 +3,7 @@ use Rattle.std.proofs.lemmas.List.{map-append}
 use Rattle.std.proofs.lemmas.List.Elements.{All-push}
 use Rattle.spec_protocol.specs.machine.Machine as protocol
 use Rattle.dl_sphere.specs.declared.setup.SphereSetup.{SphereSetup}
-use Rattle.dl_sphere.specs.Setups.{IsRecordableIf, role_setup, setup_of}
+use Rattle.dl_sphere.specs.Setups.{HasBegun, IsRecordableIf, role_setup, setup_of}
 use Rattle.bench_machine.proofs.machines.machine_of.Goals as goal
 
 abbrev is_recordable : protocol.SphereSetup → Type 0
@@ -16,5 +16,12 @@ pushed xs ys x more is all =
     (subst (λ (zs : List protocol.SphereSetup). All is_recordable zs) (sym (map-append setup_of xs (x ∷ [])))
     (All-push is_recordable (map setup_of xs) (setup_of x) all is))
 
+begun-more : (xs ys : List SphereSetup) (x : SphereSetup) → ys ≡ xs ++ x ∷ [] → HasBegun x → All HasBegun xs → All HasBegun ys
+begun-more xs ys x more is all = subst (All HasBegun) (sym more) (All-push HasBegun xs x all is)
+
 pub loop-preserved : goal.loop-preserved
-loop-preserved c = pushed c.loop.spheres _ _ c.in_ok-push.ensures.ok (inl (refl, refl), (omega arith, omega arith)) c.loop.invariant
+loop-preserved c =
+    record {
+      recorded = pushed c.loop.spheres _ _ c.in_ok-push.ensures.ok (inl (refl, refl), (omega arith, omega arith)) c.loop.invariant.recorded;
+      begun = begun-more c.loop.spheres _ _ c.in_ok-push.ensures.ok tt c.loop.invariant.begun;
+    }

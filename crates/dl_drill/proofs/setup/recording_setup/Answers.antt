@@ -22,4 +22,5 @@ returns-clause-within c =
       recorded =
           subst (λ (xs : List SphereSetup). All (λ image. IsRecordableIf 64 image.role) xs) (sym c.in_ok-spheres.ensures.value)
           (one_recordable 64 _ (inl (refl, refl), (omega arith, omega arith)));
+      begun = c.in_ok-spheres.ensures.begun;
     }

@@ -1,46 +1,25 @@
-use Rattle.std.proofs.Common.{◌≡◌, ℕ, ◌+◌, ◌<◌, ◌≤◌, Bool, true, false, List, [], length, refl, sym, ap, subst, ◌∙◌, arith, zero-add}
-use Rattle.std.specs.Prelude.{slice_index}
-use Rattle.std.proofs.lemmas.Bool.{true≢false}
-use Rattle.spec_engine.specs.declared.answers.How.{How}
-use Rattle.dl_entry.specs.declared.Commit.{Commit}
+use Rattle.std.proofs.Common.{◌≡◌, ◌+◌, ◌≤◌, ◌∷◌, ◌++◌, Bool, true, false, [], length, suc, refl, sym, ap, subst, ◌∙◌, arith}
 use Rattle.spec_isa.specs.Runs.{Run}
 use Rattle.spec_play.specs.Effects.{chunk_commit}
-use Rattle.spec_play.specs.Progress.{position}
-use Rattle.spec_protocol.specs.machine.Asking.{is_short}
+use Rattle.spec_play.specs.Verdicts.{chunk_verdict}
 use Rattle.spec_protocol.specs.machine.Commits.{Diverged, Granted, Piece, is_piece, joined, chunk_moved, replayed_chunk}
-use Rattle.spec_protocol.specs.machine.Spheres.{Cursor, Replay, limit_in}
-use Rattle.dl_replay.specs.Replaying.{commits_at}
-use Rattle.dl_replay.proofs.Counts.{commits-found}
+use Rattle.spec_protocol.specs.machine.Spheres.{Cursor, Replay}
+use Rattle.spec_protocol.proofs.Logs.Growing.{pushed_length}
+use Rattle.spec_log.proofs.Threads.{log-among}
+use Rattle.dl_kernel.specs.declared.state.State.{State}
+use Rattle.dl_replay.specs.Judged.{Judged}
 use Rattle.dl_sphere.specs.Inside.{cursor_in, replayed_at}
-use Rattle.dl_sphere.proofs.Replays.Limits.{part-fits}
+use Rattle.dl_sphere.proofs.Replays.Judging.{chunk_is}
+use Rattle.dl_sphere.proofs.Replays.Limits.{part_fits}
+use Rattle.dl_sphere.proofs.Replays.Moved.{HasCounted, agreed, commit_counted, commit_log, commit_moved, in_state, made_of}
 use Rattle.dl_sphere.proofs.replaying.commit_part.Goals as goal
 
--- a piece is short
-short_piece : (s : ℕ) (how : How) (limit : ℕ) → is_piece how ≡ true → is_short s how limit ≡ true
-short_piece s How.Limit limit is = absurd (true≢false (sym is))
-short_piece s How.Serial limit is = absurd (true≢false (sym is))
-short_piece s How.Overflow limit is = refl
-short_piece s How.Cut limit is = refl
-
-pub commit_piece-requires-clause-some : goal.commit_piece-requires-clause-some
-commit_piece-requires-clause-some g c =
+pub commit_piece-requires-clause-fits : goal.commit_piece-requires-clause-fits
+commit_piece-requires-clause-fits g c =
     let can = c.requires.1.1.0.1 in
-    let piece : is_piece g.how ≡ true = sym (c.is_piece.ensures g.how can.closed) ∙ c.if-is_piece.true in
-    can.some (short_piece c.requires.1.1.0.0 g.how c.args.chunk.now.chunk.limit piece)
-
-pub commit_piece-requires-clause-few : goal.commit_piece-requires-clause-few
-commit_piece-requires-clause-few g c =
-    let can = c.requires.1.1.0.1 in
-    let ts = c.args.past.now.state.threads in
-    let k = c.args.thread in
     let ch = c.args.chunk.now.chunk in
-    let b = cursor_in c.args.replay.now in
-    let piece : is_piece g.how ≡ true = sym (c.is_piece.ensures g.how can.closed) ∙ c.if-is_piece.true in
-    let same : ch.done.thread.commits ≡ slice_index c.args.replay.now.player.commits k =
-    can.commits c.thread_at.result c.thread_at.ensures.thread ∙ sym (ap commits_at c.thread_at.ensures.thread)
-    ∙ sym (commits-found ts k c.thread_at.ensures.few) ∙ sym (ap (λ (xs : List _). slice_index xs k) c.requires.1.1.1.1.commits)
-    in
-    subst (λ n. ch.done.n < limit_in (Replay b) 0 k n) same (subst (λ l. ch.done.n < l) can.part.limit (can.part.early piece))
+    let b = cursor_in c.args.past.now c.args.replay.now in
+    part_fits b c.args.thread ch.done.n ch.done.thread c.requires.1.1.1.replaying.is_log can.part.turn can.part.room (subst (λ n. ch.done.n ≤ n) can.part.limit can.part.most)
 
 pub returns-then-is_piece-clause-moved : goal.returns-then-is_piece-clause-moved
 unfolding chunk_moved
@@ -56,59 +35,143 @@ returns-then-is_piece-clause-moved g c short d =
       words = (c.in_ok-words.ensures ∙ c.words.ensures.words) i;
       devices = d;
     })
-    ∙ ap (λ (x : Bool). replayed_chunk x (cursor_in c.args.replay.now) k run d p) (sym piece)
+    ∙ ap (λ (x : Bool). replayed_chunk x (cursor_in c.args.past.now c.args.replay.now) k run d p) (sym piece)
 
 pub overflow_add-size : goal.overflow_add-size
 overflow_add-size g c =
     let can = c.requires.1.1.0.1 in
-    let k = c.args.thread in
     let ch = c.args.chunk.now.chunk in
-    let b = cursor_in c.args.replay.now in
-    let fits = part-fits b k ch.done.n ch.done.thread c.requires.1.1.1.1.is_log can.part.room (subst (λ n. ch.done.n ≤ n) can.part.limit can.part.most) in
+    let b = cursor_in c.args.past.now c.args.replay.now in
+    let is = c.requires.1.1.1.replaying.is_log in
+    let fits = part_fits b c.args.thread ch.done.n ch.done.thread is can.part.turn can.part.room (subst (λ n. ch.done.n ≤ n) can.part.limit can.part.most) in
+    let most = (log-among b.log is).most in
     let total = c.pieces.ensures in
     let n = c.n.ensures.value in
-    omega (arith, fits, total, n)
+    omega (arith, fits, most, total, n)
 
-pub returns-in-None-clause-moved : goal.returns-in-None-clause-moved
+pub returns-in-Went-clause-moved : goal.returns-in-Went-clause-moved
 unfolding chunk_moved
-returns-in-None-clause-moved g c short d =
+returns-in-Went-clause-moved g c short d =
     let can = c.requires.1.1.0.1 in
-    let k = c.args.thread in
+    let past = c.args.past.now in
     let replay = c.args.replay.now in
+    let loads = replay.loads.items in
+    let r = replay.player in
+    let k = c.args.thread in
+    let s = past.state in
     let run = c.args.chunk.now.chunk.done in
-    let b : Cursor = cursor_in replay in
-    let p = replayed_at c.args.past.now replay in
+    let b : Cursor = cursor_in past replay in
+    let x = replayed_at past replay in
+    let counted = c.requires.1.1.1.counted in
+    let agrees = agreed past (Replay b) counted in
     let all : Run = joined b run in
-    let whole : c.in_ok-commit.commit ≡ chunk_commit k all = c.in_ok-commit.ensures b (sym c.deref-2.ensures.value) (λ i. c.pieces.ensures i + c.n.ensures.value i) in
-    let said = rw c.in-None.is at (c.in_ok-end_chunk.ensures.moved all d (sym c.state.ensures) (sym (ap (λ (x : Commit). x.size) whole)) whole) in
+    let commit = c.in_ok-commit.commit in
+    let size : all.n ≡ c.pieces.result + c.n.result = (λ i. sym c.pieces.ensures i + sym c.n.ensures.value i) in
+    let whole : commit ≡ chunk_commit k all = c.in_ok-commit.ensures b (sym c.deref.ensures.value) (λ i. c.pieces.ensures i + c.n.ensures.value i) in
+    let v = chunk_verdict r.log x.progress s.used k all in
+    let said = rw c.in-Went.is at (c.end_chunk.ensures.judged x.progress all agrees (sym c.state.ensures) size) in
     let piece : false ≡ is_piece g.how = sym c.if-is_piece.false ∙ c.is_piece.ensures g.how can.closed in
+    let commits : c.push_reserved.new.self.items ≡ past.commits.items ++ chunk_commit k all ∷ [] =
+    c.push_reserved.ensures.items ∙ (λ i. c.in_ok-reserve.ensures.items i ++ whole i ∷ [])
+    in
     (λ i. record {
       outcome = Granted;
-      sphere = replayed_at c.end_chunk.new.past c.end_chunk.new.replay;
+      sphere = in_state past loads d c.end_chunk.new.state (commits i) c.end_chunk.new.self (c.clear.ensures.items i);
       words = (c.in_ok-words.ensures ∙ c.words.ensures.words) i;
       devices = d;
     })
-    ∙ said ∙ ap (λ (x : Bool). replayed_chunk x b k run d p) piece
+    ∙ ap (made_of past loads d (chunk_commit k all) run.words) said
+    ∙ commit_moved past loads d r k v (chunk_commit k all) run.words counted (chunk_is r.log x.progress s.used k all)
+    ∙ ap (λ (y : Bool). replayed_chunk y b k run d x) piece
 
-pub returns-in-Some-clause-moved : goal.returns-in-Some-clause-moved
-unfolding chunk_moved
-returns-in-Some-clause-moved g c short d =
-    let can = c.requires.1.1.0.1 in
-    let k = c.args.thread in
+pub returns-in-Went-clause-at : goal.returns-in-Went-clause-at
+returns-in-Went-clause-at g c =
     let past = c.args.past.now in
     let replay = c.args.replay.now in
+    let r = replay.player in
+    let k = c.args.thread in
+    let s = past.state in
+    let b : Cursor = cursor_in past replay in
+    let x = replayed_at past replay in
+    let was = c.requires.1.1.1.counted in
+    let all : Run = joined b c.args.chunk.now.chunk.done in
+    let size : all.n ≡ c.pieces.result + c.n.result = (λ i. sym c.pieces.ensures i + sym c.n.ensures.value i) in
+    let said = rw c.in-Went.is at (c.end_chunk.ensures.judged x.progress all (agreed past (Replay b) was) (sym c.state.ensures) size) in
+    let more = subst (HasCounted s) (sym said) (commit_counted r s x.progress k (chunk_verdict r.log x.progress s.used k all)) in
+    let commit = c.in_ok-commit.commit in
+    let count : length c.push_reserved.new.self.items ≡ suc (length past.commits.items) =
+    ap length (c.push_reserved.ensures.items ∙ ap (λ xs. xs ++ commit ∷ []) c.in_ok-reserve.ensures.items) ∙ pushed_length past.commits.items commit (length past.commits.items) refl
+    in
+    record { replaying = c.end_chunk.ensures.at; counted = omega (arith, was, more, count) }
+
+pub returns-in-Went-clause-log : goal.returns-in-Went-clause-log
+returns-in-Went-clause-log g c =
+    let past = c.args.past.now in
+    let replay = c.args.replay.now in
+    let s = past.state in
+    let b : Cursor = cursor_in past replay in
+    let x = replayed_at past replay in
+    let all : Run = joined b c.args.chunk.now.chunk.done in
+    let size : all.n ≡ c.pieces.result + c.n.result = (λ i. sym c.pieces.ensures i + sym c.n.ensures.value i) in
+    ap (λ (j : Judged). j.replay.log) (c.end_chunk.ensures.judged x.progress all (agreed past (Replay b) c.requires.1.1.1.counted) (sym c.state.ensures) size)
+    ∙ commit_log replay.player s x.progress c.args.thread (chunk_verdict replay.player.log x.progress s.used c.args.thread all)
+
+pub returns-in-Diverged-clause-moved : goal.returns-in-Diverged-clause-moved
+unfolding chunk_moved
+returns-in-Diverged-clause-moved g c short d =
+    let can = c.requires.1.1.0.1 in
+    let past = c.args.past.now in
+    let replay = c.args.replay.now in
+    let loads = replay.loads.items in
+    let r = replay.player in
+    let k = c.args.thread in
+    let s = past.state in
     let run = c.args.chunk.now.chunk.done in
-    let b : Cursor = cursor_in replay in
-    let p = replayed_at past replay in
+    let b : Cursor = cursor_in past replay in
+    let x = replayed_at past replay in
+    let counted = c.requires.1.1.1.counted in
     let all : Run = joined b run in
-    let whole : c.in_ok-commit.commit ≡ chunk_commit k all = c.in_ok-commit.ensures b (sym c.deref-2.ensures.value) (λ i. c.pieces.ensures i + c.n.ensures.value i) in
-    let said = rw c.in-Some.is at (c.in_ok-end_chunk.ensures.moved all d (sym c.state.ensures) (sym (ap (λ (x : Commit). x.size) whole)) whole) in
+    let size : all.n ≡ c.pieces.result + c.n.result = (λ i. sym c.pieces.ensures i + sym c.n.ensures.value i) in
+    let v = chunk_verdict r.log x.progress s.used k all in
+    let said = rw c.in-Diverged.is at (c.end_chunk.ensures.judged x.progress all (agreed past (Replay b) counted) (sym c.state.ensures) size) in
+    let still : c.end_chunk.new.state ≡ s = subst (HasCounted s) (sym said) (commit_counted r s x.progress k v) in
     let piece : false ≡ is_piece g.how = sym c.if-is_piece.false ∙ c.is_piece.ensures g.how can.closed in
-    let done : c.count-done.result ≡ position p.progress = c.count-done.ensures ∙ ap length c.deref.ensures.value ∙ sym (zero-add (length past.commits.items)) in
     (λ i. record {
-      outcome = Diverged (done i) c.in-Some.why;
-      sphere = replayed_at c.end_chunk.new.past c.end_chunk.new.replay;
+      outcome = Diverged (still i).commits c.in-Diverged.why;
+      sphere = in_state past loads d c.end_chunk.new.state (c.in_ok-reserve.ensures.items i) c.end_chunk.new.self loads;
       words = [];
       devices = d;
     })
-    ∙ said ∙ ap (λ (x : Bool). replayed_chunk x b k run d p) piece
+    ∙ ap (made_of past loads d (chunk_commit k all) run.words) said
+    ∙ commit_moved past loads d r k v (chunk_commit k all) run.words counted (chunk_is r.log x.progress s.used k all)
+    ∙ ap (λ (y : Bool). replayed_chunk y b k run d x) piece
+
+pub returns-in-Diverged-clause-at : goal.returns-in-Diverged-clause-at
+returns-in-Diverged-clause-at g c =
+    let past = c.args.past.now in
+    let replay = c.args.replay.now in
+    let r = replay.player in
+    let k = c.args.thread in
+    let s = past.state in
+    let b : Cursor = cursor_in past replay in
+    let x = replayed_at past replay in
+    let was = c.requires.1.1.1.counted in
+    let all : Run = joined b c.args.chunk.now.chunk.done in
+    let size : all.n ≡ c.pieces.result + c.n.result = (λ i. sym c.pieces.ensures i + sym c.n.ensures.value i) in
+    let said = rw c.in-Diverged.is at (c.end_chunk.ensures.judged x.progress all (agreed past (Replay b) was) (sym c.state.ensures) size) in
+    let still : c.end_chunk.new.state ≡ s = subst (HasCounted s) (sym said) (commit_counted r s x.progress k (chunk_verdict r.log x.progress s.used k all)) in
+    let same : c.end_chunk.new.state.commits ≡ s.commits = ap (λ (y : State). y.commits) still in
+    let count : length c.reserve.new.self.items ≡ length past.commits.items = ap length c.in_ok-reserve.ensures.items in
+    record { replaying = c.end_chunk.ensures.at; counted = omega (arith, was, same, count) }
+
+pub returns-in-Diverged-clause-log : goal.returns-in-Diverged-clause-log
+returns-in-Diverged-clause-log g c =
+    let past = c.args.past.now in
+    let replay = c.args.replay.now in
+    let s = past.state in
+    let b : Cursor = cursor_in past replay in
+    let x = replayed_at past replay in
+    let all : Run = joined b c.args.chunk.now.chunk.done in
+    let size : all.n ≡ c.pieces.result + c.n.result = (λ i. sym c.pieces.ensures i + sym c.n.ensures.value i) in
+    ap (λ (j : Judged). j.replay.log) (c.end_chunk.ensures.judged x.progress all (agreed past (Replay b) c.requires.1.1.1.counted) (sym c.state.ensures) size)
+    ∙ commit_log replay.player s x.progress c.args.thread (chunk_verdict replay.player.log x.progress s.used c.args.thread all)

@@ -1,31 +1,19 @@
-use Rattle.std.proofs.Common.{◌≤◌, length, length-set, sym, ap, subst, ◌∙◌}
-use Rattle.spec_log.specs.Log.{IsLog}
-use Rattle.dl_replay.specs.Replaying.{Replaying, commits_of}
-use Rattle.dl_replay.proofs.PutBack.{same_commits}
+use Rattle.std.proofs.Common.{ap, sym, subst, ◌∙◌}
+use Rattle.spec_isa.specs.declared.thread.Parts.{Parts}
+use Rattle.dl_replay.specs.Replays.{IsReplaying}
+use Rattle.dl_sphere.proofs.Replays.Limits.{moved_on}
 use Rattle.dl_sphere.proofs.replaying.commit_piece.Goals as goal
 
 pub returns-clause-at : goal.returns-clause-at
-returns-clause-at g c s h =
-    let ts = c.args.past.now.state.threads in
+returns-clause-at g c =
+    let s = c.args.past.now.state in
     let k = c.args.thread in
-    let end = c.state.result.now in
     let t = c.thread_at.result in
+    let u = c.state.result.now in
     let there = c.thread_at.ensures.thread in
-    let is = c.accept_piece.ensures in
-    let same = ap (λ p. p.commits) c.state.ensures ∙ c.requires.same t there in
+    let same = ap (λ (p : Parts). p.commits) c.state.ensures ∙ c.requires.same t there in
+    let on = moved_on c.accept_piece.new.self s k t u there same (c.accept_piece.ensures.at s c.requires.at.replaying) in
     record {
-      size = h.size;
-      threads = subst (λ n. n ≤ 63) (sym (ap length c.set.ensures ∙ length-set ts k end)) h.threads;
-      kept = record {
-        is_log = subst (λ (x : Replaying). IsLog x.log) (sym is) h.kept.is_log;
-        agrees = record {
-          done = h.kept.agrees.done ∙ sym (ap (λ (x : Replaying). x.done) is);
-          last = h.kept.agrees.last ∙ sym (ap (λ (x : Replaying). x.last) is);
-        };
-        commits =
-            ap (λ (x : Replaying). x.commits) is
-            ∙ h.kept.commits
-            ∙ sym (same_commits ts k end t there same)
-            ∙ sym (ap commits_of c.set.ensures);
-      };
+      replaying = subst (λ ts. IsReplaying c.accept_piece.new.self (record s { threads = ts })) (sym c.set.ensures) on;
+      counted = c.requires.at.counted;
     }

@@ -10,8 +10,7 @@ use Rattle.spec_log.specs.Log.{IsInput}
 use Rattle.spec_play.specs.Effects.{serial_commit}
 use Rattle.dl_kernel.specs.StepResults.{result_in}
 use Rattle.dl_kernel.specs.Outside.{devices_left}
-use Rattle.spec_protocol.specs.machine.Spheres.{most_in}
-use Rattle.dl_sphere.specs.Roles.{role_in, with_noted}
+use Rattle.dl_sphere.specs.Roles.{keeping_of, most_of, with_noted}
 use Rattle.dl_sphere.proofs.Live.Devices.{record_taken, devices_taken, input_taken, if_copied, few_bytes}
 use Rattle.dl_sphere.proofs.stepping.live_step.Goals as goal
 
@@ -40,7 +39,7 @@ returns-clause-thread c =
     let n = need s.thread s.memory.now in
     let g = taken n d c.args.moment in
     let is = c.as_ref.ensures.value ∙ c.in_ok-input.ensures.left ∙ record_taken c.args.moment d n in
-    let served : result_in c.in_ok-served.served ≡ serve (most_in (role_in c.args.part.now)) s.number s.threads.now s.request s.thread s.memory.now g.input =
+    let served : result_in c.in_ok-served.served ≡ serve (most_of (keeping_of c.args.part.now)) s.number s.threads.now s.request s.thread s.memory.now g.input =
     c.in_ok-served.ensures.served
     ∙ (λ i. serve (c.threads_allowed.ensures.value i) s.number s.threads.now s.request s.thread s.memory.now (is i))
     in
@@ -53,7 +52,7 @@ returns-clause-spawned c =
     let n = need s.thread s.memory.now in
     let g = taken n d c.args.moment in
     let is = c.as_ref.ensures.value ∙ c.in_ok-input.ensures.left ∙ record_taken c.args.moment d n in
-    let served : result_in c.in_ok-served.served ≡ serve (most_in (role_in c.args.part.now)) s.number s.threads.now s.request s.thread s.memory.now g.input =
+    let served : result_in c.in_ok-served.served ≡ serve (most_of (keeping_of c.args.part.now)) s.number s.threads.now s.request s.thread s.memory.now g.input =
     c.in_ok-served.ensures.served
     ∙ (λ i. serve (c.threads_allowed.ensures.value i) s.number s.threads.now s.request s.thread s.memory.now (is i))
     in
@@ -75,7 +74,7 @@ returns-clause-request c =
     let n = need s.thread s.memory.now in
     let g = taken n d c.args.moment in
     let is = c.as_ref.ensures.value ∙ c.in_ok-input.ensures.left ∙ record_taken c.args.moment d n in
-    let served : result_in c.in_ok-served.served ≡ serve (most_in (role_in c.args.part.now)) s.number s.threads.now s.request s.thread s.memory.now g.input =
+    let served : result_in c.in_ok-served.served ≡ serve (most_of (keeping_of c.args.part.now)) s.number s.threads.now s.request s.thread s.memory.now g.input =
     c.in_ok-served.ensures.served
     ∙ (λ i. serve (c.threads_allowed.ensures.value i) s.number s.threads.now s.request s.thread s.memory.now (is i))
     in
@@ -88,7 +87,7 @@ returns-clause-words c =
     let n = need s.thread s.memory.now in
     let g = taken n d c.args.moment in
     let is = c.as_ref.ensures.value ∙ c.in_ok-input.ensures.left ∙ record_taken c.args.moment d n in
-    let served : result_in c.in_ok-served.served ≡ serve (most_in (role_in c.args.part.now)) s.number s.threads.now s.request s.thread s.memory.now g.input =
+    let served : result_in c.in_ok-served.served ≡ serve (most_of (keeping_of c.args.part.now)) s.number s.threads.now s.request s.thread s.memory.now g.input =
     c.in_ok-served.ensures.served
     ∙ (λ i. serve (c.threads_allowed.ensures.value i) s.number s.threads.now s.request s.thread s.memory.now (is i))
     in
@@ -101,7 +100,7 @@ returns-clause-commit c =
     let n = need s.thread s.memory.now in
     let g = taken n d c.args.moment in
     let is = c.as_ref.ensures.value ∙ c.in_ok-input.ensures.left ∙ record_taken c.args.moment d n in
-    let served : result_in c.in_ok-served.served ≡ serve (most_in (role_in c.args.part.now)) s.number s.threads.now s.request s.thread s.memory.now g.input =
+    let served : result_in c.in_ok-served.served ≡ serve (most_of (keeping_of c.args.part.now)) s.number s.threads.now s.request s.thread s.memory.now g.input =
     c.in_ok-served.ensures.served
     ∙ (λ i. serve (c.threads_allowed.ensures.value i) s.number s.threads.now s.request s.thread s.memory.now (is i))
     in
@@ -114,7 +113,7 @@ returns-clause-noted c =
     let n = need s.thread s.memory.now in
     let g = taken n d c.args.moment in
     let is = c.as_ref.ensures.value ∙ c.in_ok-input.ensures.left ∙ record_taken c.args.moment d n in
-    let served : result_in c.in_ok-served.served ≡ serve (most_in (role_in c.args.part.now)) s.number s.threads.now s.request s.thread s.memory.now g.input =
+    let served : result_in c.in_ok-served.served ≡ serve (most_of (keeping_of c.args.part.now)) s.number s.threads.now s.request s.thread s.memory.now g.input =
     c.in_ok-served.ensures.served
     ∙ (λ i. serve (c.threads_allowed.ensures.value i) s.number s.threads.now s.request s.thread s.memory.now (is i))
     in
@@ -129,11 +128,11 @@ returns-clause-devices c =
     let n = need s.thread s.memory.now in
     let g = taken n d c.args.moment in
     let is = c.as_ref.ensures.value ∙ c.in_ok-input.ensures.left ∙ record_taken c.args.moment d n in
-    let served : result_in c.in_ok-served.served ≡ serve (most_in (role_in c.args.part.now)) s.number s.threads.now s.request s.thread s.memory.now g.input =
+    let served : result_in c.in_ok-served.served ≡ serve (most_of (keeping_of c.args.part.now)) s.number s.threads.now s.request s.thread s.memory.now g.input =
     c.in_ok-served.ensures.served
     ∙ (λ i. serve (c.threads_allowed.ensures.value i) s.number s.threads.now s.request s.thread s.memory.now (is i))
     in
     c.in_ok-outside_take.ensures.devices c.args.moment
     ∙ ap (λ (x : Commit). console_written s.thread s.memory.now x.outputs (devices_left c.args.moment d n)) c.serial_commit-commit.ensures
     ∙ ap (λ (v : StepResult). console_written s.thread s.memory.now v.outputs (devices_left c.args.moment d n)) served
-    ∙ ap (λ (e : Devices). console_written s.thread s.memory.now (serve (most_in (role_in c.args.part.now)) s.number s.threads.now s.request s.thread s.memory.now g.input).outputs e) (devices_taken c.args.moment d n)
+    ∙ ap (λ (e : Devices). console_written s.thread s.memory.now (serve (most_of (keeping_of c.args.part.now)) s.number s.threads.now s.request s.thread s.memory.now g.input).outputs e) (devices_taken c.args.moment d n)

@@ -1,4 +1,4 @@
-use Rattle.std.proofs.Common.{◌≡◌, ◌^◌, ◌<◌, length, IfOk, Some, subst, arith, rules}
+use Rattle.std.proofs.Common.{◌≡◌, false, ◌^◌, ◌<◌, length, IfOk, Some, subst, arith, rules}
 use Rattle.std.proofs.lemmas.Grind.{common_steps}
 use Rattle.spec_kernel.specs.Devices.{Devices}
 use Rattle.spec_engine.specs.declared.answers.How.{How}
@@ -13,6 +13,7 @@ use Rattle.dl_machine.proofs.Commits.AsClosed.{how_of, how_is, can_commit_so, if
 use Rattle.dl_machine.proofs.Rows.Spheres.{row_says, said_of_row, others_left, spheres_set}
 use Rattle.dl_machine.proofs.spheres.Spheres.commit_chunk.Goals as goal
 use Rattle.spec_play.specs.Progress.{position}
+use Rattle.spec_protocol.specs.machine.Placing.{replays}
 
 pub commit_chunk-requires : goal.commit_chunk-requires
 commit_chunk-requires g c =
@@ -27,7 +28,7 @@ commit_chunk-requires g c =
         said (λ p. c.args.thread < length p.sphere.threads) c.requires.thread,
         (
           said (λ p. CanCommit p.s p.sphere c.args.thread (how_of ch.closed) ch) (can_commit_so _ _ _ ch c.requires.chunk),
-          said (λ p. position p.sphere.progress < 2 ^ 24) c.requires.few,
+          said (λ p. replays p.sphere.role ≡ false → position p.sphere.progress < 2 ^ 24) c.requires.few,
         ),
       ),
     )

@@ -3,10 +3,9 @@ use Rattle.std.proofs.lemmas.List.{get_or-map, map-append, take_more}
 use Rattle.std.proofs.lemmas.Grind.{common_steps}
 use Rattle.std.proofs.lemmas.Simd.{map-map}
 use Rattle.spec_protocol.specs.machine.Spheres.{Sphere}
-use Rattle.spec_isa.specs.declared.thread.Parts.{Parts}
 use Rattle.spec_protocol.specs.machine.Machine as protocol
-use Rattle.spec_protocol.specs.machine.Machine.{RoleSetup, IsPlain, IsRecorded, IsReplayed, role_of, sphere_of}
-use Rattle.dl_sphere.specs.Setups.{IsRecordableIf, role_setup, setup_of, standard_asked, standard_in}
+use Rattle.spec_protocol.specs.machine.Machine.{RoleSetup, IsPlain, IsRecorded, IsReplayed, sphere_as, sphere_of}
+use Rattle.dl_sphere.specs.Setups.{HasBegun, IsRecordableIf, role_setup, setup_of, standard_asked, standard_in}
 use Rattle.dl_machine.specs.Setups.{greatest}
 use Rattle.dl_sphere.specs.SizedSpheres.{SizedSphere}
 use Rattle.dl_sphere.specs.declared.setup.SphereSetup.{SphereSetup}
@@ -22,6 +21,11 @@ new-requires-clause-role c =
     let inside : i < length (map setup_of setups) = grind (arith, common_steps) in
     let same : get_or (map setup_of setups) i (setup_of item) ≡ setup_of item = get_or-map setup_of setups i item (setup_of item) c.loop-setup-test.true ∙ ap setup_of (sym c.setup-item.is) in
     subst (λ (image : protocol.SphereSetup). IsRecordableIf c.args.s image.role) same (c.requires.recorded i (setup_of item) inside)
+
+pub new-requires-clause-begun : goal.new-requires-clause-begun
+new-requires-clause-begun c =
+    let item = c.setup-item.result in
+    subst HasBegun (sym c.setup-item.is) (c.requires.begun c.loop-setup.setup-index item c.loop-setup-test.true)
 
 pub returns-clause-made : goal.returns-clause-made
 returns-clause-made c =
@@ -40,10 +44,10 @@ greatest-more s [] x = omega arith
 greatest-more s (y ∷ ys) x = omega (arith, greatest-more s ys x)
 
 -- a sphere begins with the standard size that its setup asks for
-standard_begun : (s : ℕ) (ts : List Parts) (role : RoleSetup) → standard_in s (role_of s ts role) ≡ standard_asked s role
-standard_begun s ts IsPlain = refl
-standard_begun s ts (IsRecorded asked) = refl
-standard_begun s ts (IsReplayed asked) = refl
+standard_begun : (s : ℕ) (image : protocol.SphereSetup) (role : RoleSetup) → standard_in s (sphere_as s image role).role ≡ standard_asked s role
+standard_begun s image IsPlain = refl
+standard_begun s image (IsRecorded asked) = refl
+standard_begun s image (IsReplayed asked) = refl
 
 pub loop-setup-preserved : goal.loop-setup-preserved
 loop-setup-preserved c =
@@ -56,7 +60,7 @@ loop-setup-preserved c =
     let most = c.max-most.result in
     let greater : most ≡ max c.loop-setup.most c.standard.result = c.max-most.ensures in
     let standard : standard_in x.s x.sphere.role ≡ standard_asked c.args.s (role_setup item.role) =
-    ap (λ (y : SizedSphere). standard_in y.s y.sphere.role) c.in_ok-sphere.ensures.made ∙ standard_begun c.args.s _ (role_setup item.role)
+    ap (λ (y : SizedSphere). standard_in y.s y.sphere.role) c.in_ok-sphere.ensures.made ∙ standard_begun c.args.s (setup_of item) (role_setup item.role)
     in
     let more : take (i + 1) setups ≡ take i setups ++ item ∷ [] = take_more setups i item c.loop-setup-test.true ∙ ap (λ y. take i setups ++ y ∷ []) (sym c.setup-item.is) in
     record {

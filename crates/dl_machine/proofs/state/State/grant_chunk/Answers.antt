@@ -18,7 +18,7 @@ use Rattle.dl_machine.specs.Ready.{HasRoom, IsReady}
 use Rattle.dl_machine.specs.Requests.{closed_by}
 use Rattle.dl_machine.specs.Rows.{Spheres, nth_sphere, with_nth}
 use Rattle.dl_machine.specs.States.{left, world_in}
-use Rattle.dl_machine.proofs.Commits.Able.{can_commit, few_commits}
+use Rattle.dl_machine.proofs.Commits.Able.{can_commit}
 use Rattle.dl_machine.proofs.Commits.Granted.{point_in, moved_by, with_grant, grant_done, goes_as, held_after, closed_is, chunk_after, younger_is}
 use Rattle.dl_machine.proofs.state.State.grant_chunk.Goals as goal
 
@@ -39,8 +39,7 @@ commit_chunk-requires-clause-chunk g c =
 pub commit_chunk-requires-clause-few : goal.commit_chunk-requires-clause-few
 commit_chunk-requires-clause-few g c =
     let view = sym c.self.view_is in
-    few_commits _ c.args.held.sphere (subst IsReady view c.requires.ready) (subst HasRoom view c.requires.room) (subst (λ (u : World). c.args.held.sphere < length u.spheres) view c.requires.good.sphere)
-    (subst (λ (u : World). is_stopped (sphere_at u c.args.held.sphere).role ≡ false) view c.requires.going)
+    (subst HasRoom view c.requires.room).few c.args.held.sphere (subst (λ (u : World). c.args.held.sphere < length u.spheres) view c.requires.good.sphere)
 
 pub returns-in-Granted-clause-reply : goal.returns-in-Granted-clause-reply
 returns-in-Granted-clause-reply g c =

@@ -13,13 +13,6 @@ returns-in-Some c =
     end-some p.role (position p.progress) c.in-Some.end
     (ap (λ (q : Sphere). end_in q.role) (sym c.sphere.ensures.value) ∙ sym c.end.ensures ∙ c.in-Some.is)
 
-pub commits-requires-clause-live : goal.commits-requires-clause-live
-commits-requires-clause-live c =
-    let over = c.sphere.ensures.over in
-    let p = sphere_at c.args.self.now.world c.args.sphere in
-    end-none p.role (at_end over.0 c.args.self.now c.args.sphere over.1 c.requires)
-    (ap (λ (q : Sphere). end_in q.role) (sym c.sphere.ensures.value) ∙ sym c.end.ensures ∙ c.in-None.is)
-
 pub returns-in-None : goal.returns-in-None
 returns-in-None c =
     let over = c.sphere.ensures.over in

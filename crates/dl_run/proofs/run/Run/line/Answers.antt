@@ -1,8 +1,8 @@
-use Rattle.std.proofs.Common.{◌∙◌, ap, sym, refl}
+use Rattle.std.proofs.Common.{◌∙◌, ap, sym}
 use Rattle.dl_entry.specs.declared.SphereLine.{SphereLine}
-use Rattle.spec_protocol.specs.machine.Machine.{IsPlain, IsRecorded}
-use Rattle.dl_sphere.specs.Setups.{role_setup}
-use Rattle.dl_run.proofs.Over.{line-plain, line-recorded, line-replayed, not-replayed}
+use Rattle.dl_sphere.specs.Setups.{replay_setup, role_setup}
+use Rattle.spec_run.specs.Texts.{replay_line}
+use Rattle.dl_run.proofs.Over.{line-plain, line-recorded, line-replayed}
 use Rattle.dl_run.proofs.run.Run.line.Goals as goal
 
 pub returns-in-Plain : goal.returns-in-Plain
@@ -18,18 +18,7 @@ returns-in-Record c es over =
 
 pub returns-in-Replay : goal.returns-in-Replay
 returns-in-Replay c es over =
-    c.line_of_end.ensures
-    ∙ line-replayed es c.args.self.now c.args.sphere (record { log = c.in-Replay.field-0 }) c.end.result over c.requires
-    (sym c.role.ensures.value ∙ ap role_setup c.in-Replay.is) c.end.ensures
-
-pub commits-requires-clause-live : goal.commits-requires-clause-live
-commits-requires-clause-live c =
-    let over = c.role.ensures.over in
-    not-replayed over.0 c.args.self.now c.args.sphere IsPlain over.1 c.requires
-    (sym c.role.ensures.value ∙ ap role_setup c.in-Plain.is) refl
-
-pub commits-requires-in-Record-clause-live : goal.commits-requires-in-Record-clause-live
-commits-requires-in-Record-clause-live c =
-    let over = c.role.ensures.over in
-    not-replayed over.0 c.args.self.now c.args.sphere (IsRecorded (record { version = c.in-Record.version; mode = c.in-Record.mode })) over.1 c.requires
-    (sym c.role.ensures.value ∙ ap role_setup c.in-Record.is) refl
+    let r = c.in-Replay.replay in
+    line-replayed es c.args.self.now c.args.sphere (replay_setup r) c.since_first-commits.result c.end.result c.replay_line.result over c.requires
+    (sym c.role.ensures.value ∙ ap role_setup c.in-Replay.is) c.since_first-commits.ensures c.end.ensures
+    (λ y n. c.replay_line.ensures y n ∙ ap (λ o. replay_line o y c.end.result) c.interval.ensures)

@@ -1,5 +1,5 @@
 use Rattle.std.proofs.Common.{◌∙◌, ap, sym, inl, inr}
-use Rattle.dl_sphere.specs.Setups.{role_setup}
+use Rattle.dl_sphere.specs.Setups.{replay_setup, role_setup}
 use Rattle.dl_run.proofs.Over.{log-is, no-log}
 use Rattle.dl_run.proofs.run.Run.log.Goals as goal
 use Rattle.spec_protocol.specs.machine.Machine.{RecordSetup}
@@ -11,7 +11,7 @@ returns-in-Plain c es over =
 pub returns-in-Replay : goal.returns-in-Replay
 returns-in-Replay c es over =
     no-log c.args.self.now.setup es c.args.sphere
-    (inr (record { log = c.in-Replay.field-0 }, sym c.role.ensures.value ∙ ap role_setup c.in-Replay.is))
+    (inr (replay_setup c.in-Replay.field-0, sym c.role.ensures.value ∙ ap role_setup c.in-Replay.is))
 
 pub returns-in_ok-recording-in-Record : goal.returns-in_ok-recording-in-Record
 returns-in_ok-recording-in-Record c es over =

@@ -1,4 +1,4 @@
-use Rattle.std.proofs.Common.{◌≡◌, ◌≤◌, ◌==◌, ℕ, inl, inr, sym, subst, arith}
+use Rattle.std.proofs.Common.{◌≤◌, ◌==◌, ℕ, inl, inr, sym, subst, arith}
 use Rattle.std.proofs.lemmas.Bool.{cases_Bool}
 use Rattle.spec_log.specs.Versions.{new_threads}
 use Rattle.dl_sphere.proofs.recording.Recording.threads.Goals as goal

@@ -1,7 +1,6 @@
-use Rattle.std.proofs.Common.{◌≡◌, ◌+◌, ◌<◌, ◌^◌, ◌∷◌, ◌++◌, Bool, [], length, Some, None, sym, ap, ◌∙◌, subst, refl, rules, set, length-set, append-nil, arith, suc}
+use Rattle.std.proofs.Common.{◌≡◌, ◌+◌, ◌<◌, ◌∷◌, ◌++◌, Bool, [], length, Some, None, sym, ap, ◌∙◌, subst, refl, rules, set, length-set, append-nil, arith, suc}
 use Rattle.std.specs.Prelude.{slice_get, IfOk, Result, Ok, Err}
 use Rattle.spec_kernel.specs.Devices.{Devices}
-use Rattle.spec_play.specs.Progress.{position}
 use Rattle.std.proofs.lemmas.Option.{slice_get_within}
 use Rattle.spec_isa.specs.declared.thread.Parts.{Parts}
 use Rattle.spec_log.specs.declared.LogParts.{LogParts}
@@ -13,14 +12,15 @@ use Rattle.spec_protocol.specs.machine.Spheres.{Sphere}
 use Rattle.dl_sphere.specs.declared.part.Part.{Part}
 use Rattle.dl_sphere.specs.Moving.{came, CanCommit}
 use Rattle.spec_protocol.proofs.Logs.Growing.{pushed_length}
-use Rattle.dl_sphere.specs.Roles.{Keeping, keeping_of, role_in, role_of, with_noted, IsSphere}
-use Rattle.dl_sphere.specs.Inside.{replayed_at, sphere_at, sphere_in, sphere_with}
+use Rattle.dl_sphere.specs.Roles.{Keeping, keeping_of, role_in, role_of, with_noted, IsLiveOf}
+use Rattle.dl_sphere.specs.Inside.{replayed_at, sphere_in}
+use Rattle.dl_sphere.specs.Pasts.{sphere_at, sphere_with}
 use Rattle.dl_sphere.specs.SizedSpheres.{SizedSphere}
 use Rattle.dl_sphere.proofs.Live.Moved.{chunk_is_moved}
 use Rattle.dl_sphere.specs.Setups.{standard_in}
 use Rattle.dl_sphere.proofs.Standing.Sizes.{noted_size}
 use Rattle.dl_sphere.proofs.Standing.Moves.{Commits, commits_stand}
-use Rattle.dl_sphere.proofs.Replays.Limits.{replayed, stands_replayed, live_part}
+use Rattle.dl_sphere.proofs.Replays.Limits.{alone, kept_live, replayed, stands_replayed, live_part}
 use Rattle.dl_sphere.proofs.sphere.Sphere.commit_chunk.Goals as goal
 
 pub invariant_of-self-2 : goal.invariant_of-self-2
@@ -31,7 +31,7 @@ invariant_of-self-2 g c =
     let u = c.counted-after.result in
     let commit = c.in_ok-commit.commit in
     let h = c.self.invariant in
-    let q : Sphere = sphere_with a.past.state.memory c.set.new.self c.push_reserved.new.self.items (Some k) a.past.state.request (role_in c.note.new.part) in
+    let q : Sphere = sphere_with a.past.first a.past.state.memory c.set.new.self c.push_reserved.new.self.items (Some k) a.past.state.request (role_in a.past.state.used c.note.new.part) in
     let start : slice_get c.args.self.now.sphere.threads k ≡ Some t =
     sym (ap (λ (v : SizedSphere). slice_get v.sphere.threads k) c.self.view_is) ∙ c.thread_at-after.ensures.thread
     in
@@ -40,10 +40,6 @@ invariant_of-self-2 g c =
       start = c.thread_at-after.ensures.thread;
       within = let inside = slice_get_within a.past.state.threads k t c.thread_at-after.ensures.thread in let few = c.thread_at-after.ensures.few in omega arith;
       threads = c.set.ensures ∙ sym (append-nil (set a.past.state.threads k u));
-      few =
-          let n : length c.set.new.self ≡ length a.past.state.threads = ap length c.set.ensures ∙ length-set a.past.state.threads k u in
-          let m = h.threads in
-          omega arith;
       commits =
           ap (λ (v : Parts). v.commits) (c.counted-after.ensures)
           ∙ ap (λ (v : Parts). v.commits + 1) c.state.ensures
@@ -55,9 +51,18 @@ invariant_of-self-2 g c =
       actor = ap (λ (v : Commit). v.actor) c.in_ok-commit.ensures;
     }
     in
-    subst (IsSphere a.s q) (sym c.in_ok-note.ensures.noted)
-    (commits_stand (sphere_in a) q k t u [] commit d a.s c.is_short.result None (keeping_of a.part) (live_part a.part c.in_default.not-Replayed)
-    (λ few. let n : length c.set.new.self ≡ length a.past.state.threads = ap length c.set.ensures ∙ length-set a.past.state.threads k u in omega arith) h)
+    let past = record a.past { commits = c.push_reserved.new.self; state = record a.past.state { threads = c.set.new.self; last = Some k; commits = a.past.state.commits + 1 } } in
+    let was = h.counted in
+    let more = d.position_ in
+    record {
+      size = h.size;
+      counted = omega (arith, was, more);
+      kept = kept_live a.s past (keeping_of c.note.new.part)
+          (subst (IsLiveOf a.s q) (sym c.in_ok-note.ensures.noted)
+          (commits_stand (sphere_in a) q k t u [] commit d a.s c.is_short.result None (keeping_of a.part)
+          (λ few. let n : length c.set.new.self ≡ length a.past.state.threads = ap length c.set.ensures ∙ length-set a.past.state.threads k u in omega arith)
+          (alone a (live_part a.part c.in_default.not-Replayed) c.self.invariant)));
+    }
 
 pub returns-clause-ok : goal.returns-clause-ok
 returns-clause-ok g c d =
@@ -81,12 +86,12 @@ returns-clause-ok g c d =
     in
     (λ i. record {
       outcome = Granted;
-      sphere = sphere_with a.past.state.memory (threads i) (commits i) (Some k) a.past.state.request (role_of (noted i));
+      sphere = sphere_with a.past.first a.past.state.memory (threads i) (commits i) (Some k) a.past.state.request (role_of a.past.state.used (noted i));
       words = (c.in_ok-words.ensures ∙ c.words.ensures.words) i;
       devices = d;
     })
-    ∙ chunk_is_moved a.past.state.memory a.past.state.threads a.past.commits.items a.past.state.last d a.s (keeping_of a.part) a.past.state.request k t (is_piece how) c.is_short.result run
-    (live_part a.part c.in_default.not-Replayed) c.thread_at-after.ensures.thread (c.requires.1.1.0.commits t start) c.self.invariant.kept
+    ∙ chunk_is_moved a.past.first a.past.state.memory a.past.state.used a.past.state.threads a.past.commits.items a.past.state.last d a.s (keeping_of a.part) a.past.state.request k t (is_piece how) c.is_short.result run
+    c.thread_at-after.ensures.thread (c.requires.1.1.0.commits t start) (alone a (live_part a.part c.in_default.not-Replayed) c.self.invariant)
     ∙ ap (λ (x : Bool). chunk_moved k (is_piece how) x run d (sphere_in a)) (c.is_short.ensures how c.requires.1.1.0.closed)
     ∙ ap (λ (x : SizedSphere). chunk_moved k (is_piece how) (is_short x.s how ch.limit) run d x.sphere) c.self.view_is
 
@@ -105,11 +110,8 @@ commit_part-requires g c =
       (
         subst (λ (v : SizedSphere). k < length v.sphere.threads) view c.requires.1.0,
         (
-          (a.s, subst (λ (x : Part). CanCommit a.s (sphere_at a.past (role_in x)) k g.how ch) c.in-Replayed.is can),
-          (
-            subst (λ (v : SizedSphere). position v.sphere.progress < 2 ^ 24) view c.requires.1.1.1,
-            replayed a r c.in-Replayed.is c.self.invariant,
-          ),
+          (a.s, subst (λ (x : Part). CanCommit a.s (sphere_at a.past (role_in a.past.state.used x)) k g.how ch) c.in-Replayed.is can),
+          replayed a r c.in-Replayed.is c.self.invariant,
         ),
       ),
     )
@@ -117,7 +119,7 @@ commit_part-requires g c =
 pub invariant_of-self : goal.invariant_of-self
 invariant_of-self g c =
     let a = c.self.inside in
-    c.commit_part.ensures.at a.s (stands_replayed a c.in-Replayed.replay c.in-Replayed.is c.self.invariant)
+    stands_replayed a.s a.past c.commit_part.new.past (keeping_of a.part) c.commit_part.new.replay c.self.invariant c.commit_part.ensures.at
 
 if_ok : {A E : Type 0} (r : Result A E) (P Q : A → Type 0) → ((x : A) → P x → Q x) → IfOk r P → IfOk r Q
 if_ok (Ok x) P Q f h = f x h
@@ -135,20 +137,20 @@ returns-in-Replayed-clause-ok g c =
     (λ m. (d : Devices) → came m after d ≡ was (is_short c.args.self.now.s how ch.limit) d c.args.self.now.sphere)
     (λ m said d.
     said (is_short a.s how ch.limit) d
-    ∙ ap (λ (x : Part). was (is_short a.s how ch.limit) d (sphere_at a.past (role_in x))) (sym c.in-Replayed.is)
+    ∙ ap (λ (x : Part). was (is_short a.s how ch.limit) d (sphere_at a.past (role_in a.past.state.used x))) (sym c.in-Replayed.is)
     ∙ ap (λ (x : SizedSphere). was (is_short x.s how ch.limit) d x.sphere) c.self.view_is)
     c.commit_part.ensures.moved
 
 pub returns-clause-size : goal.returns-clause-size
 returns-clause-size g c =
     let a = c.self.inside in
-    ap (λ (x : Keeping). standard_in a.s (role_of x)) c.in_ok-note.ensures.noted
-    ∙ noted_size a.s c.in_ok-commit.commit c.is_short.result None None (keeping_of a.part)
+    ap (λ (x : Keeping). standard_in a.s (role_of a.past.state.used x)) c.in_ok-note.ensures.noted
+    ∙ noted_size a.past.state.used a.s c.in_ok-commit.commit c.is_short.result None None (keeping_of a.part)
     ∙ ap (λ (v : SizedSphere). standard_in v.s v.sphere.role) c.self.view_is
 
 pub returns-in-Replayed-clause-size : goal.returns-in-Replayed-clause-size
 returns-in-Replayed-clause-size g c =
     let a = c.self.inside in
     ap (λ (l : LogParts). l.s) c.commit_part.ensures.log
-    ∙ sym (ap (λ (x : Part). standard_in a.s (role_in x)) c.in-Replayed.is)
+    ∙ sym (ap (λ (x : Part). standard_in a.s (role_in a.past.state.used x)) c.in-Replayed.is)
     ∙ ap (λ (v : SizedSphere). standard_in v.s v.sphere.role) c.self.view_is

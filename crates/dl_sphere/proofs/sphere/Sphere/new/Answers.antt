@@ -1,5 +1,5 @@
-use Rattle.std.proofs.Common.{◌∙◌, ◌∷◌, [], ap}
-use Rattle.spec_isa.specs.Threads.{started}
+use Rattle.std.proofs.Common.{refl}
+use Rattle.dl_kernel.specs.declared.past.Past.{Past}
 use Rattle.dl_sphere.specs.Roles.{keeping_of}
 use Rattle.dl_sphere.specs.Setups.{setup_of}
 use Rattle.dl_sphere.proofs.Standing.Start.{Starts, start_standing, start_seen}
@@ -7,30 +7,38 @@ use Rattle.dl_sphere.proofs.sphere.Sphere.new.Goals as goal
 
 pub invariant_of-result : goal.invariant_of-result
 invariant_of-result c =
-    let setup = setup_of c.args.setup.now in
-    let m = c.in_ok-new.field-0 in
+    let image = setup_of c.args.setup.now in
+    let past : Past = record { alloc = c.args.alloc; first = c.in_ok-state.state.commits; commits = c.new.result; state = c.in_ok-state.state } in
     let x = keeping_of c.in_ok-part.part in
-    let h : Starts c.args.s setup m c.start.result c.new-2.result.items x =
+    let h : Starts c.args.s image past x =
     record {
-      memory = c.in_ok-new.ensures;
-      threads = c.start.ensures ∙ ap (λ entry. started entry ∷ []) c.entry.ensures.value;
-      commits = c.new-2.ensures.items;
-      kept = c.in_ok-part.ensures.kept setup.entry;
+      state = c.in_ok-state.ensures.state;
+      first = refl;
+      commits = c.new.ensures.items;
+      kept = c.in_ok-part.ensures.kept;
+      at = c.in_ok-part.ensures.at;
     }
     in
-    start_standing c.args.s setup m c.start.result c.new-2.result.items x c.requires.size c.in_ok-part.ensures.role h
+    start_standing c.args.s image past x c.requires.size h
 
 pub returns-clause-made : goal.returns-clause-made
 returns-clause-made c =
-    let setup = setup_of c.args.setup.now in
-    let m = c.in_ok-new.field-0 in
+    let image = setup_of c.args.setup.now in
+    let past : Past = record { alloc = c.args.alloc; first = c.in_ok-state.state.commits; commits = c.new.result; state = c.in_ok-state.state } in
     let x = keeping_of c.in_ok-part.part in
-    let h : Starts c.args.s setup m c.start.result c.new-2.result.items x =
+    let h : Starts c.args.s image past x =
     record {
-      memory = c.in_ok-new.ensures;
-      threads = c.start.ensures ∙ ap (λ entry. started entry ∷ []) c.entry.ensures.value;
-      commits = c.new-2.ensures.items;
-      kept = c.in_ok-part.ensures.kept setup.entry;
+      state = c.in_ok-state.ensures.state;
+      first = refl;
+      commits = c.new.ensures.items;
+      kept = c.in_ok-part.ensures.kept;
+      at = c.in_ok-part.ensures.at;
     }
     in
-    start_seen c.args.s setup m c.start.result c.new-2.result.items x h
+    (λ i. record { s = c.args.s; sphere = start_seen c.args.s image past x h i })
+
+pub part_of-requires-clause-image : goal.part_of-requires-clause-image
+part_of-requires-clause-image c = c.start_of.ensures.image c.args.s
+
+pub returns-clause-image : goal.returns-clause-image
+returns-clause-image c = c.start_of.ensures.image c.args.s c.in_ok-part.ensures.role

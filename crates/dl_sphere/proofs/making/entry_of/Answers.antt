@@ -1,0 +1,16 @@
+use Rattle.std.proofs.Common.{sym, subst, ◌≤◌, ◌<◌, ◌^◌, ◌≡◌, ◌%◌}
+use Rattle.dl_sphere.proofs.making.entry_of.Goals as goal
+
+pub returns-clause-image : goal.returns-clause-image
+returns-clause-image c s role =
+    let image = c.args.setup.now.image in
+    let is = c.entry.ensures.image in
+    record {
+      least = subst (λ n. 4096 ≤ n) (sym is.whole) is.size.least;
+      most = subst (λ n. n ≤ 2 ^ 24) (sym is.whole) is.size.most;
+      pages = subst (λ n. n % 4096 ≡ 0) (sym is.whole) is.size.pages;
+      bytes = c.bytes_of.ensures;
+      aligned = is.aligned;
+      inside = subst (λ n. image.entry < n) (sym is.whole) is.inside;
+      role = role;
+    }
