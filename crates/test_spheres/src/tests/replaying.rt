@@ -12,6 +12,7 @@ use dl_replay::Replayer;
 use dl_thread::Threads;
 use spec_log::{Log, ModeName};
 use std::alloc::Global;
+use std::process::Abort;
 use std::test::Fail;
 
 // A file whose code is `ecall`.
@@ -36,9 +37,14 @@ struct Row {
 #[test]
 fn replays_end_where_they_leave_their_logs(rt: HostRuntime) -> Result<(), Fail> {
     let memory = memory(rt.alloc(), FILE)?;
+    let ended = rows_end(&rt, rt.alloc(), &memory);
+    drop(memory);
+    ended
+}
+
+fn rows_end(rt: &impl Abort, alloc: Global, memory: &Memory) -> Result<(), Fail> {
     for row in ROWS {
-        let end = ended(rt.alloc(), row, &memory)?;
-        assert!(rt; end == Some(row.end));
+        assert!(rt; ended(alloc, row, memory)? == Some(row.end));
     }
     Ok(())
 }
@@ -50,11 +56,13 @@ fn memory(alloc: Global, file: &[u8]) -> Result<Memory, Fail> {
 
 fn ended(alloc: Global, row: &Row, memory: &Memory) -> Result<Option<End>, Fail> {
     let log = read_log(alloc, row.log)?;
-    match log.parts().mode {
+    let ended = match log.parts().mode {
         ModeName::OrderSize => ended_in::<OrderAndSize>(alloc, &log, row, memory),
         ModeName::OrderOnly => ended_in::<OrderOnly>(alloc, &log, row, memory),
         ModeName::Picolog => ended_in::<PicoLog>(alloc, &log, row, memory),
-    }
+    };
+    drop(log);
+    ended
 }
 
 /// How the replay has ended once its first actor has asked.
@@ -67,12 +75,26 @@ fn ended_in<M: Noting>(
     requires { log.now.mode ≡ M.mode }
 {
     let mut replayer = Replayer::<M>::new(alloc, log)?;
+    let asked = ask_first(&mut replayer, row, memory);
+    let ended = replayer.ended();
+    drop(replayer);
+    asked?;
+    Ok(ended)
+}
+
+/// The first actor of the log asks.
+fn ask_first<M: Noting>(
+    replayer: &mut Replayer<M>,
+    row: &Row,
+    memory: &Memory,
+) -> Result<(), OutOfMemory>
+    requires { replayer.old.commits ≡ commits_of (started 0 ∷ []) }
+{
     match replayer.head() {
-        Some(Actor::Thread(thread)) => ask(&mut replayer, thread, row, memory)?,
-        Some(Actor::Dma) => ask_for_dma(&mut replayer, memory)?,
-        None => {}
+        Some(Actor::Thread(thread)) => ask(replayer, thread, row, memory),
+        Some(Actor::Dma) => ask_for_dma(replayer, memory),
+        None => Ok(()),
     }
-    Ok(replayer.ended())
 }
 
 /// The thread asks; there is only thread 0.
