@@ -7,6 +7,7 @@ mod log_lines;
 mod log_reading;
 mod log_versions;
 mod log_writing;
+mod logs;
 mod making;
 mod plans;
 mod reports;

@@ -44,6 +44,7 @@ fn walks_end_where_their_logs_say(rt: HostRuntime) -> Result<(), Fail> {
         let walked = walked(rt.alloc(), row.file, row.log, row.to)?;
         assert!(rt; has_sizes(walked.commits.as_slice(), row.sizes));
         assert!(rt; walked.end == row.end);
+        drop(walked);
     }
     Ok(())
 }
@@ -56,9 +57,11 @@ fn a_transfer_is_stored_and_loaded(rt: HostRuntime) -> Result<(), Fail> {
     assert!(rt; walked.state.request.is_none());
     let stores = [at_dma(256, 2), at_dma(260, 0x4241)];
     assert!(rt; walked.stores.as_slice() == stores.as_slice());
-    assert!(rt; watch(rt.alloc(), &walked, 256)?.len() == 1);
     assert!(rt; who(&walked, 260, 5).is_some());
     assert!(rt; when(&walked, 0, 264, 0) == When::None);
+    let watched = watch(rt.alloc(), &walked, 256);
+    drop(walked);
+    assert!(rt; watched?.len() == 1);
     Ok(())
 }
 
@@ -92,7 +95,9 @@ fn has_loaded(thread: Option<&Thread>) -> bool {
 fn walked(alloc: Global, file: &[u8], log: &[u8], to: u32) -> Result<Walked, Fail> {
     let image = dl_elf::load(alloc, file, 4096)?;
     let log = read_log(alloc, log)?;
-    Ok(walk(alloc, &image, &log, to)?)
+    let walked = walk(alloc, &image, &log, to);
+    drop((image, log));
+    Ok(walked?)
 }
 
 fn has_sizes(commits: &[Commit], sizes: &[u32]) -> bool {

@@ -1,5 +1,5 @@
 use Rattle.std.proofs.Common.{◌≡◌, []}
-use Rattle.test_spheres.proofs.tests.recording.recorded.Given as goal
+use Rattle.test_spheres.proofs.tests.recording.log_of.Given as goal
 
 abbrev pub invariant-loop-step : goal.invariant-loop-step
 invariant-loop-step g l =
