@@ -11,7 +11,7 @@ ghost use Rattle.spec_strata.specs.Relogged.{StrataRelog, BlocksRelog};
 ghost use Rattle.spec_strata.specs.Canonical.{CanonicalIsLog};
 ghost use Rattle.spec_strata.specs.OnImages.{ParallelStrataGo};
 ghost use Rattle.spec_strata.specs.Checking.{OneAnswer};
-ghost use Rattle.spec_strata.specs.Making.{MadeAreParallel};
+ghost use Rattle.spec_strata.specs.Making.{MadeAreParallel, MadeAreStrata};
 
 // ---- commits
 
@@ -169,4 +169,9 @@ pub fn one_answer()
 /// log's play leaves: memory, threads, and each thread's commits, with their loads and outputs, in its order.
 pub fn made_are_parallel()
     ensures { MadeAreParallel }
+{}
+
+/// And they are strata: their parts are within their ranges, and in order.
+pub fn made_are_strata()
+    ensures { MadeAreStrata }
 {}
