@@ -10,5 +10,6 @@ mod log_writing;
 mod making;
 mod plans;
 mod reports;
+mod strata_bytes;
 mod summaries;
 mod words;
