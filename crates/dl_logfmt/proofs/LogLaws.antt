@@ -24,7 +24,7 @@ use Rattle.spec_log.specs.Fields.{Read, Reader, Stage, continues, read, gives, n
 use Rattle.spec_log.specs.Reading.{is_earlier, interrupt, input, dma, size, short_size, magic, version, mode, mode_of, thread_count, threads, chunk_size, commits, order, sizes, interrupts, inputs, dmas, stages, blank, ended, log_of, sizes_in, read_of}
 use Rattle.dl_logfmt.proofs.ByteNumbers.{IsByte}
 use Rattle.dl_logfmt.proofs.Codes.{Codes, Codes-as, Codes-via, Codes-then, Codes-gives, Codes-skip, Codes-part, untested}
-use Rattle.dl_logfmt.proofs.EntryLaws.{IsShape, Codes-field, Codes-interrupt, Codes-input, Codes-dma, Decides-earlier}
+use Rattle.dl_logfmt.proofs.EntryLaws.{IsShape, FitsBytes, shape-fits, Codes-field, Codes-interrupt, Codes-input, Codes-dma, Decides-earlier}
 use Rattle.std.specs.Bool.{Decides}
 use Rattle.std.proofs.lemmas.Bool.Decides.{Decides-eqb, Decides-ltb, Decides-or}
 use Rattle.dl_logfmt.proofs.SectionLaws.{entries, section_of, Codes-section, staged-entries}
@@ -32,7 +32,7 @@ use Rattle.dl_logfmt.proofs.OrderLaws.{order_of, Codes-order, staged-actors}
 use Rattle.dl_logfmt.proofs.SizeLaws.{each_of, sizes_of, Codes-sizes}
 
 -- a number that is always the same
-Codes-constant : (width fault x : ℕ) → x < 256 ^ width → Codes (number width fault (λ y. y == x)) (little width) (λ y. y ≡ x)
+pub Codes-constant : (width fault x : ℕ) → x < 256 ^ width → Codes (number width fault (λ y. y == x)) (little width) (λ y. y ≡ x)
 Codes-constant width fault x fits =
     Codes-field width fault (λ y. y == x) (λ y. y ≡ x) (λ y h l. eqb-true y x h) (λ y h. (rw h fits, eq-eqb y x h))
 
@@ -53,29 +53,29 @@ mode_code-small OrderOnly = omega arith
 mode_code-small Picolog = omega arith
 
 -- the sections
-abbrev interrupts_of : Shape → Reader (List Interrupt)
+abbrev pub interrupts_of : Shape → Reader (List Interrupt)
 interrupts_of h = section_of (λ x y. is_earlier x.thread x.index y.thread y.index) (interrupt h)
 
-abbrev inputs_of : Reader (List Input)
+abbrev pub inputs_of : Reader (List Input)
 inputs_of = section_of (λ x y. true) input
 
-abbrev dmas_of : Reader (List DmaRecord)
+abbrev pub dmas_of : Reader (List DmaRecord)
 dmas_of = section_of (λ x y. nat_lt x.position y.position) dma
 
-Codes-interrupts : (h : Shape) → IsShape h → Codes (interrupts_of h) (section interrupt_bytes) (AreInterrupts h.threads)
-Codes-interrupts h good =
+pub Codes-interrupts : (h : Shape) → FitsBytes h → Codes (interrupts_of h) (section interrupt_bytes) (AreInterrupts h.threads)
+Codes-interrupts h fits =
     Codes-section (λ x y. is_earlier x.thread x.index y.thread y.index) (λ x y. ComesBefore x.thread x.index y.thread y.index)
-    (interrupt h) interrupt_bytes (IsInterrupt h.threads) (λ x y. Decides-earlier x.thread x.index y.thread y.index) (Codes-interrupt h good)
+    (interrupt h) interrupt_bytes (IsInterrupt h.threads) (λ x y. Decides-earlier x.thread x.index y.thread y.index) (Codes-interrupt h fits)
 
-Codes-inputs : Codes inputs_of (section input_bytes) AreInputs
+pub Codes-inputs : Codes inputs_of (section input_bytes) AreInputs
 Codes-inputs =
     Codes-section (λ x y. true) (λ x y. Unit {0}) input input_bytes IsInput (λ x y. (λ e. tt, λ h. refl)) Codes-input
 
-Codes-dmas : Codes dmas_of (section dma_bytes) AreDmas
+pub Codes-dmas : Codes dmas_of (section dma_bytes) AreDmas
 Codes-dmas =
     Codes-section (λ x y. nat_lt x.position y.position) (λ x y. x.position < y.position) dma dma_bytes IsDmaRecord (λ x y. Decides-ltb x.position y.position) Codes-dma
 
-Codes-chunk_size : (v : ℕ) → Codes (field 4 (from_to least_chunk (most_standard v))) u32 (IsStandard v)
+pub Codes-chunk_size : (v : ℕ) → Codes (field 4 (from_to least_chunk (most_standard v))) u32 (IsStandard v)
 Codes-chunk_size v =
     Codes-field 4 5 (from_to least_chunk (most_standard v)) (IsStandard v)
     (λ x h l. let p = and_parts (nat_le 16 x) (nat_le x (most_standard v)) h in (leb-true 16 x p.0, leb-true x (most_standard v) p.1))
@@ -117,20 +117,20 @@ put-put : {X Y Z : Type 0} (r : Result (Read X) Fault) (first : X → Y) (second
 put-put (Ok r) first second bytes = refl
 put-put (Err fault) first second bytes = refl
 
-put-on : {X Y Z : Type 0} (r : Result (Read X) Fault) (put : X → Y) (next : Y → Reader Z) (bytes : List ℕ)
+pub put-on : {X Y Z : Type 0} (r : Result (Read X) Fault) (put : X → Y) (next : Y → Reader Z) (bytes : List ℕ)
     → continues (continues r (λ x. gives (put x) bytes)) (λ y after. next y bytes after) ≡ continues r (λ x after. next (put x) bytes after)
 put-on (Ok r) put next bytes = refl
 put-on (Err fault) put next bytes = refl
 
 -- a stage that puts what is read into the draft, and the stages behind it
-staged-on : {X : Type 0} (stage : Stage Draft) (behind : List (Stage Draft)) (d : Draft) (reader : Reader X) (put : X → Draft)
+pub staged-on : {D X : Type 0} (stage : Stage D) (behind : List (Stage D)) (d : D) (reader : Reader X) (put : X → D)
     → ((bytes : List ℕ) (at : ℕ) → staged stage d bytes at ≡ read reader (λ x. gives (put x)) bytes at)
     → (bytes : List ℕ) (at : ℕ) → all_of (stage ∷ behind) d bytes at ≡ read reader (λ x. all_of behind (put x)) bytes at
 staged-on stage behind d reader put is bytes at =
     rw (is bytes at) (put-on (reader bytes at) put (all_of behind) bytes)
 
 -- a stage that is read once
-staged-once : {X : Type 0} (reader : Reader X) (put : X → Draft) (bytes : List ℕ) (at : ℕ)
+pub staged-once : {D X : Type 0} (reader : Reader X) (put : X → D) (bytes : List ℕ) (at : ℕ)
     → continues (read reader (λ x. gives (put x)) bytes at) (λ d after. gives d bytes after) ≡ read reader (λ x. gives (put x)) bytes at
 staged-once reader put bytes at = put-on (reader bytes at) put gives bytes
 
@@ -231,7 +231,7 @@ Codes-from_interrupts h m c o z good =
     (staged-on interrupts (drop 9 stages) (put []) (interrupts_of h) put
     (staged-entries interrupts.one put (λ x y. is_earlier x.thread x.index y.thread y.index) (interrupt h) (λ xs bytes at. refl) (any 4)))
     (Codes-part (interrupts_of h) (λ i. from 9 (put i)) (λ l. l.interrupts) (section interrupt_bytes) (AreInterrupts h.threads) bytes-inputs (λ i. Known-inputs h m c o z i)
-    (Codes-interrupts h good) (λ i g. Codes-from_inputs h m c o z i)
+    (Codes-interrupts h (shape-fits h good)) (λ i g. Codes-from_inputs h m c o z i)
     (λ i l r. ap (λ (l : Draft). l.interrupts) r.2.2))
 
 each-put : (h : Shape) (c : ℕ) (o : List Actor) (bytes : List ℕ) (r : Result (Read ℕ) Fault)
@@ -294,7 +294,7 @@ Codes-from_s v t m good =
     (λ s l r. ap (λ (l : Draft). l.shape.s) r.2.2.2.2.2.2))
 
 -- a number that is always the same, from which the draft is this, and the stages behind it
-Codes-constant_then : (stage : Stage Draft) (behind : List (Stage Draft)) (d e : Draft) (width fault value : ℕ) (rest_of : Draft → List ℕ) (rest_good : Draft → Type 0)
+pub Codes-constant_then : {D : Type 0} (stage : Stage D) (behind : List (Stage D)) (d e : D) (width fault value : ℕ) (rest_of : D → List ℕ) (rest_good : D → Type 0)
     → value < 256 ^ width
     → ((bytes : List ℕ) (at : ℕ) → staged stage d bytes at ≡ read (number width fault (λ x. x == value)) (λ x. gives e) bytes at)
     → Codes (all_of behind e) rest_of rest_good → Codes (all_of (stage ∷ behind) d) (λ l. little width value ++ rest_of l) rest_good
@@ -312,7 +312,7 @@ Codes-first_count =
       split t (inl first) = (0, refl, first.1, refl)
       split t (inr second) = absurd (omega (arith, second.0))
 
-Decides-threads : (t : ℕ) → Decides ((t == plain_threads) || (t == most_threads)) ((t ≡ plain_threads) ⊎ (t ≡ most_threads))
+pub Decides-threads : (t : ℕ) → Decides ((t == plain_threads) || (t == most_threads)) ((t ≡ plain_threads) ⊎ (t ≡ most_threads))
 Decides-threads t = Decides-or _ _ (Decides-eqb t plain_threads) (Decides-eqb t most_threads)
 
 Codes-second_count : Codes (thread_count 2) (threads_bytes 2) (IsVersion 2)
@@ -419,7 +419,7 @@ log-good bytes log are e =
     let s = read-whole bytes (all_of stages blank bytes 0) log e in
     subst IsLog s.3 (known-good s.0.value (Codes-draft.finds [] bytes s.0.value s.0.after are s.1).is_good)
 
-nothing-behind : (bytes whole rest : List ℕ) → bytes ≡ whole ++ rest → length bytes ≤ length whole → whole ≡ bytes
+pub nothing-behind : (bytes whole rest : List ℕ) → bytes ≡ whole ++ rest → length bytes ≤ length whole → whole ≡ bytes
 nothing-behind bytes whole rest split few =
     let none : rest ≡ [] = nil_from_length rest (omega (arith, ap length split, length-append whole rest)) in
     rw (split, none, append-nil whole) refl

@@ -11,5 +11,6 @@ mod logs;
 mod making;
 mod plans;
 mod reports;
+mod strata_bytes;
 mod summaries;
 mod words;

@@ -1,0 +1,4 @@
+mod Repeating
+mod RunLaws
+mod Staging
+mod StrataLaws
