@@ -1,5 +1,5 @@
-//! Walks a log, and makes a trail of it and takes slices near its end. Its words are the number of the log's commits, and how
-//! many slices are taken; with the first alone it only walks. With none it does both, for a short log.
+//! Walks a log, and makes a trail of it and takes slices near its end. Its words are the number of the log's commits, and
+//! how many slices are taken; with the first alone it only walks. With none it does both, for a short log.
 #![tactic(auto)]
 
 mod file;
