@@ -31,7 +31,7 @@ pub use error::LogError;
 pub use fields::{read_chunk_size, read_thread_count};
 pub use fixed::Fixed;
 pub use law::reading_undoes_writing;
-pub use migration::migrate_log;
+pub use migration::{copy_dmas, copy_inputs, migrate_log};
 pub use numbers::{FIELD, judge, read_raw, read_thread, read_u8, read_u32};
 pub use reader::LogReader;
 pub use section::read_next;
