@@ -39,7 +39,8 @@ fn copy_sizes(alloc: Global, sizes: &Sizes) -> Result<Sizes, OutOfMemory>
     }
 }
 
-fn copy_inputs(alloc: Global, inputs: &[Input]) -> Result<Sequence<Input>, OutOfMemory>
+/// The same inputs again.
+pub fn copy_inputs(alloc: Global, inputs: &[Input]) -> Result<Sequence<Input>, OutOfMemory>
     ensures { IfOk result (λ copy. copy ≡ inputs.now) }
 {
     let mut copy = Sequence::new(alloc);
@@ -53,7 +54,8 @@ fn copy_inputs(alloc: Global, inputs: &[Input]) -> Result<Sequence<Input>, OutOf
     Ok(copy)
 }
 
-fn copy_dmas(alloc: Global, dmas: &[DmaRecord]) -> Result<Sequence<DmaRecord>, OutOfMemory>
+/// The same records of DMAs again.
+pub fn copy_dmas(alloc: Global, dmas: &[DmaRecord]) -> Result<Sequence<DmaRecord>, OutOfMemory>
     ensures { IfOk result (λ copy. copy ≡ dmas.now) }
 {
     let mut copy = Sequence::new(alloc);

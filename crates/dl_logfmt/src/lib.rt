@@ -26,7 +26,7 @@ mod version;
 mod whole;
 mod writer;
 
-pub use copying::copy_log;
+pub use copying::{copy_dmas, copy_inputs, copy_log};
 pub use dl_entry::OutOfMemory;
 pub use entry::Entry;
 pub use error::LogError;

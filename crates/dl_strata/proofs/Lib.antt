@@ -1,3 +1,4 @@
+mod Order
 mod Repeating
 mod RunLaws
 mod Staging

@@ -1,6 +1,7 @@
 //! Strata as bytes.
 #![tactic(auto)]
 
+mod canonical;
 mod error;
 mod header;
 mod law;
@@ -9,6 +10,7 @@ mod runs;
 mod sections;
 mod writing;
 
+pub use canonical::canonical_log;
 pub use dl_entry::OutOfMemory;
 pub use error::StrataError;
 pub use law::reading_undoes_writing;

@@ -1,7 +1,7 @@
 //! The bytes of strata, and bytes that aren't strata.
 use super::log_bytes::overwritten;
-use dl_logfmt::Fault;
-use dl_strata::{StrataError, read_strata, write_strata};
+use dl_logfmt::{Fault, write_log};
+use dl_strata::{StrataError, canonical_log, read_strata, write_strata};
 use std::alloc::Global;
 use std::test::Fail;
 
@@ -43,6 +43,13 @@ fn the_stratum_with_too_many_commits_is_named(rt: HostRuntime) -> Result<(), Fai
     Ok(())
 }
 
+#[test]
+fn strata_stand_for_a_log(rt: HostRuntime) -> Result<(), Fail> {
+    let log = canonical_log(rt.alloc(), &read_strata(rt.alloc(), SHORT)?)?;
+    assert!(rt; write_log(rt.alloc(), &log)?.as_slice() == SHORT_LOG);
+    Ok(())
+}
+
 /// A header and so many strata, in each of which 63 threads have 255 commits.
 fn full_strata(alloc: Global, count: u32) -> Result<Vec<u8>, Fail> {
     let mut bytes = Vec::new(alloc);
@@ -65,6 +72,17 @@ const STRATA: &[&[u8]] = &[SHORT, ONE_THREAD, FULL];
 /// Two threads, whose chunks are in one stratum.
 const SHORT: &[u8] = b"\x44\x4C\x52\x53\x01\x02\x0F\x00\x64\x00\x00\x00\x05\x00\x00\x00\
   \x00\x00\x01\x01\x00\x00\x01\x01\x01\x00\x01\x01\
+  \x03\x00\x00\x00\
+  \x00\x00\x00\x00\x00\x03\x00\x00\x00\
+  \x00\x02\x00\x00\x00\x02\x00\x00\x00\
+  \x01\x00\x00\x00\x00\x03\x00\x00\x00\
+  \x00\x00\x00\x00\
+  \x00\x00\x00\x00\
+  \x00\x00\x00\x00";
+
+/// Their log: a chunk of thread 1, a serial step of thread 0, a chunk of each, and a serial step of each.
+const SHORT_LOG: &[u8] = b"\x44\x4C\x52\x4E\x02\x01\x0F\x00\x64\x00\x00\x00\x06\x00\x00\x00\
+  \x06\x00\x00\x00\x01\x00\x00\x01\x00\x01\
   \x03\x00\x00\x00\
   \x00\x00\x00\x00\x00\x03\x00\x00\x00\
   \x00\x02\x00\x00\x00\x02\x00\x00\x00\
