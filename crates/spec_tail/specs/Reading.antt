@@ -59,9 +59,8 @@ made present base last request size =
     record { present = present; base = base; last = last; request = request; size = size }
 
 -- "DLRT", the version of the file, a zero byte, and what there is
-abbrev pub header : Stage TailDraft
-header =
-    once (λ d.
+abbrev pub header_fields : Reader TailHeader
+header_fields =
     read (number 4 2 (λ x. x == 0x54524C44)) (λ magic.
     read (number 1 3 (λ x. x == 1)) (λ version.
     read (zeros 1) (λ spare.
@@ -70,7 +69,10 @@ header =
     read (last present) (λ last.
     read request (λ request.
     read (field 4 (is_size request)) (λ size.
-    gives (record d { header = made present base last request size }))))))))))
+    gives (made present base last request size)))))))))
+
+abbrev pub header : Stage TailDraft
+header = once (λ d. read header_fields (λ header. gives (record d { header = header })))
 
 -- ---- the threads
 
@@ -88,9 +90,9 @@ status kind code =
 abbrev pub is_saved : (mask value : ℕ) → Bool
 is_saved mask value = (mask == 1) || (value == 0)
 
--- so many registers more, after those that were read
-abbrev pub registers : (count : ℕ) → List ℕ → Reader (List ℕ)
-registers count x = repeated (λ x. read (any 4) (λ value. gives (x ++ value ∷ []))) count x
+-- register 0 is 0, and is not there
+abbrev pub registers : Reader (List ℕ)
+registers = read (repeated (one_more (λ x y. true) (any 4)) 31 []) (λ x. gives (0 ∷ x))
 
 abbrev pub thread : (base : ℕ) → Reader Parts
 thread base =
@@ -104,7 +106,7 @@ thread base =
     read (field 4 (is_saved mask)) (λ saved_a0.
     read (field 4 (is_saved mask)) (λ saved_a1.
     read (field 4 (at_most base)) (λ commits.
-    read (registers 31 (0 ∷ [])) (λ x.
+    read registers (λ x.
     gives (record {
       pc = pc;
       x = x;
@@ -122,7 +124,7 @@ abbrev pub threads : Stage TailDraft
 threads =
     record {
       times = λ d. gives d.header.present;
-      one = λ d. read (thread d.header.base) (λ p. gives (record d { threads = d.threads ++ p ∷ [] }));
+      one = λ d. read (one_more (λ x y. true) (thread d.header.base) d.threads) (λ threads. gives (record d { threads = threads }));
     }
 
 -- ---- the rows of memory
