@@ -26,10 +26,18 @@ mod whole;
 mod writer;
 
 pub use dl_entry::OutOfMemory;
+pub use entry::Entry;
 pub use error::LogError;
+pub use fields::{read_chunk_size, read_thread_count};
+pub use fixed::Fixed;
 pub use law::reading_undoes_writing;
 pub use migration::migrate_log;
+pub use numbers::{FIELD, judge, read_raw, read_thread, read_u8, read_u32};
 pub use reader::LogReader;
+pub use section::read_section;
+pub use section_left::SectionLeft;
+pub use source::Source;
 pub use spec_log::{DmaRecord, Fault, Interrupt, Log, LogParts, ModeName, Order, ShortSize, Sizes};
+pub use unit::Unit;
 pub use whole::{read_log, write_log};
 pub use writer::LogWriter;

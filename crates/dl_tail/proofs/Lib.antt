@@ -1,0 +1,5 @@
+pub mod HeaderLaws
+pub mod LogStages
+pub mod RowLaws
+pub mod TailLaws
+pub mod ThreadLaws
