@@ -18,12 +18,6 @@ Makes reading (Ok x) old new after = reading ≡ Ok (record { value = new; after
 Makes reading (Err (Malformed fault)) old new after = (reading ≡ Err fault) × (new ≡ old)
 Makes reading (Err OutOfMemory) old new after = Unit {0}
 
--- the same of a call that leaves in a value what is read; with a fault, whatever it has come to
-abbrev pub Leaves : {X : Type 0} → Result (Read X) Fault → Result (Unit {0}) LogError → (new : X) → ℕ → Type 0
-Leaves reading (Ok x) new after = reading ≡ Ok (record { value = new; after = after })
-Leaves reading (Err (Malformed fault)) new after = reading ≡ Err fault
-Leaves reading (Err OutOfMemory) new after = Unit {0}
-
 -- the parts of the log that was read, or the fault; want of memory alone has no cause
 abbrev pub IsReading : Result LogParts Fault → Result LogParts LogError → Type 0
 IsReading reading (Ok log) = reading ≡ Ok log

@@ -1,32 +1,15 @@
 //! An entry of a section, as it is read behind those before it.
 ghost use Rattle.std.specs.Prelude.{◌≡◌};
-ghost use Rattle.spec_log.specs.Fields.{comes_after, last, listed, next_entry, one_more, staged};
-ghost use Rattle.dl_logfmt.specs.Answer.{Answers, Leaves, Makes};
+ghost use Rattle.spec_log.specs.Fields.{comes_after, last, next_entry, one_more};
+ghost use Rattle.dl_logfmt.specs.Answer.{Answers, Makes};
 ghost use Rattle.dl_logfmt.specs.Parsing.{Extends};
 
 use crate::entry::Entry;
 use crate::error::LogError;
-use crate::numbers::{judge, read_u32};
+use crate::numbers::judge;
 use crate::source::Source;
 use dl_entry::Sequence;
 use spec_log::Shape;
-
-/// Reads a section behind those of a list: the number of its entries, and the entries, as in a log of this shape.
-pub fn read_section<E: Entry>(
-    list: &mut Sequence<E>,
-    source: &Source<'_>,
-    at: &mut usize,
-    shape: Shape,
-) -> Result<(), LogError>
-    ensures { Leaves (staged (listed (one_more E.earlier (E.reader shape))) list.old source.now.bytes.now at.old)
-        result list.new at.new }
-{
-    let count = read_u32(source.bytes, at)?;
-    for _ in 0..count {
-        read_next(list, source, at, shape)?;
-    }
-    Ok(())
-}
 
 /// Reads one entry more of a list, in a log of this shape.
 pub fn read_next<E: Entry>(

@@ -1,11 +1,10 @@
 //! What is left of a section.
-ghost use Rattle.std.specs.Prelude.{◌≡◌, ◌<◌, ◌^◌, [], ◌++◌, length, All, OnOk};
+ghost use Rattle.std.specs.Prelude.{◌≡◌, ◌<◌, ◌^◌, [], length, All};
 ghost use Rattle.spec_log.specs.Bytes.{section};
 ghost use Rattle.dl_logfmt.specs.Writing.{IsNextUnit};
 
 use crate::entry::Entry;
 use crate::unit::Unit;
-use dl_entry::OutOfMemory;
 use std::marker::Model;
 
 /// The entries that are not begun, and whether their count is, in a log of this version; seen as the bytes that are left.
@@ -64,15 +63,5 @@ impl<'a, E: Entry> SectionLeft<'a, E> {
         };
         self.entries = rest;
         Some(entry.unit(self.version))
-    }
-
-    /// Puts the bytes that are left behind others.
-    pub fn append_to(mut self, out: &mut Vec<u8>) -> Result<(), OutOfMemory>
-        ensures { OnOk result (out.new.items ≡ out.old.items ++ self.entry) }
-    {
-        while let Some(unit) = self.begin() {
-            unit.append_to(out)?;
-        }
-        Ok(())
     }
 }

@@ -1,9 +1,8 @@
 //! The smallest parts that a log is written by.
-ghost use Rattle.std.specs.Prelude.{◌≡◌, min, ◌++◌, length, take, drop, OnOk};
+ghost use Rattle.std.specs.Prelude.{◌≡◌, min, ◌++◌, length, take, drop};
 ghost use Rattle.spec_log.specs.Bytes.{u8 as one, u32 as four};
 
 use crate::fixed::Fixed;
-use dl_entry::OutOfMemory;
 use std::marker::Model;
 
 /// Fixed bytes and those that they count, seen as the bytes that are left of both.
@@ -64,15 +63,6 @@ impl<'a> Unit<'a> {
         let counted = fill(self.counted, &mut into[fixed..]);
         self.counted = &self.counted[counted..];
         fixed + counted
-    }
-
-    /// Puts the bytes that are left behind others.
-    pub fn append_to(self, out: &mut Vec<u8>) -> Result<(), OutOfMemory>
-        ensures { OnOk result (out.new.items ≡ out.old.items ++ self.entry) }
-    {
-        out.extend_from_slice(&self.fixed.as_slice()[self.taken..])?;
-        out.extend_from_slice(self.counted)?;
-        Ok(())
     }
 }
 

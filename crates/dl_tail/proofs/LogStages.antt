@@ -62,7 +62,7 @@ module _ (d : TailDraft) where
   repeated-of s (suc n) l bytes at =
       put-through (repeated s.one n) (repeated (of_log s).one n) bytes (λ l after. repeated-of s n l bytes after) (s.one l bytes at)
 
-  staged-of : (s : Stage Draft) (l : Draft) (bytes : List ℕ) (at : ℕ)
+  pub staged-of : (s : Stage Draft) (l : Draft) (bytes : List ℕ) (at : ℕ)
       → staged (of_log s) (put d l) bytes at ≡ read (staged s l) (λ l. gives (put d l)) bytes at
   staged-of s l bytes at = more (s.times l bytes at) where
     more : (r : Result (Read ℕ) Fault)

@@ -131,7 +131,7 @@ same-memory m pages =
 
 -- ---- the rows of a memory
 
-rows-few : (n k : ℕ) (m : List ℕ) → length (rows_from k n m) ≤ n
+pub rows-few : (n k : ℕ) (m : List ℕ) → length (rows_from k n m) ≤ n
 rows-few zero k m = omega arith
 rows-few (suc n) k m = by (is_empty (take 32 m)) (rows-few n (suc k) (drop 32 m)) where
   by : (b : Bool) → length (rows_from (suc k) n (drop 32 m)) ≤ n

@@ -1,7 +1,8 @@
 -- Reading a tail undoes writing it, and what is read is a tail.
-use Rattle.std.proofs.Common.{◌≡◌, ℕ, ◌+◌, ◌<◌, ◌≤◌, ◌^◌, Bool, true, false, nat_lt, ◌⊎◌, inl, inr, List, [], ◌∷◌, ◌++◌, All, length, drop, None, Result, Ok, Err, refl, ap, sym, subst, ◌∙◌, append-nil, append_assoc, arith}
-use Rattle.std.specs.List.{flat_map}
-use Rattle.std.proofs.lemmas.Bool.{leb-true, le-leb, le-ltb, ltb-false}
+use Rattle.std.proofs.Common.{◌≡◌, ℕ, ◌+◌, ◌*◌, ◌<◌, ◌≤◌, ◌^◌, Bool, true, false, nat_lt, ◌⊎◌, inl, inr, List, [], ◌∷◌, ◌++◌, All, length, drop, None, Result, Ok, Err, refl, ap, sym, subst, ◌∙◌, append-nil, append_assoc, arith}
+use Rattle.std.specs.List.{flat_map, AllByRecursion}
+use Rattle.std.proofs.lemmas.List.Elements.{All-from_recursion}
+use Rattle.std.proofs.lemmas.Bool.{leb-true, le-leb, le-ltb, lt-ltb, ltb-false}
 use Rattle.dl_entry.specs.Numbers.{plain_threads, most_threads}
 use Rattle.spec_isa.specs.declared.thread.Parts.{Parts}
 use Rattle.spec_log.specs.declared.draft.Draft.{Draft}
@@ -27,7 +28,7 @@ use Rattle.dl_logfmt.proofs.LogLaws.{draft_of as log_draft_of, log-draft, shaped
 use Rattle.dl_logfmt.proofs.SectionLaws.{entries, section_of, staged-entries}
 use Rattle.dl_tail.proofs.HeaderLaws.{bytes-header, IsHeader, Codes-header}
 use Rattle.dl_tail.proofs.LogStages.{put, bytes-all, Known-mode, Codes-log}
-use Rattle.dl_tail.proofs.RowLaws.{AreRows, Codes-rows, same-memory, are-rows, is-memory}
+use Rattle.dl_tail.proofs.RowLaws.{IsRow, AreRows, Codes-rows, same-memory, are-rows, is-memory}
 use Rattle.dl_tail.proofs.ThreadLaws.{Codes-threads}
 
 -- ---- from a stage on
@@ -209,3 +210,30 @@ read_again t good =
           let e = subst (λ (b : List ℕ). all_of stages blank b 0 ≡ Ok (record { value = d; after = length bytes })) (append-nil bytes) (Codes-draft.reads d known [] []) in
           let end : nat_lt (length bytes) (length bytes) ≡ false = le-ltb _ _ (omega arith) in
           rw (e, end) refl
+
+-- ---- what a reader has come to
+
+rows-fit : (size : ℕ) (rs : List Row) → AllByRecursion (IsRow size) rs → AllByRecursion (λ r. 32 * r.number + 32 ≤ size) rs
+rows-fit size [] good = tt
+rows-fit size (r ∷ rs) good = let below = good.0.number in (omega (arith, below), rows-fit size rs good.1)
+
+-- The stages of these bytes are read, up to an offset.
+module _ (bytes : List ℕ) (d : TailDraft) (after : ℕ) (e : all_of stages blank bytes 0 ≡ Ok (record { value = d; after = after })) where
+  pub tail-read : All IsByte bytes → IsTail (tail_of d)
+  tail-read are = is-tail d (Codes-draft.finds [] bytes d after are e).is_good
+
+  pub rows-read : All IsByte bytes → All (λ r. 32 * r.number + 32 ≤ d.header.size) d.rows
+  rows-read are = inside d (Codes-draft.finds [] bytes d after are e).is_good where
+    inside : (d : TailDraft) → Known d → All (λ r. 32 * r.number + 32 ≤ d.header.size) d.rows
+    inside d (h, gh, (ts, gts, (rs, grs, k))) =
+        subst (λ (d : TailDraft). All (λ r. 32 * r.number + 32 ≤ d.header.size) d.rows) (sym k.1.2.2.2.1)
+        (All-from_recursion (λ r. 32 * r.number + 32 ≤ h.size) rs (rows-fit h.size rs grs.1))
+
+  pub whole-read : length bytes ≤ after → read_of bytes ≡ Ok (tail_of d)
+  whole-read all = let end : nat_lt after (length bytes) ≡ false = le-ltb _ _ all in rw (e, end) refl
+
+  pub more-read : after < length bytes → read_of bytes ≡ Err (record { number = 7; offset = after })
+  more-read more = let end : nat_lt after (length bytes) ≡ true = lt-ltb _ _ more in rw (e, end) refl
+
+pub fault-read : (bytes : List ℕ) (fault : Fault) → all_of stages blank bytes 0 ≡ Err fault → read_of bytes ≡ Err fault
+fault-read bytes fault e = rw e refl

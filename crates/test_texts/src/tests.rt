@@ -11,4 +11,5 @@ mod making;
 mod plans;
 mod reports;
 mod summaries;
+mod tail_bytes;
 mod words;

@@ -1,10 +1,11 @@
 -- What is read so many times, when some of them are done.
-use Rattle.std.proofs.Common.{◌≡◌, ℕ, zero, suc, ◌+◌, ◌-◌, ◌<◌, List, [], Result, Ok, Err, refl, ap, ◌∙◌, arith}
+use Rattle.std.proofs.Common.{◌≡◌, ℕ, suc, ◌+◌, ◌-◌, ◌<◌, List, Result, Ok, Err, refl, ap, ◌∙◌, arith}
 use Rattle.spec_log.specs.declared.fault.Fault.{Fault}
-use Rattle.spec_log.specs.Fields.{Read, Reader, read, repeated}
+use Rattle.spec_log.specs.Fields.{Read, Reader, repeated}
 use Rattle.dl_logfmt.specs.declared.error.LogError.{LogError}
 use Rattle.dl_logfmt.specs.declared.error.LogError.TheVariants.{Malformed, OutOfMemory}
-use Rattle.dl_logfmt.specs.Answer.{Leaves, Makes}
+use Rattle.dl_logfmt.specs.Answer.{Answers, Makes}
+use Rattle.dl_tail.specs.Answer.{Leaves}
 
 -- So many of n times are done, and d was read.
 module _ {D : Type 0} (one : D → Reader D) (n done : ℕ) (d : D) (bytes : List ℕ) (at : ℕ) (some : done < n) where
@@ -32,3 +33,8 @@ pub fault-left : {X Y : Type 0} (part : Result (Read X) Fault) (whole : Result (
     → ((fault : Fault) → part ≡ Err fault → whole ≡ Err fault) → Leaves part (Err error) new at → Leaves whole (Err error) end after
 fault-left part whole (Malformed fault) new end at after same leaves = same fault leaves
 fault-left part whole OutOfMemory new end at after same leaves = tt
+
+pub fault-answered : {X Y : Type 0} (part : Result (Read X) Fault) (whole : Result (Read Y) Fault) (error : LogError) (at after : ℕ)
+    → ((fault : Fault) → part ≡ Err fault → whole ≡ Err fault) → Answers part (Err error) at → Answers whole (Err error) after
+fault-answered part whole (Malformed fault) at after same answers = same fault answers
+fault-answered part whole OutOfMemory at after same answers = tt
