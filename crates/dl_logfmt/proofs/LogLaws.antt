@@ -36,18 +36,18 @@ pub Codes-constant : (width fault x : ℕ) → x < 256 ^ width → Codes (number
 Codes-constant width fault x fits =
     Codes-field width fault (λ y. y == x) (λ y. y ≡ x) (λ y h l. eqb-true y x h) (λ y h. (rw h fits, eq-eqb y x h))
 
-mode_of-code : (m : ModeName) → m ≡ mode_of (mode_code m)
+pub mode_of-code : (m : ModeName) → m ≡ mode_of (mode_code m)
 mode_of-code OrderSize = refl
 mode_of-code OrderOnly = refl
 mode_of-code Picolog = refl
 
-code-mode_of : (code : ℕ) → code ≤ 2 → mode_code (mode_of code) ≡ code
+pub code-mode_of : (code : ℕ) → code ≤ 2 → mode_code (mode_of code) ≡ code
 code-mode_of zero h = refl
 code-mode_of (suc zero) h = refl
 code-mode_of (suc (suc zero)) h = refl
 code-mode_of (suc (suc (suc n))) h = absurd (omega arith)
 
-mode_code-small : (m : ModeName) → mode_code m ≤ 2
+pub mode_code-small : (m : ModeName) → mode_code m ≤ 2
 mode_code-small OrderSize = omega arith
 mode_code-small OrderOnly = omega arith
 mode_code-small Picolog = omega arith
@@ -92,18 +92,18 @@ Codes-count =
     Codes-field 4 5 (at_most (2 ^ 24)) (λ c. c ≤ 2 ^ 24) (λ c h l. leb-true c (2 ^ 24) h) (λ c h. (omega arith, le-leb c (2 ^ 24) h))
 
 -- the draft of a log of these parts, named by their first letters, `z` the sizes and `n` the inputs
-abbrev short_of : Sizes → List ShortSize
+abbrev pub short_of : Sizes → List ShortSize
 short_of (Each xs) = []
 short_of (Short xs) = xs
 
-abbrev shaped : (v t s : ℕ) → Shape
+abbrev pub shaped : (v t s : ℕ) → Shape
 shaped v t s = record { version = v; threads = t; s = s }
 
-abbrev whole : (h : Shape) (m : ModeName) (c : ℕ) (o : List Actor) (z : Sizes) (i : List Interrupt) (n : List Input) (d : List DmaRecord) → Draft
+abbrev pub whole : (h : Shape) (m : ModeName) (c : ℕ) (o : List Actor) (z : Sizes) (i : List Interrupt) (n : List Input) (d : List DmaRecord) → Draft
 whole h m c o z i n d =
     record { shape = h; mode = m; count = c; order = o; each = each_of z; short = short_of z; interrupts = i; inputs = n; dmas = d }
 
-same-sizes : (m : ModeName) (t s c : ℕ) (z : Sizes) → IsSizes m t s c z → sizes_in m (each_of z) (short_of z) ≡ z
+pub same-sizes : (m : ModeName) (t s c : ℕ) (z : Sizes) → IsSizes m t s c z → sizes_in m (each_of z) (short_of z) ≡ z
 same-sizes OrderSize t s c (Each xs) h = refl
 same-sizes OrderSize t s c (Short xs) h = absurd h
 same-sizes OrderOnly t s c (Each xs) h = absurd h
@@ -135,38 +135,38 @@ pub staged-once : {D X : Type 0} (reader : Reader X) (put : X → D) (bytes : Li
 staged-once reader put bytes at = put-on (reader bytes at) put gives bytes
 
 -- the stages from one on
-abbrev from : ℕ → Draft → Reader Draft
+abbrev pub from : ℕ → Draft → Reader Draft
 from k d = all_of (drop k stages) d
 
 -- what is known of a whole draft of which the parts before are these, and the bytes of the parts from here on
-abbrev Known-dmas : Shape → ModeName → ℕ → List Actor → Sizes → List Interrupt → List Input → Draft → Type 0
+abbrev pub Known-dmas : Shape → ModeName → ℕ → List Actor → Sizes → List Interrupt → List Input → Draft → Type 0
 Known-dmas h m c o z i n l = (d : List DmaRecord) × AreDmas d × (l ≡ whole h m c o z i n d)
 
-abbrev bytes-dmas : Draft → List ℕ
+abbrev pub bytes-dmas : Draft → List ℕ
 bytes-dmas l = (section dma_bytes) l.dmas ++ []
 
-abbrev Known-inputs : Shape → ModeName → ℕ → List Actor → Sizes → List Interrupt → Draft → Type 0
+abbrev pub Known-inputs : Shape → ModeName → ℕ → List Actor → Sizes → List Interrupt → Draft → Type 0
 Known-inputs h m c o z i l = (n : List Input) × AreInputs n × Known-dmas h m c o z i n l
 
-abbrev bytes-inputs : Draft → List ℕ
+abbrev pub bytes-inputs : Draft → List ℕ
 bytes-inputs l = (section input_bytes) l.inputs ++ (bytes-dmas l)
 
-abbrev Known-interrupts : Shape → ModeName → ℕ → List Actor → Sizes → Draft → Type 0
+abbrev pub Known-interrupts : Shape → ModeName → ℕ → List Actor → Sizes → Draft → Type 0
 Known-interrupts h m c o z l = (i : List Interrupt) × AreInterrupts h.threads i × Known-inputs h m c o z i l
 
-abbrev bytes-interrupts : Draft → List ℕ
+abbrev pub bytes-interrupts : Draft → List ℕ
 bytes-interrupts l = (section interrupt_bytes) l.interrupts ++ (bytes-inputs l)
 
-abbrev Known-sizes : Shape → ModeName → ℕ → List Actor → Draft → Type 0
+abbrev pub Known-sizes : Shape → ModeName → ℕ → List Actor → Draft → Type 0
 Known-sizes h m c o l = (z : Sizes) × IsSizes m h.threads h.s c z × Known-interrupts h m c o z l
 
-abbrev bytes-sizes : ℕ → Draft → List ℕ
+abbrev pub bytes-sizes : ℕ → Draft → List ℕ
 bytes-sizes v l = sizes_bytes v (sizes_in l.mode l.each l.short) ++ (bytes-interrupts l)
 
-abbrev Known-order : Shape → ModeName → ℕ → Draft → Type 0
+abbrev pub Known-order : Shape → ModeName → ℕ → Draft → Type 0
 Known-order h m c l = (o : List Actor) × IsOrder m h.threads c o × Known-sizes h m c o l
 
-abbrev bytes-order : ℕ → Draft → List ℕ
+abbrev pub bytes-order : ℕ → Draft → List ℕ
 bytes-order v l = order_bytes v l.order ++ (bytes-sizes v l)
 
 abbrev Known-count : Shape → ModeName → Draft → Type 0
@@ -265,7 +265,7 @@ Codes-from_sizes h m c o good gc =
       written : (l : Draft) (z : Sizes) → IsSizes m h.threads h.s c z → Known-interrupts h m c o z l → bytes-sizes h.version l ≡ sizes_bytes h.version z ++ bytes-interrupts l
       written l z g (i, gi, (n, gn, (d, gd, e))) = rw (e, same-sizes m h.threads h.s c z g) refl
 
-Codes-from_order : (h : Shape) (m : ModeName) (c : ℕ) → IsShape h → c ≤ 2 ^ 24 → Codes (from 6 (whole h m c [] (Each []) [] [] [])) (bytes-order h.version) (Known-order h m c)
+pub Codes-from_order : (h : Shape) (m : ModeName) (c : ℕ) → IsShape h → c ≤ 2 ^ 24 → Codes (from 6 (whole h m c [] (Each []) [] [] [])) (bytes-order h.version) (Known-order h m c)
 Codes-from_order h m c good gc =
     let put : List Actor → Draft = λ (o : List Actor). whole h m c o (Each []) [] [] [] in
     Codes-via (from 6 (put [])) (read (order_of h m c) (λ o. from 7 (put o))) (bytes-order h.version) (Known-order h m c)
@@ -396,10 +396,10 @@ known-good l (v, gv, (m, (t, gt, (s, gs, (c, gc, (o, go, (z, gz, (i, gi, (n, gn,
     (record { version = gt; s = gs; count = gc; order = go; sizes = rw (same-sizes m t s c z gz) gz; interrupts = gi; inputs = gn; dmas = gd })
 
 -- the draft of a log
-abbrev draft_of : LogParts → Draft
+abbrev pub draft_of : LogParts → Draft
 draft_of l = whole (shaped l.version l.threads l.s) l.mode l.count l.order l.sizes l.interrupts l.inputs l.dmas
 
-log-draft : (l : LogParts) → IsLog l → log_of (draft_of l) ≡ l
+pub log-draft : (l : LogParts) → IsLog l → log_of (draft_of l) ≡ l
 log-draft l h = rw (same-sizes l.mode l.threads l.s l.count l.sizes h.sizes) refl
 
 -- reading a log's draft undoes writing it

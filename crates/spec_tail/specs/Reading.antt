@@ -58,18 +58,22 @@ abbrev pub made : (present base : ℕ) → Option ℕ → Option Request → (si
 made present base last request size =
     record { present = present; base = base; last = last; request = request; size = size }
 
--- "DLRT", the version of the file, a zero byte, and what there is
-abbrev pub header_fields : Reader TailHeader
-header_fields =
-    read (number 4 2 (λ x. x == 0x54524C44)) (λ magic.
-    read (number 1 3 (λ x. x == 1)) (λ version.
-    read (zeros 1) (λ spare.
+-- what there is
+abbrev pub header_parts : Reader TailHeader
+header_parts =
     read (field 2 (from_to 1 most_threads)) (λ present.
     read (field 4 (at_most (2 ^ 24))) (λ base.
     read (last present) (λ last.
     read request (λ request.
     read (field 4 (is_size request)) (λ size.
-    gives (made present base last request size)))))))))
+    gives (made present base last request size))))))
+
+-- "DLRT", the version of the file, and a zero byte come before it
+abbrev pub header_fields : Reader TailHeader
+header_fields =
+    read (number 4 2 (λ x. x == 0x54524C44)) (λ magic.
+    read (number 1 3 (λ x. x == 1)) (λ version.
+    read (zeros 1) (λ spare. header_parts)))
 
 abbrev pub header : Stage TailDraft
 header = once (λ d. read header_fields (λ header. gives (record d { header = header })))
@@ -94,12 +98,9 @@ is_saved mask value = (mask == 1) || (value == 0)
 abbrev pub registers : Reader (List ℕ)
 registers = read (repeated (one_more (λ x y. true) (any 4)) 31 []) (λ x. gives (0 ∷ x))
 
-abbrev pub thread : (base : ℕ) → Reader Parts
-thread base =
-    read (field 1 (at_most 2)) (λ kind.
-    read (field 1 (at_most 1)) (λ mask.
-    read (zeros 2) (λ spare.
-    read (field 4 (is_code kind)) (λ code.
+-- what comes after its status and its mask
+abbrev pub thread_parts : (base mask : ℕ) → ThreadStatus → Reader Parts
+thread_parts base mask status =
     read (field 4 is_aligned) (λ pc.
     read (field 4 is_aligned) (λ handler.
     read (field 4 (λ x. is_aligned x && is_saved mask x)) (λ saved_pc.
@@ -116,9 +117,16 @@ thread base =
       saved_pc = saved_pc;
       saved_a0 = saved_a0;
       saved_a1 = saved_a1;
-      status = status kind code;
+      status = status;
       commits = commits;
-    }))))))))))))
+    }))))))))
+
+abbrev pub thread : (base : ℕ) → Reader Parts
+thread base =
+    read (field 1 (at_most 2)) (λ kind.
+    read (field 1 (at_most 1)) (λ mask.
+    read (zeros 2) (λ spare.
+    read (field 4 (is_code kind)) (λ code. thread_parts base mask (status kind code)))))
 
 abbrev pub threads : Stage TailDraft
 threads =
