@@ -1,17 +1,17 @@
 //! Machines that were worked out event by event.
-ghost use Rattle.std.specs.Prelude.{◌≡◌, true, All, IfOk, map};
+ghost use Rattle.std.specs.Prelude.{◌≡◌, true, All, None, IfOk, map};
 ghost use Rattle.spec_protocol.specs.promises.Sound.{AreFew};
-ghost use Rattle.dl_sphere.specs.Setups.{HasBegun, IsRecordableIf, role_setup, setup_of as as_defined};
+ghost use Rattle.dl_sphere.specs.Setups.{HasBegun, IsRecordableIf, begun_as, role_setup, setup_of as as_defined};
 ghost use Rattle.dl_machine.specs.Setups.{IsWithin};
 
-use dl_elf::load;
+use dl_elf::{Image, load};
 use dl_entry::{Actor, Bytes, Commit, End, Load, OutOfMemory, Sequence};
 use dl_finish::{finish, next_event};
 use dl_logfmt::{read_log, write_log};
 use dl_machine::{Machine, Setup};
 use dl_sig::Banked;
-use dl_sphere::{Replay, Role, Sphere, SphereSetup};
-use spec_log::ModeName;
+use dl_sphere::{Begun, Interval, Memory, Replay, Role, Sphere, SphereSetup, State};
+use spec_log::{Log, ModeName};
 use spec_protocol::{Event, Reply};
 use std::alloc::{AllocError, Global};
 use std::process::Abort;
@@ -58,6 +58,12 @@ enum Lived {
     },
     Replayed {
         log: &'static [u8],
+        end: Option<End>,
+    },
+    /// The first `to` commits of the log, and no more.
+    Cut {
+        log: &'static [u8],
+        to: u32,
         end: Option<End>,
     },
 }
@@ -159,7 +165,7 @@ fn has_lived(alloc: Global, sphere: &Sphere, life: &Life) -> Result<bool, OutOfM
     let has_ended = match life.role {
         Lived::Plain => sphere.end().is_none(),
         Lived::Recorded { log, .. } => log_of(alloc, sphere)?.as_slice() == log,
-        Lived::Replayed { end, .. } => sphere.end() == end,
+        Lived::Replayed { end, .. } | Lived::Cut { end, .. } => sphere.end() == end,
     };
     Ok(has_ended && has_done(alloc, sphere.commits(), life)?)
 }
@@ -191,6 +197,7 @@ fn machine_of(alloc: Global, row: &Row) -> Result<Machine<Banked>, Fail> {
 }
 
 fn is_within(setup: &Setup) -> bool
+    requires { All HasBegun setup.now.spheres }
     ensures { result ≡ true → IsWithin setup.now }
 {
     are_few(setup.cores as usize)
@@ -201,7 +208,6 @@ fn is_within(setup: &Setup) -> bool
         && setup.bits == 64
         && (1..=2).contains(&setup.depth)
         && are_recordable(setup.s, setup.spheres.as_slice())
-        && are_whole(setup.spheres.as_slice())
 }
 
 // Whether standard chunks of so many instructions fit the log of each sphere that is recorded.
@@ -225,38 +231,18 @@ fn is_recordable(s: u32, role: &Role) -> bool
     }
 }
 
-// Whether none of the spheres replays an interval.
-fn are_whole(spheres: &[SphereSetup]) -> bool
-    ensures { result ≡ true → All HasBegun spheres.now }
-{
-    for sphere in spheres {
-        if !is_whole(sphere) {
-            return false;
-        }
-    }
-    true
-}
-
-#[tactic(auto, using(dl_sphere::proofs::Standing::Start::unless_begun))]
-fn is_whole(sphere: &SphereSetup) -> bool
-    ensures { result ≡ true → HasBegun sphere.now }
-{
-    sphere.role.begun().is_none()
-}
-
 fn are_few(count: usize) -> bool
     ensures { result ≡ true → AreFew count }
 {
     1 <= count && count <= 8
 }
 
-fn setup_of(alloc: Global, row: &Row) -> Result<Setup, Fail> {
+fn setup_of(alloc: Global, row: &Row) -> Result<Setup, Fail>
+    ensures { IfOk result (λ setup. All HasBegun setup.spheres) }
+{
     let mut spheres = Sequence::new(alloc);
     for life in row.spheres {
-        spheres.push(SphereSetup {
-            image: load(alloc, &file_of(alloc, life.code)?, MEMORY)?,
-            role: role_of(alloc, life.role)?,
-        })?;
+        spheres.push(sphere_of(alloc, life)?)?;
     }
     Ok(Setup {
         cores: row.cores,
@@ -271,15 +257,48 @@ fn setup_of(alloc: Global, row: &Row) -> Result<Setup, Fail> {
     })
 }
 
-fn role_of(alloc: Global, lived: Lived) -> Result<Role, Fail> {
+#[tactic(auto, using(dl_sphere::proofs::Standing::Start::unless_begun))]
+fn sphere_of(alloc: Global, life: &Life) -> Result<SphereSetup, Fail>
+    ensures { IfOk result HasBegun }
+{
+    let image = load(alloc, &file_of(alloc, life.code)?, MEMORY)?;
+    if let Lived::Cut { log, to, .. } = life.role {
+        return cut(alloc, image, read_log(alloc, log)?, to);
+    }
+    let role = role_of(alloc, life.role)?;
+    Ok(SphereSetup { image, role })
+}
+
+// A role without an interval.
+fn role_of(alloc: Global, lived: Lived) -> Result<Role, Fail>
+    ensures { IfOk result (λ role. begun_as role ≡ None) }
+{
     match lived {
         Lived::Plain => Ok(Role::Plain),
         Lived::Recorded { mode, .. } => Ok(Role::Record { version: 1, mode }),
-        Lived::Replayed { log, .. } => Ok(Role::Replay(Replay {
+        Lived::Replayed { log, .. } | Lived::Cut { log, .. } => Ok(Role::Replay(Replay {
             log: read_log(alloc, log)?,
             begun: None,
         })),
     }
+}
+
+// A replay of the first commits of a log, or of all if there are fewer.
+fn cut(alloc: Global, image: Image, log: Log, to: u32) -> Result<SphereSetup, Fail>
+    ensures { IfOk result HasBegun }
+{
+    let last = to.min(log.parts().count);
+    let state = State::first(Memory::new(alloc, &image)?, image.entry());
+    let begun = Begun {
+        interval: Interval { first: 0, last },
+        state,
+        diverged: None,
+    };
+    let role = Role::Replay(Replay {
+        log,
+        begun: Some(begun),
+    });
+    Ok(SphereSetup { image, role })
 }
 
 // What a file of 16 words of code has before them.

@@ -9,12 +9,14 @@ use spec_engine::answers::How::{self, Limit, Overflow, Serial};
 use spec_log::ModeName;
 use spec_protocol::Event::{Ask, Cut, Deliver, Dma, Drain, Place, Raise, Retire, Step};
 use spec_protocol::Reply::{
-    Closed, Delivered, Diverged, DmaDone, Drained, Elsewhere, FromLog, Granted, NotTurn, Piece,
-    Placed, Ran, Retired, Stopped, WindowFull,
+    Closed, Delivered, Diverged, DmaDone, Drained, Elsewhere, FromLog, Granted, NotClosed, NotTurn,
+    Piece, Placed, Ran, Retired, Stopped, WindowFull,
 };
 
 pub(crate) const ROWS: &[Row] = &[
     RACE_REPLAYED,
+    RACE_CUT,
+    RACE_CUT_AT_NOTHING,
     PIECES,
     PIECES_FINISHED,
     EMPTY_LAST_PART,
@@ -85,6 +87,74 @@ const RACE_REPLAYED: Row = Row {
         (Step(0), Closed(Serial)),
         (Ask(0), Granted),
     ],
+    console: b"",
+};
+
+// Of the same log three commits are replayed, after which the fourth isn't looked at.
+const RACE_CUT: Row = Row {
+    name: "race cut",
+    cores: 1,
+    depth: 1,
+    window: 2,
+    s: 100,
+    capacity: 16,
+    input: b"",
+    spheres: &[Life {
+        code: RACE,
+        role: Lived::Cut {
+            log: b"\x44\x4C\x52\x4E\x01\x00\x00\x00\x64\x00\x00\x00\x06\x00\x00\x00\
+                  \x06\x00\x00\x00\x00\x01\x10\x06\x00\x00\x00\x03\x00\x00\x00\x03\
+                  \x00\x02\x00\x00\x00\x00\x00\x00\x00\x00\x00\x00\x00\x00\x00\x00\
+                  \x00\x00\x00",
+            to: 3,
+            end: Some(End::At(3)),
+        },
+        commits: &[(T0, 3), (T0, 0), (T1, 3)],
+        loads: &[],
+    }],
+    events: &[],
+    finishing: &[
+        (Step(0), Ran),
+        (Step(0), Ran),
+        (Step(0), Closed(Limit)),
+        (Ask(0), Granted),
+        (Step(0), Closed(Serial)),
+        (Ask(0), Granted),
+        (Place(0, 0, 1), Placed),
+        (Step(0), Ran),
+        (Step(0), Ran),
+        (Step(0), Closed(Limit)),
+        (Ask(0), Granted),
+        (Drain(0), Drained),
+        (Retire(0), Retired),
+    ],
+    console: b"",
+};
+
+// An interval with no commit has ended before the first event.
+const RACE_CUT_AT_NOTHING: Row = Row {
+    name: "race cut at nothing",
+    cores: 1,
+    depth: 1,
+    window: 2,
+    s: 100,
+    capacity: 16,
+    input: b"",
+    spheres: &[Life {
+        code: RACE,
+        role: Lived::Cut {
+            log: b"\x44\x4C\x52\x4E\x01\x00\x00\x00\x64\x00\x00\x00\x06\x00\x00\x00\
+                  \x06\x00\x00\x00\x00\x01\x10\x06\x00\x00\x00\x03\x00\x00\x00\x03\
+                  \x00\x02\x00\x00\x00\x00\x00\x00\x00\x00\x00\x00\x00\x00\x00\x00\
+                  \x00\x00\x00",
+            to: 0,
+            end: Some(End::At(0)),
+        },
+        commits: &[],
+        loads: &[],
+    }],
+    events: &[(Step(0), Stopped), (Ask(0), NotClosed), (Dma(0), Stopped)],
+    finishing: &[],
     console: b"",
 };
 
