@@ -5,13 +5,13 @@ ghost use Rattle.dl_sphere.specs.Setups.{IsRecordableIf, role_setup, setup_of as
 ghost use Rattle.dl_machine.specs.Setups.{IsWithin};
 
 use dl_elf::load;
-use dl_entry::{Actor, Bytes, Commit, End, Load, OutOfMemory, Sequence};
+use dl_entry::{Actor, Bytes, Commit, Counts, End, Load, OutOfMemory, Sequence};
 use dl_finish::{finish, next_event};
 use dl_logfmt::{read_log, write_log};
 use dl_machine::{Machine, Setup};
 use dl_sig::Banked;
 use dl_sphere::{Role, Sphere, SphereSetup};
-use spec_log::ModeName;
+use spec_log::{Log, ModeName};
 use spec_protocol::{Event, Reply};
 use std::alloc::{AllocError, Global};
 use std::process::Abort;
@@ -93,39 +93,58 @@ fn two_chunks_of_a_core_go_as_they_were_worked(rt: HostRuntime) -> Result<(), Fa
     Ok(())
 }
 
-// Once by the events that are listed, and once more by `finish`, which takes as many events.
+// A machine is dropped where it was made, after a call that does all that may fail: to be proved to end wherever a function may
+// return takes long.
 fn goes_as_worked(rt: &impl Abort, alloc: Global, row: &Row) -> Result<(), Fail> {
-    let mut stepped = machine_of(alloc, row)?;
+    let mut machine = machine_of(alloc, row)?;
+    let went = goes(rt, alloc, &mut machine, row);
+    drop(machine);
+    went
+}
+
+// Once by the events that are listed, and once more by `finish`, which takes as many events.
+fn goes(
+    rt: &impl Abort,
+    alloc: Global,
+    stepped: &mut Machine<Banked>,
+    row: &Row,
+) -> Result<(), Fail> {
     for &(event, reply) in row.events {
-        let answered = take(&mut stepped, event)?;
+        let answered = take(stepped, event)?;
         assert!(rt; answered == Some(reply), "{}: {event:?}", row.name);
     }
     for &(event, reply) in row.finishing {
         assert!(rt;
-            next_event(&stepped) == Some(event),
+            next_event(stepped) == Some(event),
             "{}: {event:?}",
             row.name
         );
-        let answered = take(&mut stepped, event)?;
+        let answered = take(stepped, event)?;
         assert!(rt; answered == Some(reply), "{}: {event:?}", row.name);
     }
-    assert!(rt; next_event(&stepped).is_none(), "{}", row.name);
-    let finished = finished(alloc, row)?;
-    assert!(rt; finished.counts() == stepped.counts(), "{}", row.name);
-    have_lived(rt, alloc, &stepped, row)
+    assert!(rt; next_event(stepped).is_none(), "{}", row.name);
+    assert!(rt; finished(alloc, row)? == *stepped.counts(), "{}", row.name);
+    have_lived(rt, alloc, stepped, row)
 }
 
-// The machine once its events are taken and it is finished.
-fn finished(alloc: Global, row: &Row) -> Result<Machine<Banked>, Fail> {
+// What the machine has counted once its events are taken and it is finished.
+fn finished(alloc: Global, row: &Row) -> Result<Counts, Fail> {
     let mut machine = machine_of(alloc, row)?;
+    let finished = take_all(&mut machine, row);
+    let counts = *machine.counts();
+    drop(machine);
+    finished?;
+    Ok(counts)
+}
+
+fn take_all(machine: &mut Machine<Banked>, row: &Row) -> Result<(), Fail> {
     for &(event, _) in row.events {
-        take(&mut machine, event)?;
+        take(machine, event)?;
     }
     if machine.counts().events >= 1 << 24 {
         return Err("too many events".into());
     }
-    finish(&mut machine)?;
-    Ok(machine)
+    Ok(finish(machine)?)
 }
 
 // The reply, if the machine may still take events.
@@ -169,7 +188,13 @@ fn log_of(alloc: Global, sphere: &Sphere) -> Result<Vec<u8>, OutOfMemory> {
     if !sphere.halves() {
         return Ok(Vec::new(alloc));
     }
-    write_log(alloc, &sphere.log()?)
+    written(alloc, sphere.log()?)
+}
+
+fn written(alloc: Global, log: Log) -> Result<Vec<u8>, OutOfMemory> {
+    let bytes = write_log(alloc, &log);
+    drop(log);
+    bytes
 }
 
 fn has_done(alloc: Global, commits: &[Commit], life: &Life) -> Result<bool, AllocError> {
@@ -184,10 +209,16 @@ fn has_done(alloc: Global, commits: &[Commit], life: &Life) -> Result<bool, Allo
 
 fn machine_of(alloc: Global, row: &Row) -> Result<Machine<Banked>, Fail> {
     let setup = setup_of(alloc, row)?;
-    if !is_within(&setup) {
+    let machine = made(alloc, &setup);
+    drop(setup);
+    machine
+}
+
+fn made(alloc: Global, setup: &Setup) -> Result<Machine<Banked>, Fail> {
+    if !is_within(setup) {
         return Err("a number is out of its limits".into());
     }
-    Ok(Machine::new(alloc, &setup)?)
+    Ok(Machine::new(alloc, setup)?)
 }
 
 fn is_within(setup: &Setup) -> bool
@@ -231,12 +262,10 @@ fn are_few(count: usize) -> bool
 }
 
 fn setup_of(alloc: Global, row: &Row) -> Result<Setup, Fail> {
+    let input = Bytes::from_slice(alloc, row.input)?;
     let mut spheres = Sequence::new(alloc);
     for life in row.spheres {
-        spheres.push(SphereSetup {
-            image: load(alloc, &file_of(alloc, life.code)?, MEMORY)?,
-            role: role_of(alloc, life.role)?,
-        })?;
+        spheres.push(sphere_of(alloc, life)?)?;
     }
     Ok(Setup {
         cores: row.cores,
@@ -246,9 +275,15 @@ fn setup_of(alloc: Global, row: &Row) -> Result<Setup, Fail> {
         bits: 64,
         depth: row.depth,
         seed: 0,
-        input: Bytes::from_slice(alloc, row.input)?,
+        input,
         spheres,
     })
+}
+
+fn sphere_of(alloc: Global, life: &Life) -> Result<SphereSetup, Fail> {
+    let image = load(alloc, &file_of(alloc, life.code)?, MEMORY)?;
+    let role = role_of(alloc, life.role)?;
+    Ok(SphereSetup { image, role })
 }
 
 fn role_of(alloc: Global, lived: Lived) -> Result<Role, Fail> {
