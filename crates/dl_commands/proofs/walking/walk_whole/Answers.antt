@@ -1,6 +1,6 @@
-use Rattle.std.proofs.Common.{◌≡◌, ap, rules}
+use Rattle.std.proofs.Common.{ap, rules}
 use Rattle.spec_log.specs.declared.LogParts.{LogParts}
-use Rattle.spec_play.specs.Plays.{opened, play}
+use Rattle.spec_play.specs.Plays.{opened}
 use Rattle.spec_play.proofs.Going.{plays-first}
 use Rattle.dl_serial.specs.Walked.{walked_in}
 use Rattle.dl_commands.proofs.Walks.{whole_walk}
