@@ -182,6 +182,30 @@ DIVERGED = Machine(
     status=1,
 )
 
+# the race from a log of it; of its six commits two are replayed, and told: thread 1 stores, and thread 0 loads
+RACE_LOG = (EXAMPLES / "two-threads-replayed" / "a.log").read_bytes()
+PART = Machine(
+    "part-replayed",
+    {
+        "plan.toml": plan(REPLAYED + "from = 2\nto = 4\n", cores=2),
+        "a.elf": RACE.files["a.elf"],
+        "a.log": RACE_LOG,
+        "s.txt": script("step 0", "dma 0", "raise 0 0 5"),
+    },
+    ["b.txt", "r.txt"],
+)
+INTERVAL = Machine(
+    "interval", {"a.elf": RACE.files["a.elf"], "a.log": RACE_LOG}, [], ["interval", "a.elf", "4096", "a.log", "1", "2", "4"],
+)
+
+# the replay of a part that begins after the log's play has diverged, and what is told of one there
+LATE = Machine(
+    "part-after-divergence", {**DIVERGED.files, "plan.toml": plan(REPLAYED + "from = 1\n")}, ["b.txt", "r.txt"], status=1,
+)
+LATE_INTERVAL = Machine(
+    "interval-after-divergence", {"a.elf": EXIT, "a.log": SHORT_LOG}, [], ["interval", "a.elf", "4096", "a.log", "2", "1", "2"], 1,
+)
+
 PIPE = Machine(
     "two-spheres",
     {name: (EXAMPLES / "pipe" / name).read_bytes() for name in ("plan.toml", "s.txt", "a.elf", "x.elf")},
@@ -213,8 +237,8 @@ MIGRATE = Machine("migrate", {"a.log": FULL_LOG}, ["b.log"], ["migrate", "a.log"
 MIGRATE_WIDE = Machine("migrate-version-2", {"a.log": WIDE_LOG}, ["b.log"], ["migrate", "a.log", "b.log"])
 
 MACHINES = [
-    THREE, TWO_CHUNKS, RACE, WIDE, PIECES, WIDE_PIECES, DMA, INTERRUPT, CONSOLE, DIVERGED, PIPE, INSPECT, INSPECT_WIDE, WALK,
-    WATCH, WHO, WHEN, MIGRATE, MIGRATE_WIDE, MAKE, ASM,
+    THREE, TWO_CHUNKS, RACE, WIDE, PIECES, WIDE_PIECES, DMA, INTERRUPT, CONSOLE, DIVERGED, PART, LATE, PIPE, INSPECT,
+    INSPECT_WIDE, WALK, WATCH, WHO, WHEN, INTERVAL, LATE_INTERVAL, MIGRATE, MIGRATE_WIDE, MAKE, ASM,
 ]
 
 
@@ -228,6 +252,7 @@ REFUSED = [
     Machine("usage", {}, [], ["walk", "a.elf"], 2),
     refused("wrong-plan", 3, plan_toml=THREE.files["plan.toml"].replace(b"cores = 1", b"cores = 9")),
     refused("long-chunks", 3, plan_toml=THREE.files["plan.toml"].replace(b"chunk = 100", b"chunk = 8192")),
+    refused("wrong-part", 3, plan_toml=PART.files["plan.toml"].replace(b"to = 4", b"to = 1")),
     refused("wrong-image", 4, a_elf=EXIT[:51]),
     Machine("wrong-log", {"a.log": LOG + b"\0"}, [], ["inspect", "a.log"], 5),
     Machine("wrong-threads", {"a.log": WIDE_LOG[:6] + b"\x10" + WIDE_LOG[7:]}, ["b.log"], ["migrate", "a.log", "b.log"], 5),

@@ -15,7 +15,7 @@ pub use account::account_text;
 pub use dl_entry::{Commit, Counts, End, OutOfMemory, Point, Request, SphereLine};
 pub use dl_mem::Memory;
 pub use dl_thread::Threads;
-pub use replays::put_why;
+pub use replays::why_text;
 pub use report::report_text;
 pub use summary::summary_text;
 pub use text::Text;

@@ -1,5 +1,5 @@
 //! `interval IMAGE MEMORY LOG EVERY I J`: the commits of a log from one number up to another, and the state after them.
-ghost use Rattle.std.specs.Prelude.{◌≡◌, Some, IfOk, IfErr, OnOk};
+ghost use Rattle.std.specs.Prelude.{◌≡◌, ◌≤◌, Some, IfOk, IfErr, OnOk};
 ghost use Rattle.dl_files.specs.Contents.{Contents};
 ghost use Rattle.dl_words.specs.Commands.{interval_view};
 ghost use Rattle.spec_program.specs.commands.Interval.{finish, outcome};

@@ -1,3 +1,4 @@
+pub mod Begins
 pub mod Loading
 pub mod Memories
 pub mod Named

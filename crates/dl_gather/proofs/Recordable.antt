@@ -1,22 +1,22 @@
--- The logs of recorded spheres can have the plan's chunks: as planned, as read, and as set up.
-use Rattle.std.proofs.Common.{◌≡◌, ℕ, zero, suc, ◌<◌, ◌≤◌, ◌⊎◌, inl, inr, List, [], ◌∷◌, ◌++◌, length, map, get_or, Result, Ok, All, refl, sym, subst, arith}
+-- The logs of recorded spheres can have the plan's chunks, and what is replayed is in order: as planned, as read, and as set up.
+use Rattle.std.proofs.Common.{◌≡◌, ℕ, zero, suc, ◌<◌, ◌≤◌, ◌⊎◌, inl, inr, List, [], ◌∷◌, ◌++◌, length, map, get_or, Option, Some, None, Result, Ok, All, refl, sym, subst, arith}
 use Rattle.std.proofs.lemmas.List.Elements.{All-nil, All-cons}
 use Rattle.dl_elf.specs.Images.{Image}
 use Rattle.dl_plan.specs.declared.Sphere.{Sphere}
 use Rattle.dl_plan.specs.Limits.{longest_chunk}
-use Rattle.dl_plan.specs.Values.{RoleValues, Plain, Record, Replay, SphereValues, PlanValues, IsPlan, IsRole, AreRoles, CanHave, CanAllHave, sphere_view as planned}
+use Rattle.dl_plan.specs.Values.{RoleValues, Plain, Record, Replay, SphereValues, PlanValues, IsPlan, IsRole, AreRoles, CanHave, CanAllHave, AreOrdered as ArePlannedInOrder, IsOrdered as IsPlannedInOrder, AreAllOrdered as AllPlannedInOrder, sphere_view as planned}
 use Rattle.dl_sphere.specs.Setups.{IsRecordableIf}
-use Rattle.spec_log.specs.declared.LogParts.{LogParts}
 use Rattle.spec_log.specs.declared.ModeName.{ModeName}
-use Rattle.spec_log.specs.declared.fault.Fault.{Fault}
+use Rattle.spec_play.specs.Intervals.{AreOrdered}
 use Rattle.spec_program.specs.Built.{bad_log, mode_named, record_setup, role_of, sphere_of, spheres_of}
-use Rattle.spec_program.specs.Files.{RoleRead, PlainRead, RecordRead, ReplayRead, SphereRead}
-use Rattle.spec_program.specs.Stages.{Refused, refusing, ◌>>◌}
+use Rattle.spec_program.specs.Files.{ReplayInputs, RoleRead, PlainRead, RecordRead, ReplayRead, SphereRead}
+use Rattle.spec_program.specs.Stages.{Refused, refusing}
 use Rattle.spec_program.proofs.Made.{then_ok}
-use Rattle.spec_protocol.specs.machine.Machine.{RoleSetup, IsPlain, IsRecorded, IsReplayed, SphereSetup}
+use Rattle.spec_protocol.specs.machine.Machine.{RoleSetup, IsPlain, IsRecorded, SphereSetup}
 use Rattle.spec_protocol.specs.promises.Sound.{IsRecordable}
 use Rattle.dl_gather.specs.declared.inputs.SphereInputs.{SphereInputs}
 use Rattle.dl_gather.specs.Inputs.{IsPlannedRole, IsReadRole, ArePlannedRoles, AreReadRoles, sphere_view}
+use Rattle.dl_gather.specs.Intervals.{IsOrdered, AreAllOrdered}
 use Rattle.dl_gather.proofs.Memories.{all_at, all_pushed}
 
 -- ---- as planned
@@ -33,18 +33,23 @@ by_version s version mode (inl one) least most =
 by_version s version mode (inr two) least most =
     subst (λ (v : ℕ). s ≤ longest_chunk v → IsRecordable s (record { version = v; mode = mode })) (sym two) (λ m. (inr (refl, inr refl), (least, m))) most
 
-role_planned : (s : ℕ) (role : RoleValues) → 16 ≤ s → IsRole role → CanHave s role → IsPlannedRole s role
-role_planned s Plain least is can = tt
-role_planned s (Record values) least is can = by_version s values.version (mode_named values.mode) (one_or_two values.version is.0 is.1) least can
-role_planned s (Replay values) least is can = tt
+numbers_ordered : (from to : Option ℕ) → ArePlannedInOrder from to → AreOrdered from to
+numbers_ordered None to order = tt
+numbers_ordered (Some from) None order = tt
+numbers_ordered (Some from) (Some to) order = order
 
-roles_planned : (s : ℕ) (spheres : List SphereValues) → 16 ≤ s → AreRoles spheres → CanAllHave s spheres → ArePlannedRoles s spheres
-roles_planned s [] least are can = tt
-roles_planned s (x ∷ xs) least are can = (role_planned s x.role least are.0 can.0, roles_planned s xs least are.1 can.1)
+role_planned : (s : ℕ) (role : RoleValues) → 16 ≤ s → IsRole role → CanHave s role → IsPlannedInOrder role → IsPlannedRole s role
+role_planned s Plain least is can order = tt
+role_planned s (Record values) least is can order = by_version s values.version (mode_named values.mode) (one_or_two values.version is.0 is.1) least can
+role_planned s (Replay values) least is can order = numbers_ordered values.from values.to order
+
+roles_planned : (s : ℕ) (spheres : List SphereValues) → 16 ≤ s → AreRoles spheres → CanAllHave s spheres → AllPlannedInOrder spheres → ArePlannedRoles s spheres
+roles_planned s [] least are can order = tt
+roles_planned s (x ∷ xs) least are can order = (role_planned s x.role least are.0 can.0 order.0, roles_planned s xs least are.1 can.1 order.1)
 
 -- so it is of each sphere of a plan
 pub plan_recordable : (p : PlanValues) → IsPlan p → ArePlannedRoles p.sizes.chunk p.spheres
-plan_recordable p is = roles_planned p.sizes.chunk p.spheres is.numbers.sizes.chunk.0 is.numbers.roles is.chunk
+plan_recordable p is = roles_planned p.sizes.chunk p.spheres is.numbers.sizes.chunk.0 is.numbers.roles is.chunk is.order
 
 -- ---- as read
 
@@ -55,6 +60,16 @@ planned_recordable s spheres i d are h = all_at (λ (x : SphereValues). IsPlanne
 -- with one sphere more of which it is so, it is so of all
 pub more_recordable : (s : ℕ) (inputs : List SphereInputs) (x : SphereInputs) → AreReadRoles s (map sphere_view inputs) → IsReadRole s (sphere_view x).role → AreReadRoles s (map sphere_view (inputs ++ x ∷ []))
 more_recordable s inputs x are is = all_pushed (λ (y : SphereRead). IsReadRole s y.role) sphere_view inputs x are is
+
+role_in_order : (s : ℕ) (role : RoleRead) → IsReadRole s role → IsOrdered role
+role_in_order s PlainRead is = tt
+role_in_order s (RecordRead inputs) is = tt
+role_in_order s (ReplayRead inputs) is = is
+
+-- what is replayed is in order
+pub all_in_order : (s : ℕ) (spheres : List SphereRead) → AreReadRoles s spheres → AreAllOrdered spheres
+all_in_order s [] are = tt
+all_in_order s (x ∷ xs) are = (role_in_order s x.role are.0, all_in_order s xs are.1)
 
 -- ---- as set up
 
@@ -67,15 +82,15 @@ same_sphere x y e = cc
 same_spheres : (xs ys : List SphereSetup) → ◌≡◌ {A = Result (List SphereSetup) Refused} (Ok xs) (Ok ys) → xs ≡ ys
 same_spheres xs ys e = cc
 
-log_set_up : (s i : ℕ) (read : Result LogParts Fault) (role : RoleSetup) → (refusing (bad_log i) read >> λ log. Ok (IsReplayed (record { log = log }))) ≡ Ok role → IsRecordableIf s role
-log_set_up s i read role e =
-    let log = then_ok (refusing (bad_log i) read) _ role e in
+log_set_up : (s i : ℕ) (inputs : ReplayInputs) (role : RoleSetup) → role_of i (ReplayRead inputs) ≡ Ok role → IsRecordableIf s role
+log_set_up s i inputs role e =
+    let log = then_ok (refusing (bad_log i) inputs.log) _ role e in
     subst (IsRecordableIf s) (same_role _ role log.2) tt
 
 role_set_up : (s i : ℕ) (read : RoleRead) (role : RoleSetup) → IsReadRole s read → role_of i read ≡ Ok role → IsRecordableIf s role
 role_set_up s i PlainRead role is e = subst (IsRecordableIf s) (same_role IsPlain role e) tt
 role_set_up s i (RecordRead inputs) role is e = subst (IsRecordableIf s) (same_role (IsRecorded (record_setup inputs)) role e) is
-role_set_up s i (ReplayRead inputs) role is e = log_set_up s i inputs.log role e
+role_set_up s i (ReplayRead inputs) role is e = log_set_up s i inputs role e
 
 -- so it is of the spheres that are set up
 pub set_up_recordable : (s i : ℕ) (read : List SphereRead) (images : List Image) (spheres : List SphereSetup) → AreReadRoles s read → spheres_of i read images ≡ Ok spheres → All (λ (x : SphereSetup). IsRecordableIf s x.role) spheres

@@ -1,5 +1,5 @@
 -- The spheres that are set up one after another are those of the plan.
-use Rattle.std.proofs.Common.{◌≡◌, ℕ, suc, ◌+◌, List, [], ◌∷◌, ◌++◌, length, map, Result, Ok, arith, sym, ◌∙◌, ap}
+use Rattle.std.proofs.Common.{◌≡◌, ℕ, suc, List, [], ◌∷◌, ◌++◌, length, map, Result, Ok, arith, sym, ◌∙◌, ap}
 use Rattle.std.proofs.lemmas.List.{map-append}
 use Rattle.dl_elf.specs.Images.{Image}
 use Rattle.dl_sphere.specs.declared.setup.SphereSetup.{SphereSetup}

@@ -1,5 +1,6 @@
 pub mod Forms
 pub mod Inputs
+pub mod Intervals
 pub mod Halts
 pub mod Reads
 pub mod Tasks

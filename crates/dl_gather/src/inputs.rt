@@ -35,7 +35,10 @@ pub struct SphereInputs {
 #[derive(Drop)]
 pub enum RoleInputs {
     Plain,
-    Record { version: u8, mode: Mode },
+    Record {
+        version: u8,
+        mode: Mode,
+    },
     /// What the file of a log says, and which of its commits the plan names: from which on, and up to which.
     Replay {
         log: LogRead,

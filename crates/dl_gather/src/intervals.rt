@@ -1,10 +1,12 @@
 //! The interval of a log that a plan names, and where its replay begins.
-ghost use Rattle.std.specs.Prelude.{◌≡◌, IfOk};
+ghost use Rattle.std.specs.Prelude.{◌≡◌, Some, IfOk};
 ghost use Rattle.spec_play.specs.Intervals.{interval_of, IsWithin, IsWithinIf};
-ghost use Rattle.dl_sphere.specs.Setups.{IsBegun, IsBegunIf};
+ghost use Rattle.spec_protocol.specs.machine.Machine.{RoleSetup};
+ghost use Rattle.dl_sphere.specs.Setups.{IsBegun, IsBegunIf, interval_in};
+ghost use Rattle.dl_gather.specs.Intervals.{HasDivergedBefore, sphere_on};
 
 use dl_elf::Image;
-use dl_entry::{End, OutOfMemory};
+use dl_entry::{End, OutOfMemory, Why};
 use dl_logfmt::Log;
 use dl_serial::{WalkEnd, walk};
 use dl_sphere::Begun;
@@ -32,7 +34,9 @@ pub fn begun_of(
     interval: Option<Interval>,
 ) -> Result<Option<Begun>, OutOfMemory>
     requires { IsWithinIf log.now.count interval }
-    ensures { IfOk result (IsBegunIf image.now log.now interval) }
+    ensures interval { IfOk result (λ b. interval_in b ≡ interval) }
+    ensures begun { (role : RoleSetup) → IfOk result (IsBegunIf (sphere_on image.now role)
+        (record { log = log.now; interval = interval })) }
 {
     match interval {
         Some(interval) => Ok(Some(begin(alloc, image, log, interval)?)),
@@ -41,23 +45,26 @@ pub fn begun_of(
 }
 
 // The log's play on the image is done up to the interval's first commit, or to where it diverges before that.
-fn begin(
-    alloc: Global,
-    image: &Image,
-    log: &Log,
-    interval: Interval,
-) -> Result<Begun, OutOfMemory>
+fn begin(alloc: Global, image: &Image, log: &Log, interval: Interval) -> Result<Begun, OutOfMemory>
     requires { IsWithin log.now.count interval }
-    ensures { IfOk result (IsBegun image.now log.now interval) }
+    ensures interval { IfOk result (λ b. b.interval ≡ interval) }
+    ensures begun { (role : RoleSetup) → IfOk result (IsBegun (sphere_on image.now role)
+        (record { log = log.now; interval = Some interval })) }
 {
     let walked = walk(alloc, image, log, interval.first)?;
-    let diverged = match walked.end {
-        WalkEnd::Ended(End::Diverged(at, why)) if at < interval.first => Some(why),
-        WalkEnd::Ended(_) | WalkEnd::Reached(_) => None,
-    };
     Ok(Begun {
         interval,
         state: walked.state,
-        diverged,
+        diverged: diverged_before(walked.end, interval.first),
     })
+}
+
+// Why a walk that ended so has diverged before that commit, if it has.
+fn diverged_before(end: WalkEnd, first: u32) -> Option<Why>
+    ensures { HasDivergedBefore first end result }
+{
+    match end {
+        WalkEnd::Ended(End::Diverged(at, why)) if at < first => Some(why),
+        WalkEnd::Ended(_) | WalkEnd::Reached(_) => None,
+    }
 }

@@ -1,13 +1,14 @@
 //! The setups of a plan's spheres.
-ghost use Rattle.std.specs.Prelude.{◌≡◌, Ok, IfOk, IfErr, length, map};
-ghost use Rattle.dl_sphere.specs.Setups.{role_setup, setup_of as setup_view};
+ghost use Rattle.std.specs.Prelude.{◌≡◌, All, Ok, IfOk, IfErr, length, map};
+ghost use Rattle.dl_sphere.specs.Setups.{HasBegun, IsBegunAs, role_setup, setup_of as setup_view};
 ghost use Rattle.spec_program.specs.Built.{mode_named, role_of, sphere_of, spheres_of};
 ghost use Rattle.dl_gather.specs.Halts.{Refuses};
 ghost use Rattle.dl_gather.specs.Inputs.{role_view, sphere_view};
+ghost use Rattle.dl_gather.specs.Intervals.{AreAllOrdered, IsOrdered, sphere_on};
 
 use crate::halt::Halt;
-use crate::intervals::{begun_of, interval_of};
 use crate::inputs::{RoleInputs, SphereInputs};
+use crate::intervals::{begun_of, interval_of};
 use crate::logs::good_log;
 use dl_elf::Image;
 use dl_logfmt::ModeName;
@@ -21,10 +22,12 @@ pub fn setups_of(
     images: Vec<Image>,
     inputs: Vec<SphereInputs>,
 ) -> Result<Vec<SphereSetup>, Halt>
-    requires { length images.items ≡ length inputs.items }
+    requires count { length images.items ≡ length inputs.items }
+    requires order { AreAllOrdered (map sphere_view inputs.items) }
     ensures spheres { IfOk result (λ spheres. spheres_of 0 (map sphere_view inputs.items) images.items
         ≡ Ok (map setup_view spheres.items)) }
     ensures count { IfOk result (λ spheres. length spheres.items ≡ length inputs.items) }
+    ensures begun { IfOk result (λ spheres. All HasBegun spheres.items) }
     ensures halt { IfErr result (Refuses (spheres_of 0 (map sphere_view inputs.items) images.items)) }
 {
     let mut spheres = Vec::new(alloc);
@@ -50,7 +53,9 @@ fn setup_of(
     image: Image,
     input: SphereInputs,
 ) -> Result<SphereSetup, Halt>
+    requires { IsOrdered (role_view input.role) }
     ensures sphere { IfOk result (λ sphere. sphere_of number (sphere_view input) image ≡ Ok (setup_view sphere)) }
+    ensures begun { IfOk result HasBegun }
     ensures halt { IfErr result (Refuses (sphere_of number (sphere_view input) image)) }
 {
     let role = role_of(alloc, number, &image, input.role)?;
@@ -59,7 +64,9 @@ fn setup_of(
 
 // Its role, on its image.
 fn role_of(alloc: Global, number: usize, image: &Image, role: RoleInputs) -> Result<Role, Halt>
+    requires { IsOrdered (role_view role) }
     ensures role { IfOk result (λ r. role_of number (role_view role) ≡ Ok (role_setup r)) }
+    ensures begun { IfOk result (λ r. IsBegunAs (sphere_on image.now (role_setup r)) r) }
     ensures halt { IfErr result (Refuses (role_of number (role_view role))) }
 {
     match role {

@@ -5,7 +5,7 @@ ghost use Rattle.dl_machine.specs.Setups.{IsWithin, setup_in};
 ghost use Rattle.dl_plan.specs.Files.{input_names};
 ghost use Rattle.dl_plan.specs.Values.{IsPlan, plan_view};
 ghost use Rattle.dl_run.specs.Schedules.{AreFew, events_in};
-ghost use Rattle.dl_sphere.specs.Setups.{IsRecordableIf, setup_of as sphere_setup};
+ghost use Rattle.dl_sphere.specs.Setups.{HasBegun, IsRecordableIf, setup_of as sphere_setup};
 ghost use Rattle.spec_program.specs.Built.{setup_of};
 ghost use Rattle.spec_program.specs.Tasks.{task_planned, task_read};
 ghost use Rattle.dl_gather.specs.Halts.{Halts, IsNotUsage, Refuses};
@@ -72,6 +72,7 @@ fn setup_of(plan: &Plan, input: Vec<u8>, spheres: Vec<SphereSetup>) -> Setup
     requires plan { IsPlan (plan_view plan.now) }
     requires spheres { length spheres.items ≡ length (plan_view plan.now).spheres }
     requires recorded { All (λ image. IsRecordableIf plan.now.sizes.chunk image.role) (map sphere_setup spheres.items) }
+    requires begun { All HasBegun spheres.items }
     ensures value { setup_in result ≡ setup_of (plan_view plan.now) input.items (map sphere_setup spheres.items) }
     ensures within { IsWithin result }
     ensures count { length result.spheres ≡ length (plan_view plan.now).spheres }

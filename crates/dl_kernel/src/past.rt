@@ -4,8 +4,8 @@ use dl_entry::Commit;
 use std::alloc::Global;
 
 /// The whole commits that a sphere has done, the first one first, and the state now. `first` is the number of the first of
-/// them in its play. A replay that has done a part of its next commit has its thread moved on by it. Commits take their memory
-/// of `alloc`.
+/// them in its play. A replay that has done a part of its next commit has its thread moved on by it. Commits take their
+/// memory of `alloc`.
 #[derive(Drop)]
 pub struct Past {
     pub alloc: Global,

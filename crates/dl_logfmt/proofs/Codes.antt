@@ -248,3 +248,18 @@ Codes-part first next part bytes_of good rest_of rest_good codes rests is =
     Codes-then first next bytes_of good (λ x. rest_of) rest_good _ _ codes rests
     (λ y g. (g.0, g.1, g.2, rw (is g.0 y g.2) refl))
     (λ x y g r. ((x, g, r), rw (is x y r) refl))
+
+-- a value that has to pass a test, else the fault is at its first byte
+pub Codes-tested : {X : Type 0} (fault : ℕ) (reader : Reader X) (test : X → Bool) (bytes_of : X → List ℕ) (good : X → Type 0)
+    → Codes reader bytes_of good → Codes (λ bytes start. read reader (λ x. judge (test x) fault start x) bytes start) bytes_of (λ x. good x × (test x ≡ true))
+Codes-tested {X} fault reader test bytes_of good codes =
+    record {
+      reads = λ x g before rest. rw (codes.reads x g.0 before rest, g.1) refl;
+      finds = λ before bytes x after are e.
+          let all = before ++ bytes in
+          let next : X → ℕ → Result (Read X) Fault = λ (y : X) (at : ℕ). judge (test y) fault (length before) y all at in
+          let s = continued (reader all (length before)) next (record { value = x; after = after }) e in
+          let f = codes.finds before bytes s.0.value s.0.after are s.1 in
+          let t = tested (test s.0.value) s.0 (record { value = x; after = after }) (record { number = fault; offset = length before }) s.2 in
+          found_as bytes_of good before bytes s.0.value s.0.after (λ x. good x × (test x ≡ true)) x after f (λ g. (g, t.0)) (ap (λ (z : Read X). z.value) t.1) (ap (λ (z : Read X). z.after) t.1);
+    }

@@ -76,9 +76,17 @@ few-threads version threads (inl first) = omega (arith, first.1)
 few-threads version threads (inr (second, inl few)) = omega (arith, few)
 few-threads version threads (inr (second, inr many)) = omega (arith, many)
 
-Codes-thread : (shape : Shape) → IsShape shape → Codes (thread shape) u8 (λ t. t < shape.threads)
-Codes-thread shape good =
-    let few = few-threads shape.version shape.threads good.0 in
+-- the threads fit in a byte, and the sizes in the bytes that the version has for them
+pub record FitsBytes (shape : Shape) : Type 0 where
+  pub threads : shape.threads ≤ 63
+  pub sizes : shape.s ≤ most_standard shape.version
+
+pub shape-fits : (shape : Shape) → IsShape shape → FitsBytes shape
+shape-fits shape good = record { threads = few-threads shape.version shape.threads good.0; sizes = good.1.1 }
+
+pub Codes-thread : (shape : Shape) → FitsBytes shape → Codes (thread shape) u8 (λ t. t < shape.threads)
+Codes-thread shape fits =
+    let few = fits.threads in
     Codes-field 1 5 (λ t. nat_lt t shape.threads) (λ t. t < shape.threads) (λ t h l. ltb-true t shape.threads h)
     (λ t h. (omega (arith, h, few), lt-ltb t shape.threads h))
 
@@ -89,8 +97,8 @@ Codes-counted =
     (λ n h. Codes-as (raw n) (λ bytes. bytes) (λ bytes. bytes) _ _ (Codes-raw n) (λ x j. refl) (λ x j. (sym j.0, j.1)) (λ x j. (sym j.0, j.1)))
 
 -- the parts that several entries have: a thread, a number of 32 bits, and bytes with their count
-abbrev thread_part : {X : Type 0} (shape : Shape) → IsShape shape → (X → ℕ) → Part X ℕ
-thread_part shape good of = record { of = of; reader = thread shape; bytes_of = u8; good = λ t. t < shape.threads; codes = Codes-thread shape good }
+abbrev thread_part : {X : Type 0} (shape : Shape) → FitsBytes shape → (X → ℕ) → Part X ℕ
+thread_part shape fits of = record { of = of; reader = thread shape; bytes_of = u8; good = λ t. t < shape.threads; codes = Codes-thread shape fits }
 
 abbrev u32_part : {X : Type 0} → (X → ℕ) → Part X ℕ
 u32_part of = record { of = of; reader = any 4; bytes_of = u32; good = λ x. x < 2 ^ 32; codes = Codes-u32 }
@@ -111,17 +119,17 @@ size-fits version size h = fits (version == 1) h where
   fits false h = omega (arith, h)
 
 -- reading a size undoes writing it
-pub Codes-size : (shape : Shape) → IsShape shape → Codes (size shape) (size_bytes shape.version) (λ n. n ≤ shape.s)
-Codes-size shape good =
+pub Codes-size : (shape : Shape) → FitsBytes shape → Codes (size shape) (size_bytes shape.version) (λ n. n ≤ shape.s)
+Codes-size shape fits =
     Codes-field (size_width shape.version) 5 (at_most shape.s) (λ n. n ≤ shape.s) (λ n h l. leb-true n shape.s h)
-    (λ n h. (size-fits shape.version n (le_trans h good.1.1), le-leb n shape.s h))
+    (λ n h. (size-fits shape.version n (le_trans h fits.sizes), le-leb n shape.s h))
 
 -- reading a short size undoes writing it
-pub Codes-short_size : (shape : Shape) → IsShape shape → Codes (short_size shape) (short_size_bytes shape.version) (IsShortSize shape.threads shape.s)
-Codes-short_size shape good =
+pub Codes-short_size : (shape : Shape) → FitsBytes shape → Codes (short_size shape) (short_size_bytes shape.version) (IsShortSize shape.threads shape.s)
+Codes-short_size shape fits =
     Codes-as (short_size shape) (short_size_bytes shape.version) (short_size_bytes shape.version) _ (IsShortSize shape.threads shape.s)
-    (Codes-three (thread_part shape good (λ x. x.thread)) (u32_part (λ x. x.index))
-    (record { of = λ x. x.size; reader = field (size_width shape.version) (from_to 1 shape.s); bytes_of = size_bytes shape.version; good = λ size. (1 ≤ size) × (size ≤ shape.s); codes = Codes-over_0 shape.version shape.s good.1.1 })
+    (Codes-three (thread_part shape fits (λ x. x.thread)) (u32_part (λ x. x.index))
+    (record { of = λ x. x.size; reader = field (size_width shape.version) (from_to 1 shape.s); bytes_of = size_bytes shape.version; good = λ size. (1 ≤ size) × (size ≤ shape.s); codes = Codes-over_0 shape.version shape.s fits.sizes })
     (λ t i size. record { thread = t; index = i; size = size }) (λ t i size. (refl, refl, refl)) (λ x. refl))
     (λ x h. refl) (λ x h. (h.0, h.1, h.2.0, h.2.1)) (λ x h. (h.0, h.1, (h.2, h.3))) where
       Codes-over_0 : (v s : ℕ) → s ≤ most_standard v → Codes (field (size_width v) (from_to 1 s)) (size_bytes v) (λ size. (1 ≤ size) × (size ≤ s))
@@ -131,9 +139,9 @@ Codes-short_size shape good =
           (λ x h. (size-fits v x (le_trans h.1 small), and_from (nat_le 1 x) (nat_le x s) (le-leb 1 x h.0) (le-leb x s h.1)))
 
 -- reading an interrupt undoes writing it
-pub Codes-interrupt : (shape : Shape) → IsShape shape → Codes (interrupt shape) interrupt_bytes (IsInterrupt shape.threads)
-Codes-interrupt shape good =
-    Codes-three (thread_part shape good (λ x. x.thread)) (u32_part (λ x. x.index)) (u32_part (λ x. x.value))
+pub Codes-interrupt : (shape : Shape) → FitsBytes shape → Codes (interrupt shape) interrupt_bytes (IsInterrupt shape.threads)
+Codes-interrupt shape fits =
+    Codes-three (thread_part shape fits (λ x. x.thread)) (u32_part (λ x. x.index)) (u32_part (λ x. x.value))
     (λ t i value. record { thread = t; index = i; value = value }) (λ t i value. (refl, refl, refl)) (λ x. refl)
 
 any-contains : (xs : List ℕ) (x : ℕ) → list_any (λ k. k == x) xs ≡ true → Contains xs x

@@ -24,7 +24,7 @@ use Rattle.spec_log.specs.Fields.{Read, Reader, Stage, continues, read, gives, n
 use Rattle.spec_log.specs.Reading.{is_earlier, interrupt, input, dma, size, short_size, magic, version, mode, mode_of, thread_count, threads, chunk_size, commits, order, sizes, interrupts, inputs, dmas, stages, blank, ended, log_of, sizes_in, read_of}
 use Rattle.dl_logfmt.proofs.ByteNumbers.{IsByte}
 use Rattle.dl_logfmt.proofs.Codes.{Codes, Codes-as, Codes-via, Codes-then, Codes-gives, Codes-skip, Codes-part, untested}
-use Rattle.dl_logfmt.proofs.EntryLaws.{IsShape, Codes-field, Codes-interrupt, Codes-input, Codes-dma, Decides-earlier}
+use Rattle.dl_logfmt.proofs.EntryLaws.{IsShape, FitsBytes, shape-fits, Codes-field, Codes-interrupt, Codes-input, Codes-dma, Decides-earlier}
 use Rattle.std.specs.Bool.{Decides}
 use Rattle.std.proofs.lemmas.Bool.Decides.{Decides-eqb, Decides-ltb, Decides-or}
 use Rattle.dl_logfmt.proofs.SectionLaws.{entries, section_of, Codes-section, staged-entries}
@@ -32,50 +32,50 @@ use Rattle.dl_logfmt.proofs.OrderLaws.{order_of, Codes-order, staged-actors}
 use Rattle.dl_logfmt.proofs.SizeLaws.{each_of, sizes_of, Codes-sizes}
 
 -- a number that is always the same
-Codes-constant : (width fault x : ℕ) → x < 256 ^ width → Codes (number width fault (λ y. y == x)) (little width) (λ y. y ≡ x)
+pub Codes-constant : (width fault x : ℕ) → x < 256 ^ width → Codes (number width fault (λ y. y == x)) (little width) (λ y. y ≡ x)
 Codes-constant width fault x fits =
     Codes-field width fault (λ y. y == x) (λ y. y ≡ x) (λ y h l. eqb-true y x h) (λ y h. (rw h fits, eq-eqb y x h))
 
-mode_of-code : (m : ModeName) → m ≡ mode_of (mode_code m)
+pub mode_of-code : (m : ModeName) → m ≡ mode_of (mode_code m)
 mode_of-code OrderSize = refl
 mode_of-code OrderOnly = refl
 mode_of-code Picolog = refl
 
-code-mode_of : (code : ℕ) → code ≤ 2 → mode_code (mode_of code) ≡ code
+pub code-mode_of : (code : ℕ) → code ≤ 2 → mode_code (mode_of code) ≡ code
 code-mode_of zero h = refl
 code-mode_of (suc zero) h = refl
 code-mode_of (suc (suc zero)) h = refl
 code-mode_of (suc (suc (suc n))) h = absurd (omega arith)
 
-mode_code-small : (m : ModeName) → mode_code m ≤ 2
+pub mode_code-small : (m : ModeName) → mode_code m ≤ 2
 mode_code-small OrderSize = omega arith
 mode_code-small OrderOnly = omega arith
 mode_code-small Picolog = omega arith
 
 -- the sections
-abbrev interrupts_of : Shape → Reader (List Interrupt)
+abbrev pub interrupts_of : Shape → Reader (List Interrupt)
 interrupts_of h = section_of (λ x y. is_earlier x.thread x.index y.thread y.index) (interrupt h)
 
-abbrev inputs_of : Reader (List Input)
+abbrev pub inputs_of : Reader (List Input)
 inputs_of = section_of (λ x y. true) input
 
-abbrev dmas_of : Reader (List DmaRecord)
+abbrev pub dmas_of : Reader (List DmaRecord)
 dmas_of = section_of (λ x y. nat_lt x.position y.position) dma
 
-Codes-interrupts : (h : Shape) → IsShape h → Codes (interrupts_of h) (section interrupt_bytes) (AreInterrupts h.threads)
-Codes-interrupts h good =
+pub Codes-interrupts : (h : Shape) → FitsBytes h → Codes (interrupts_of h) (section interrupt_bytes) (AreInterrupts h.threads)
+Codes-interrupts h fits =
     Codes-section (λ x y. is_earlier x.thread x.index y.thread y.index) (λ x y. ComesBefore x.thread x.index y.thread y.index)
-    (interrupt h) interrupt_bytes (IsInterrupt h.threads) (λ x y. Decides-earlier x.thread x.index y.thread y.index) (Codes-interrupt h good)
+    (interrupt h) interrupt_bytes (IsInterrupt h.threads) (λ x y. Decides-earlier x.thread x.index y.thread y.index) (Codes-interrupt h fits)
 
-Codes-inputs : Codes inputs_of (section input_bytes) AreInputs
+pub Codes-inputs : Codes inputs_of (section input_bytes) AreInputs
 Codes-inputs =
     Codes-section (λ x y. true) (λ x y. Unit {0}) input input_bytes IsInput (λ x y. (λ e. tt, λ h. refl)) Codes-input
 
-Codes-dmas : Codes dmas_of (section dma_bytes) AreDmas
+pub Codes-dmas : Codes dmas_of (section dma_bytes) AreDmas
 Codes-dmas =
     Codes-section (λ x y. nat_lt x.position y.position) (λ x y. x.position < y.position) dma dma_bytes IsDmaRecord (λ x y. Decides-ltb x.position y.position) Codes-dma
 
-Codes-chunk_size : (v : ℕ) → Codes (field 4 (from_to least_chunk (most_standard v))) u32 (IsStandard v)
+pub Codes-chunk_size : (v : ℕ) → Codes (field 4 (from_to least_chunk (most_standard v))) u32 (IsStandard v)
 Codes-chunk_size v =
     Codes-field 4 5 (from_to least_chunk (most_standard v)) (IsStandard v)
     (λ x h l. let p = and_parts (nat_le 16 x) (nat_le x (most_standard v)) h in (leb-true 16 x p.0, leb-true x (most_standard v) p.1))
@@ -92,18 +92,18 @@ Codes-count =
     Codes-field 4 5 (at_most (2 ^ 24)) (λ c. c ≤ 2 ^ 24) (λ c h l. leb-true c (2 ^ 24) h) (λ c h. (omega arith, le-leb c (2 ^ 24) h))
 
 -- the draft of a log of these parts, named by their first letters, `z` the sizes and `n` the inputs
-abbrev short_of : Sizes → List ShortSize
+abbrev pub short_of : Sizes → List ShortSize
 short_of (Each xs) = []
 short_of (Short xs) = xs
 
-abbrev shaped : (v t s : ℕ) → Shape
+abbrev pub shaped : (v t s : ℕ) → Shape
 shaped v t s = record { version = v; threads = t; s = s }
 
-abbrev whole : (h : Shape) (m : ModeName) (c : ℕ) (o : List Actor) (z : Sizes) (i : List Interrupt) (n : List Input) (d : List DmaRecord) → Draft
+abbrev pub whole : (h : Shape) (m : ModeName) (c : ℕ) (o : List Actor) (z : Sizes) (i : List Interrupt) (n : List Input) (d : List DmaRecord) → Draft
 whole h m c o z i n d =
     record { shape = h; mode = m; count = c; order = o; each = each_of z; short = short_of z; interrupts = i; inputs = n; dmas = d }
 
-same-sizes : (m : ModeName) (t s c : ℕ) (z : Sizes) → IsSizes m t s c z → sizes_in m (each_of z) (short_of z) ≡ z
+pub same-sizes : (m : ModeName) (t s c : ℕ) (z : Sizes) → IsSizes m t s c z → sizes_in m (each_of z) (short_of z) ≡ z
 same-sizes OrderSize t s c (Each xs) h = refl
 same-sizes OrderSize t s c (Short xs) h = absurd h
 same-sizes OrderOnly t s c (Each xs) h = absurd h
@@ -117,56 +117,56 @@ put-put : {X Y Z : Type 0} (r : Result (Read X) Fault) (first : X → Y) (second
 put-put (Ok r) first second bytes = refl
 put-put (Err fault) first second bytes = refl
 
-put-on : {X Y Z : Type 0} (r : Result (Read X) Fault) (put : X → Y) (next : Y → Reader Z) (bytes : List ℕ)
+pub put-on : {X Y Z : Type 0} (r : Result (Read X) Fault) (put : X → Y) (next : Y → Reader Z) (bytes : List ℕ)
     → continues (continues r (λ x. gives (put x) bytes)) (λ y after. next y bytes after) ≡ continues r (λ x after. next (put x) bytes after)
 put-on (Ok r) put next bytes = refl
 put-on (Err fault) put next bytes = refl
 
 -- a stage that puts what is read into the draft, and the stages behind it
-staged-on : {X : Type 0} (stage : Stage Draft) (behind : List (Stage Draft)) (d : Draft) (reader : Reader X) (put : X → Draft)
+pub staged-on : {D X : Type 0} (stage : Stage D) (behind : List (Stage D)) (d : D) (reader : Reader X) (put : X → D)
     → ((bytes : List ℕ) (at : ℕ) → staged stage d bytes at ≡ read reader (λ x. gives (put x)) bytes at)
     → (bytes : List ℕ) (at : ℕ) → all_of (stage ∷ behind) d bytes at ≡ read reader (λ x. all_of behind (put x)) bytes at
 staged-on stage behind d reader put is bytes at =
     rw (is bytes at) (put-on (reader bytes at) put (all_of behind) bytes)
 
 -- a stage that is read once
-staged-once : {X : Type 0} (reader : Reader X) (put : X → Draft) (bytes : List ℕ) (at : ℕ)
+pub staged-once : {D X : Type 0} (reader : Reader X) (put : X → D) (bytes : List ℕ) (at : ℕ)
     → continues (read reader (λ x. gives (put x)) bytes at) (λ d after. gives d bytes after) ≡ read reader (λ x. gives (put x)) bytes at
 staged-once reader put bytes at = put-on (reader bytes at) put gives bytes
 
 -- the stages from one on
-abbrev from : ℕ → Draft → Reader Draft
+abbrev pub from : ℕ → Draft → Reader Draft
 from k d = all_of (drop k stages) d
 
 -- what is known of a whole draft of which the parts before are these, and the bytes of the parts from here on
-abbrev Known-dmas : Shape → ModeName → ℕ → List Actor → Sizes → List Interrupt → List Input → Draft → Type 0
+abbrev pub Known-dmas : Shape → ModeName → ℕ → List Actor → Sizes → List Interrupt → List Input → Draft → Type 0
 Known-dmas h m c o z i n l = (d : List DmaRecord) × AreDmas d × (l ≡ whole h m c o z i n d)
 
-abbrev bytes-dmas : Draft → List ℕ
+abbrev pub bytes-dmas : Draft → List ℕ
 bytes-dmas l = (section dma_bytes) l.dmas ++ []
 
-abbrev Known-inputs : Shape → ModeName → ℕ → List Actor → Sizes → List Interrupt → Draft → Type 0
+abbrev pub Known-inputs : Shape → ModeName → ℕ → List Actor → Sizes → List Interrupt → Draft → Type 0
 Known-inputs h m c o z i l = (n : List Input) × AreInputs n × Known-dmas h m c o z i n l
 
-abbrev bytes-inputs : Draft → List ℕ
+abbrev pub bytes-inputs : Draft → List ℕ
 bytes-inputs l = (section input_bytes) l.inputs ++ (bytes-dmas l)
 
-abbrev Known-interrupts : Shape → ModeName → ℕ → List Actor → Sizes → Draft → Type 0
+abbrev pub Known-interrupts : Shape → ModeName → ℕ → List Actor → Sizes → Draft → Type 0
 Known-interrupts h m c o z l = (i : List Interrupt) × AreInterrupts h.threads i × Known-inputs h m c o z i l
 
-abbrev bytes-interrupts : Draft → List ℕ
+abbrev pub bytes-interrupts : Draft → List ℕ
 bytes-interrupts l = (section interrupt_bytes) l.interrupts ++ (bytes-inputs l)
 
-abbrev Known-sizes : Shape → ModeName → ℕ → List Actor → Draft → Type 0
+abbrev pub Known-sizes : Shape → ModeName → ℕ → List Actor → Draft → Type 0
 Known-sizes h m c o l = (z : Sizes) × IsSizes m h.threads h.s c z × Known-interrupts h m c o z l
 
-abbrev bytes-sizes : ℕ → Draft → List ℕ
+abbrev pub bytes-sizes : ℕ → Draft → List ℕ
 bytes-sizes v l = sizes_bytes v (sizes_in l.mode l.each l.short) ++ (bytes-interrupts l)
 
-abbrev Known-order : Shape → ModeName → ℕ → Draft → Type 0
+abbrev pub Known-order : Shape → ModeName → ℕ → Draft → Type 0
 Known-order h m c l = (o : List Actor) × IsOrder m h.threads c o × Known-sizes h m c o l
 
-abbrev bytes-order : ℕ → Draft → List ℕ
+abbrev pub bytes-order : ℕ → Draft → List ℕ
 bytes-order v l = order_bytes v l.order ++ (bytes-sizes v l)
 
 abbrev Known-count : Shape → ModeName → Draft → Type 0
@@ -231,7 +231,7 @@ Codes-from_interrupts h m c o z good =
     (staged-on interrupts (drop 9 stages) (put []) (interrupts_of h) put
     (staged-entries interrupts.one put (λ x y. is_earlier x.thread x.index y.thread y.index) (interrupt h) (λ xs bytes at. refl) (any 4)))
     (Codes-part (interrupts_of h) (λ i. from 9 (put i)) (λ l. l.interrupts) (section interrupt_bytes) (AreInterrupts h.threads) bytes-inputs (λ i. Known-inputs h m c o z i)
-    (Codes-interrupts h good) (λ i g. Codes-from_inputs h m c o z i)
+    (Codes-interrupts h (shape-fits h good)) (λ i g. Codes-from_inputs h m c o z i)
     (λ i l r. ap (λ (l : Draft). l.interrupts) r.2.2))
 
 each-put : (h : Shape) (c : ℕ) (o : List Actor) (bytes : List ℕ) (r : Result (Read ℕ) Fault)
@@ -265,7 +265,7 @@ Codes-from_sizes h m c o good gc =
       written : (l : Draft) (z : Sizes) → IsSizes m h.threads h.s c z → Known-interrupts h m c o z l → bytes-sizes h.version l ≡ sizes_bytes h.version z ++ bytes-interrupts l
       written l z g (i, gi, (n, gn, (d, gd, e))) = rw (e, same-sizes m h.threads h.s c z g) refl
 
-Codes-from_order : (h : Shape) (m : ModeName) (c : ℕ) → IsShape h → c ≤ 2 ^ 24 → Codes (from 6 (whole h m c [] (Each []) [] [] [])) (bytes-order h.version) (Known-order h m c)
+pub Codes-from_order : (h : Shape) (m : ModeName) (c : ℕ) → IsShape h → c ≤ 2 ^ 24 → Codes (from 6 (whole h m c [] (Each []) [] [] [])) (bytes-order h.version) (Known-order h m c)
 Codes-from_order h m c good gc =
     let put : List Actor → Draft = λ (o : List Actor). whole h m c o (Each []) [] [] [] in
     Codes-via (from 6 (put [])) (read (order_of h m c) (λ o. from 7 (put o))) (bytes-order h.version) (Known-order h m c)
@@ -294,7 +294,7 @@ Codes-from_s v t m good =
     (λ s l r. ap (λ (l : Draft). l.shape.s) r.2.2.2.2.2.2))
 
 -- a number that is always the same, from which the draft is this, and the stages behind it
-Codes-constant_then : (stage : Stage Draft) (behind : List (Stage Draft)) (d e : Draft) (width fault value : ℕ) (rest_of : Draft → List ℕ) (rest_good : Draft → Type 0)
+pub Codes-constant_then : {D : Type 0} (stage : Stage D) (behind : List (Stage D)) (d e : D) (width fault value : ℕ) (rest_of : D → List ℕ) (rest_good : D → Type 0)
     → value < 256 ^ width
     → ((bytes : List ℕ) (at : ℕ) → staged stage d bytes at ≡ read (number width fault (λ x. x == value)) (λ x. gives e) bytes at)
     → Codes (all_of behind e) rest_of rest_good → Codes (all_of (stage ∷ behind) d) (λ l. little width value ++ rest_of l) rest_good
@@ -312,7 +312,7 @@ Codes-first_count =
       split t (inl first) = (0, refl, first.1, refl)
       split t (inr second) = absurd (omega (arith, second.0))
 
-Decides-threads : (t : ℕ) → Decides ((t == plain_threads) || (t == most_threads)) ((t ≡ plain_threads) ⊎ (t ≡ most_threads))
+pub Decides-threads : (t : ℕ) → Decides ((t == plain_threads) || (t == most_threads)) ((t ≡ plain_threads) ⊎ (t ≡ most_threads))
 Decides-threads t = Decides-or _ _ (Decides-eqb t plain_threads) (Decides-eqb t most_threads)
 
 Codes-second_count : Codes (thread_count 2) (threads_bytes 2) (IsVersion 2)
@@ -396,10 +396,10 @@ known-good l (v, gv, (m, (t, gt, (s, gs, (c, gc, (o, go, (z, gz, (i, gi, (n, gn,
     (record { version = gt; s = gs; count = gc; order = go; sizes = rw (same-sizes m t s c z gz) gz; interrupts = gi; inputs = gn; dmas = gd })
 
 -- the draft of a log
-abbrev draft_of : LogParts → Draft
+abbrev pub draft_of : LogParts → Draft
 draft_of l = whole (shaped l.version l.threads l.s) l.mode l.count l.order l.sizes l.interrupts l.inputs l.dmas
 
-log-draft : (l : LogParts) → IsLog l → log_of (draft_of l) ≡ l
+pub log-draft : (l : LogParts) → IsLog l → log_of (draft_of l) ≡ l
 log-draft l h = rw (same-sizes l.mode l.threads l.s l.count l.sizes h.sizes) refl
 
 -- reading a log's draft undoes writing it
@@ -419,7 +419,7 @@ log-good bytes log are e =
     let s = read-whole bytes (all_of stages blank bytes 0) log e in
     subst IsLog s.3 (known-good s.0.value (Codes-draft.finds [] bytes s.0.value s.0.after are s.1).is_good)
 
-nothing-behind : (bytes whole rest : List ℕ) → bytes ≡ whole ++ rest → length bytes ≤ length whole → whole ≡ bytes
+pub nothing-behind : (bytes whole rest : List ℕ) → bytes ≡ whole ++ rest → length bytes ≤ length whole → whole ≡ bytes
 nothing-behind bytes whole rest split few =
     let none : rest ≡ [] = nil_from_length rest (omega (arith, ap length split, length-append whole rest)) in
     rw (split, none, append-nil whole) refl

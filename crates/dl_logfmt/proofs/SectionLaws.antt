@@ -8,7 +8,7 @@ use Rattle.spec_log.specs.Log.{IsSection}
 use Rattle.spec_log.specs.Bytes.{little, section}
 use Rattle.spec_log.specs.declared.fault.Fault.{Fault}
 use Rattle.spec_log.specs.Fields.{Read, Reader, continues, read, gives, any, passes, comes_after, last, next_entry, one_more, repeated}
-use Rattle.dl_logfmt.proofs.Codes.{Codes, Codes-as, Codes-read, Codes-then, Codes-gives, Codes-number, continued, tested, found_as}
+use Rattle.dl_logfmt.proofs.Codes.{Codes, Codes-as, Codes-read, Codes-then, Codes-gives, Codes-number, Codes-tested}
 
 -- so many entries, each of which comes after the one before it; the fault is at the entry's first byte
 abbrev pub entries : {X : Type 0} → (X → X → Bool) → Reader X → Option X → ℕ → Reader (List X)
@@ -42,17 +42,7 @@ judged earlier entry before bytes start = read entry (λ x. passes (comes_after 
 
 Codes-judged : {X : Type 0} (earlier : X → X → Bool) (entry : Reader X) (bytes_of : X → List ℕ) (good : X → Type 0) (last : Option X)
     → Codes entry bytes_of good → Codes (judged earlier entry last) bytes_of (λ x. good x × (comes_after earlier last x ≡ true))
-Codes-judged {X} earlier entry bytes_of good last codes =
-    record {
-      reads = λ x g before rest. rw (codes.reads x g.0 before rest, g.1) refl;
-      finds = λ before bytes x after are e.
-          let all = before ++ bytes in
-          let next : X → ℕ → Result (Read X) Fault = λ (y : X) (at : ℕ). passes (comes_after earlier last y) 6 (length before) y all at in
-          let s = continued (entry all (length before)) next (record { value = x; after = after }) e in
-          let f = codes.finds before bytes s.0.value s.0.after are s.1 in
-          let t = tested (comes_after earlier last s.0.value) s.0 (record { value = x; after = after }) (record { number = 6; offset = length before }) s.2 in
-          found_as bytes_of good before bytes s.0.value s.0.after (λ x. good x × (comes_after earlier last x ≡ true)) x after f (λ g. (g, t.0)) (ap (λ (z : Read X). z.value) t.1) (ap (λ (z : Read X). z.after) t.1);
-    }
+Codes-judged earlier entry bytes_of good last codes = Codes-tested 6 entry (comes_after earlier last) bytes_of good codes
 
 -- a first entry, and the others
 Codes-others : {X : Type 0} (n : ℕ) (earlier : X → X → Bool) (entry : Reader X) (bytes_of : X → List ℕ) (good : X → Type 0) (x : X)

@@ -14,7 +14,7 @@ use Rattle.spec_log.specs.Log.{ComesBefore, IsShortSize, AreShortSizes, IsSizes}
 use Rattle.spec_log.specs.Fields.{Reader, read, gives, field}
 use Rattle.spec_log.specs.Reading.{is_earlier, size, short_size}
 use Rattle.dl_logfmt.proofs.Codes.{Codes, Codes-as, Codes-then, Codes-gives}
-use Rattle.dl_logfmt.proofs.EntryLaws.{IsShape, Codes-field, Codes-size, Codes-short_size, Decides-earlier}
+use Rattle.dl_logfmt.proofs.EntryLaws.{IsShape, FitsBytes, shape-fits, Codes-field, Codes-size, Codes-short_size, Decides-earlier}
 use Rattle.dl_logfmt.proofs.SectionLaws.{entries, section_of, Rises-any, AreEntries, Codes-entries, Codes-section}
 
 -- the sizes of the short chunks, those of each commit, and those of a log in a mode
@@ -45,7 +45,7 @@ Codes-each_entries h n good =
     let are = AreEntries (λ x y. true) (λ size. size ≤ h.s) None n in
     Codes-then (entries (λ x y. true) (size h) None n) (λ sizes. gives (Each sizes)) (flat_map (size_bytes h.version)) are
     (λ xs y. []) (λ xs y. y ≡ Each xs) (λ y. flat_map (size_bytes h.version) (each_of y)) (AreEach h.s n)
-    (Codes-entries n (λ x y. true) (size h) (size_bytes h.version) (λ size. size ≤ h.s) None (Codes-size h good))
+    (Codes-entries n (λ x y. true) (size h) (size_bytes h.version) (λ size. size ≤ h.s) None (Codes-size h (shape-fits h good)))
     (λ xs g. Codes-gives (Each xs) (λ y. y ≡ Each xs) refl (λ y e. e))
     (λ y g. (g.0, g.2, g.1, rw (g.1, append-nil (flat_map (size_bytes h.version) g.0)) refl))
     (λ xs y g e. ((xs, e, g), rw (e, append-nil (flat_map (size_bytes h.version) xs)) refl))
@@ -65,6 +65,13 @@ Codes-each h count good few =
       each_join n y e r =
           rw r.1 ((r.2.0 ∙ e, All-from_recursion (λ size. size ≤ h.s) r.0 r.2.1), rw r.2.0 refl)
 
+-- reading the sizes of short chunks undoes writing them
+pub Codes-short_sizes : (h : Shape) → FitsBytes h
+    → Codes (section_of (λ x y. is_earlier x.thread x.index y.thread y.index) (short_size h)) (section (short_size_bytes h.version)) (AreShortSizes h.threads h.s)
+Codes-short_sizes h fits =
+    Codes-section (λ x y. is_earlier x.thread x.index y.thread y.index) (λ x y. ComesBefore x.thread x.index y.thread y.index) (short_size h) (short_size_bytes h.version)
+    (IsShortSize h.threads h.s) (λ x y. Decides-earlier x.thread x.index y.thread y.index) (Codes-short_size h fits)
+
 abbrev IsShort : Shape → Sizes → Type 0
 IsShort h (Each sizes) = ⊥
 IsShort h (Short sizes) = AreShortSizes h.threads h.s sizes
@@ -73,8 +80,7 @@ Codes-short : (h : Shape) → IsShape h → Codes (short_sizes h) (sizes_bytes h
 Codes-short h good =
     Codes-then (section_of earlier (short_size h)) (λ sizes. gives (Short sizes)) (section (short_size_bytes h.version)) (AreShortSizes h.threads h.s)
     (λ xs y. []) (λ xs y. y ≡ Short xs) (sizes_bytes h.version) (IsShort h)
-    (Codes-section earlier (λ x y. ComesBefore x.thread x.index y.thread y.index) (short_size h) (short_size_bytes h.version) (IsShortSize h.threads h.s)
-    (λ x y. Decides-earlier x.thread x.index y.thread y.index) (Codes-short_size h good))
+    (Codes-short_sizes h (shape-fits h good))
     (λ xs g. Codes-gives (Short xs) (λ y. y ≡ Short xs) refl (λ y e. e))
     short_split
     (λ xs y g e. rw e (g, sym_nil xs)) where

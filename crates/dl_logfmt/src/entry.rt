@@ -1,5 +1,5 @@
 //! The entries of a log's sections.
-ghost use Rattle.std.specs.Prelude.{◌≡◌, ℕ, ◌<◌, ◌≤◌, Bool, true, List, length, nat_lt};
+ghost use Rattle.std.specs.Prelude.{◌≡◌, ℕ, ◌<◌, ◌≤◌, Bool, true, List, length, nat_lt, OnErr};
 ghost use Rattle.dl_entry.specs.Numbers.{most_threads};
 ghost use Rattle.spec_log.specs.Bytes.{size_bytes, short_size_bytes, interrupt_bytes, input_bytes, dma_bytes};
 ghost use Rattle.spec_log.specs.Log.{IsShortSize, IsInterrupt, IsInput, IsDmaRecord};
@@ -29,11 +29,12 @@ pub trait Entry: Drop {
 
     ghost bytes: { (version : ℕ) → Self → List ℕ };
 
-    /// The next entry of a log of this shape.
+    /// The next entry of a log of this shape; after an error the offset is as before.
     fn read(source: &Source<'_>, at: &mut usize, shape: Shape) -> Result<Self, LogError>
     where
         Self: Sized,
-        ensures { Answers (reader shape source.now.bytes.now at.old) result at.new };
+        ensures value { Answers (reader shape source.now.bytes.now at.old) result at.new }
+        ensures stays { OnErr result (at.new ≡ at.old) };
 
     /// Whether a later entry of the section may follow this one.
     fn comes_before(&self, later: &Self) -> bool
@@ -57,9 +58,10 @@ impl Entry for u32 {
     ghost bytes = { size_bytes };
 
     fn read(source: &Source<'_>, at: &mut usize, shape: Shape) -> Result<u32, LogError> {
-        let start = *at;
-        let size = read_size(source.bytes, at, shape.version)?;
-        judge(size <= shape.s, FIELD, start)?;
+        let mut after = *at;
+        let size = read_size(source.bytes, &mut after, shape.version)?;
+        judge(size <= shape.s, FIELD, *at)?;
+        *at = after;
         Ok(size)
     }
 
@@ -84,9 +86,11 @@ impl Entry for ShortSize {
     ghost bytes = { short_size_bytes };
 
     fn read(source: &Source<'_>, at: &mut usize, shape: Shape) -> Result<ShortSize, LogError> {
-        let thread = read_thread(source.bytes, at, shape)?;
-        let index = read_u32(source.bytes, at)?;
-        let size = read_short(source.bytes, at, shape)?;
+        let mut after = *at;
+        let thread = read_thread(source.bytes, &mut after, shape)?;
+        let index = read_u32(source.bytes, &mut after)?;
+        let size = read_short(source.bytes, &mut after, shape)?;
+        *at = after;
         Ok(ShortSize {
             thread,
             index,
@@ -117,9 +121,11 @@ impl Entry for Interrupt {
     ghost bytes = { λ version. interrupt_bytes };
 
     fn read(source: &Source<'_>, at: &mut usize, shape: Shape) -> Result<Interrupt, LogError> {
-        let thread = read_thread(source.bytes, at, shape)?;
-        let index = read_u32(source.bytes, at)?;
-        let value = read_u32(source.bytes, at)?;
+        let mut after = *at;
+        let thread = read_thread(source.bytes, &mut after, shape)?;
+        let index = read_u32(source.bytes, &mut after)?;
+        let value = read_u32(source.bytes, &mut after)?;
+        *at = after;
         Ok(Interrupt {
             thread,
             index,
@@ -150,9 +156,11 @@ impl Entry for Input {
     ghost bytes = { λ version. input_bytes };
 
     fn read(source: &Source<'_>, at: &mut usize, _: Shape) -> Result<Input, LogError> {
-        let kind = read_kind(source.bytes, at)?;
-        let answer = read_u32(source.bytes, at)?;
-        let bytes = read_counted(source, at)?;
+        let mut after = *at;
+        let kind = read_kind(source.bytes, &mut after)?;
+        let answer = read_u32(source.bytes, &mut after)?;
+        let bytes = read_counted(source, &mut after)?;
+        *at = after;
         Ok(Input {
             kind,
             result: answer,
@@ -183,8 +191,10 @@ impl Entry for DmaRecord {
     ghost bytes = { λ version. dma_bytes };
 
     fn read(source: &Source<'_>, at: &mut usize, _: Shape) -> Result<DmaRecord, LogError> {
-        let position = read_u32(source.bytes, at)?;
-        let bytes = read_counted(source, at)?;
+        let mut after = *at;
+        let position = read_u32(source.bytes, &mut after)?;
+        let bytes = read_counted(source, &mut after)?;
+        *at = after;
         Ok(DmaRecord { position, bytes })
     }
 

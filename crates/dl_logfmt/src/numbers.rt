@@ -58,9 +58,10 @@ pub fn read_u32(bytes: &[u8], at: &mut usize) -> Result<u32, LogError>
 
 /// Where a field that began at an offset isn't good: the number of its fault there.
 pub fn judge(good: bool, number: u8, start: usize) -> Result<(), LogError>
-    ensures { MatchResult result
+    ensures value { MatchResult result
         (λ _. good ≡ true)
         (λ error. (good ≡ false) × (error ≡ LogError.Malformed (record { number = number; offset = start }))) }
+    ensures no_memory { IfErr result (λ e. e ≢ LogError.OutOfMemory) }
 {
     if good {
         Ok(())

@@ -128,7 +128,7 @@ fn drop_front(bytes: &mut Vec<u8>, count: usize)
 }
 
 /// The log that was read.
-fn log_of(draft: Draft) -> LogParts
+pub fn log_of(draft: Draft) -> LogParts
     ensures { result ≡ log_in draft }
 {
     let Draft {

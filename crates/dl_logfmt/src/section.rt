@@ -1,5 +1,5 @@
 //! An entry of a section, as it is read behind those before it.
-ghost use Rattle.std.specs.Prelude.{◌≡◌};
+ghost use Rattle.std.specs.Prelude.{◌≡◌, OnErr};
 ghost use Rattle.spec_log.specs.Fields.{comes_after, last, next_entry, one_more};
 ghost use Rattle.dl_logfmt.specs.Answer.{Answers, Makes};
 ghost use Rattle.dl_logfmt.specs.Parsing.{Extends};
@@ -11,7 +11,7 @@ use crate::source::Source;
 use dl_entry::Sequence;
 use spec_log::Shape;
 
-/// Reads one entry more of a list, in a log of this shape.
+/// Reads one entry more of a list, in a log of this shape; after an error list and offset are as before.
 pub fn read_next<E: Entry>(
     list: &mut Sequence<E>,
     source: &Source<'_>,
@@ -20,9 +20,13 @@ pub fn read_next<E: Entry>(
 ) -> Result<(), LogError>
     ensures made { Makes (one_more E.earlier (E.reader shape) list.old source.now.bytes.now at.old) result list.old list.new at.new }
     ensures grown { Extends list.old list.new }
+    ensures err { OnErr result (list.new ≡ list.old) }
+    ensures stays { OnErr result (at.new ≡ at.old) }
 {
-    let entry = read_entry(source, at, shape, list)?;
+    let mut after = *at;
+    let entry = read_entry(source, &mut after, shape, list)?;
     list.push(entry)?;
+    *at = after;
     Ok(())
 }
 

@@ -1,4 +1,5 @@
 //! What each stage of a log reads.
+ghost use Rattle.std.specs.Prelude.{◌≢◌, IfErr};
 ghost use Rattle.dl_logfmt.specs.Answer.{Answers, Makes};
 ghost use Rattle.dl_logfmt.specs.Parsing.{Grew, stage_at};
 ghost use Rattle.spec_log.specs.Reading.{one_size, size_count};
@@ -22,7 +23,8 @@ pub fn read_times(
     bytes: &[u8],
     at: &mut usize,
 ) -> Result<u32, LogError>
-    ensures { Answers ((stage_at stage).times draft.now bytes.now at.old) result at.new }
+    ensures value { Answers ((stage_at stage).times draft.now bytes.now at.old) result at.new }
+    ensures no_memory { IfErr result (λ e. e ≢ LogError.OutOfMemory) }
 {
     match stage {
         StageName::Order => {
@@ -42,7 +44,8 @@ fn read_size_count(
     bytes: &[u8],
     at: &mut usize,
 ) -> Result<u32, LogError>
-    ensures { Answers (size_count mode count bytes.now at.old) result at.new }
+    ensures value { Answers (size_count mode count bytes.now at.old) result at.new }
+    ensures no_memory { IfErr result (λ e. e ≢ LogError.OutOfMemory) }
 {
     match mode {
         ModeName::OrderSize => read_sized(bytes, at, count),

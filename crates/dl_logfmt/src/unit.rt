@@ -52,6 +52,13 @@ impl<'a> Unit<'a> {
         Unit::new(fixed, &[])
     }
 
+    /// The fixed bytes that are left, and those behind them.
+    pub fn parts(&self) -> (&[u8], &'a [u8])
+        ensures { self.now ≡ result.0.now ++ result.1.now }
+    {
+        (&self.fixed.as_slice()[self.taken..], self.counted)
+    }
+
     /// Fills the room from its front with the next bytes, and says how many.
     pub fn give(&mut self, into: &mut [u8]) -> usize
         ensures count { result ≡ min (length into.old) (length self.old) }

@@ -1,6 +1,6 @@
 -- What one store more adds to an answer.
-use Rattle.std.proofs.Common.{◌≡◌, ◌≢◌, ℕ, ◌+◌, ◌<◌, ◌≤◌, ◌⊎◌, inl, inr, Bool, true, false, cond, not, eqb, ltb, List, [], ◌∷◌, ◌++◌, length, drop, get_or, map, reverse, Option, Some, None, refl, sym, ap, ◌∙◌}
-use Rattle.std.specs.Prelude.{find, nat_eq, nat_lt}
+use Rattle.std.proofs.Common.{◌≡◌, ◌≢◌, ℕ, ◌+◌, ◌<◌, ◌≤◌, inl, inr, Bool, true, false, cond, not, eqb, List, [], ◌∷◌, ◌++◌, length, drop, get_or, reverse, Option, Some, None, refl, sym, ap, ◌∙◌}
+use Rattle.std.specs.Prelude.{find, nat_lt}
 use Rattle.std.specs.Option.{option_or}
 use Rattle.std.proofs.lemmas.Bool.{ne_eqb, lt-ltb, le-ltb}
 use Rattle.std.proofs.lemmas.Bool.Decides.{eqb_tells}

@@ -2,7 +2,7 @@
 ghost use Rattle.std.specs.Prelude.{◌≡◌, ◌++◌, IfOk, OnOk, flat_map};
 ghost use Rattle.spec_query.specs.Texts.{end_text, last_text, line_text, lines_text, none_text, when_text};
 
-use dl_account::{Text, put_why};
+use dl_account::{Text, why_text};
 use dl_entry::{End, OutOfMemory};
 use spec_query::{Line, When};
 use std::alloc::Global;
@@ -13,7 +13,7 @@ pub fn lines_text(alloc: Global, lines: &[Line], end: End) -> Result<Vec<u8>, Ou
 {
     let mut text = Text::new(alloc);
     put_lines(&mut text, lines)?;
-    put_end(&mut text, end)?;
+    put_end(alloc, &mut text, end)?;
     Ok(text.into_bytes())
 }
 
@@ -23,7 +23,7 @@ pub fn last_text(alloc: Global, last: Option<Line>, end: End) -> Result<Vec<u8>,
 {
     let mut text = Text::new(alloc);
     put_last(&mut text, last)?;
-    put_end(&mut text, end)?;
+    put_end(alloc, &mut text, end)?;
     Ok(text.into_bytes())
 }
 
@@ -33,7 +33,7 @@ pub fn when_text(alloc: Global, when: When, end: End) -> Result<Vec<u8>, OutOfMe
 {
     let mut text = Text::new(alloc);
     put_when(&mut text, when)?;
-    put_end(&mut text, end)?;
+    put_end(alloc, &mut text, end)?;
     Ok(text.into_bytes())
 }
 
@@ -75,7 +75,7 @@ fn put_when(text: &mut Text, when: When) -> Result<(), OutOfMemory>
 }
 
 // `diverged COMMIT WHY`, if the log diverges.
-fn put_end(text: &mut Text, end: End) -> Result<(), OutOfMemory>
+fn put_end(alloc: Global, text: &mut Text, end: End) -> Result<(), OutOfMemory>
     ensures { OnOk result (text.new ≡ text.old ++ end_text end) }
 {
     match end {
@@ -83,7 +83,7 @@ fn put_end(text: &mut Text, end: End) -> Result<(), OutOfMemory>
         End::Diverged(index, why) => {
             text.put(b"diverged")?;
             text.put_number(u64::from(index))?;
-            put_why(text, why)?;
+            text.put(&why_text(alloc, why)?)?;
             text.put(b"\n")
         }
     }

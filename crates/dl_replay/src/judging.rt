@@ -1,15 +1,15 @@
 //! What the log says of a commit: it goes as logged, or why it doesn't.
 ghost use Rattle.std.specs.Prelude.{◌≡◌, Some, ℕ, ◌+◌, ◌<◌, ◌≤◌, ◌^◌, length, slice_get, IfOk, OnOk, IfSome, OnSome, option_map};
 ghost use Rattle.dl_entry.specs.Numbers.{most_bytes, most_threads};
+ghost use Rattle.spec_isa.specs.declared.thread.Parts.{Parts};
 ghost use Rattle.spec_isa.specs.Runs.{Run};
 ghost use Rattle.spec_kernel.specs.Needs.{need};
 ghost use Rattle.spec_play.specs.Effects.{Effect, chunk_effect};
 ghost use Rattle.spec_play.specs.Progress.{Progress};
-ghost use Rattle.spec_play.specs.Verdicts.{ended, chunk_why, chunk_verdict, serial_why, given, serial_verdict};
-ghost use Rattle.spec_play.specs.Transfers.{is_for, dma_verdict};
 ghost use Rattle.spec_play.specs.Resuming.{IsBounded};
 ghost use Rattle.spec_play.specs.Spawned.{AreNew};
-ghost use Rattle.spec_isa.specs.declared.thread.Parts.{Parts};
+ghost use Rattle.spec_play.specs.Verdicts.{ended, chunk_why, chunk_verdict, serial_why, given, serial_verdict};
+ghost use Rattle.spec_play.specs.Transfers.{is_for, dma_verdict};
 ghost use Rattle.dl_kernel.specs.Calls.{spawned_list};
 ghost use Rattle.dl_kernel.specs.States.{state_in};
 ghost use Rattle.dl_replay.specs.Replays.{Agrees, IsInside};

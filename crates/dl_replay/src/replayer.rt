@@ -1,5 +1,5 @@
-//! The replayer of a sphere. The sphere's state is the caller's, who hands it in. A commit is judged before anything changes;
-//! if it goes, it is taken into the state, except for the words that it stores: those are for the caller to lay.
+//! The replayer of a sphere. The sphere's state is the caller's, who hands it in. A commit is judged before anything
+//! changes. If it goes, it is taken into the state, except for the words that it stores, which are the caller's to lay.
 ghost use Rattle.std.specs.Prelude.{◌≡◌, ℕ, List, ◌+◌, ◌<◌, ◌≤◌, ◌^◌, false, length, slice_get, Some};
 ghost use Rattle.std.specs.Prelude.{IfOk, OnErr, OnSome};
 ghost use Rattle.dl_entry.specs.Numbers.{most_threads};
@@ -172,8 +172,8 @@ impl<M: Mode> Replayer<M> {
         self.total += n;
     }
 
-    /// Judges a chunk of so many instructions of the thread whose turn it is, which has left the thread in this state. If the
-    /// replay diverges, only its end is noted.
+    /// Judges a chunk of so many instructions of the thread whose turn it is, which it left like this. If the replay diverges,
+    /// only its end is noted.
     pub fn end_chunk(
         &mut self,
         number: u8,
@@ -206,9 +206,9 @@ impl<M: Mode> Replayer<M> {
 
     // ---- serial steps
 
-    /// Judges the serial step of the thread whose turn it is, and does it. It gives what the step leaves, of which all but the
-    /// words is in the state already; or why the replay leaves its log, of which only the end is noted. If memory runs out, all
-    /// is as before.
+    /// Judges the serial step of the thread whose turn it is, and does it. It gives what the step leaves, of which all but
+    /// the words is in the state already; or why the replay leaves its log, and then only its end is noted. If memory runs
+    /// out, all is as before.
     pub fn serve_step(
         &mut self,
         number: u8,

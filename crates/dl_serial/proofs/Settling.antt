@@ -21,8 +21,7 @@ use Rattle.spec_play.specs.Verdicts.{LogVerdict, Fails}
 use Rattle.spec_play.proofs.Going.{turn-lives}
 use Rattle.spec_play.proofs.Positions.{position-more}
 use Rattle.spec_protocol.specs.promises.Sound.{IsSoundIf}
-use Rattle.spec_query.specs.declared.Store.{Store}
-use Rattle.spec_query.specs.Stores.{stores_of, words_gone, words_transferred}
+use Rattle.spec_query.specs.Stores.{words_gone, words_transferred}
 use Rattle.dl_kernel.specs.declared.state.State.{State}
 use Rattle.dl_replay.specs.Following.{Following, followed}
 use Rattle.dl_replay.specs.Replays.{IsInside, IsReplaying}
@@ -155,10 +154,6 @@ goes_with (DmaFails why) = []
 pub words-in : {ws us : List Stored} → DmaGoes ws ≡ DmaGoes us → ws ≡ us
 unfolding goes_with
 words-in is = ap goes_with is
-
--- what is noted after these stores, of the commit of that number, over this memory, is the same after equal ones
-pub same-stores : {ss ts : List Store} {i j : ℕ} {m n : List ℕ} {ws us : List Stored} (actor : Actor) → ss ≡ ts → i ≡ j → m ≡ n → ws ≡ us → ss ++ stores_of i actor m ws ≡ ts ++ stores_of j actor n us
-same-stores actor stores commit memory words = λ x. stores x ++ stores_of (commit x) actor (memory x) (words x)
 
 -- a thread's commit that went, with its words laid and its commit noted, has come where its verdict settles the play
 pub gone-come : (r new : Following) (s n : Sphere) (left : State) (k : ℕ) (v : LogVerdict) (words : List Stored) (c : Commit) → (g : HasGone r s.past.state (progress_in s.past) new left k v) → IsNoted s n c → n.past.state ≡ record left { memory = lays left.memory words }

@@ -1,5 +1,5 @@
 -- A turn of a play settles the verdict on what is next, and the player is seen so after it.
-use Rattle.std.proofs.Common.{◌≡◌, ℕ, zero, suc, ◌+◌, ◌-◌, ◌<◌, ◌≤◌, List, [], ◌++◌, append_assoc, append-nil, Option, Some, Result, Ok, Err, OnOk, OnErr, sym, ap, ◌∙◌, arith}
+use Rattle.std.proofs.Common.{◌≡◌, ℕ, zero, suc, ◌+◌, ◌-◌, ◌<◌, ◌≤◌, List, [], ◌++◌, append_assoc, append-nil, Option, Some, Result, Ok, Err, OnOk, sym, ap, ◌∙◌, arith}
 use Rattle.std.specs.Prelude.{slice_get, IsSome}
 use Rattle.std.proofs.lemmas.Bool.{true≢false}
 use Rattle.dl_entry.specs.declared.Actor.{Actor}
@@ -84,11 +84,6 @@ seen-played log y z ss more new n v next is at =
 pub on-ok : {A E : Type 0} (r : Result A E) (P Q : Type 0) → (P → Q) → OnOk r P → OnOk r Q
 on-ok (Ok x) P Q f p = f p
 on-ok (Err e) P Q f p = tt
-
--- what follows of an Ok and of an Err follows of any result
-pub on-both : {A E : Type 0} (r : Result A E) (P Q R : Type 0) → (P → R) → (Q → R) → OnOk r P → OnErr r Q → R
-on-both (Ok x) P Q R f g p q = f p
-on-both (Err e) P Q R f g p q = g q
 
 -- what follows from two facts holds of an Ok of which both hold
 pub on-two : {A E : Type 0} (r : Result A E) (P Q R : Type 0) → OnOk r P → OnOk r Q → (P → Q → R) → OnOk r R

@@ -30,6 +30,6 @@ pub use dl_thread::Threads;
 pub use dl_wbuf::Buffer;
 pub use moved::{DmaSize, Moved};
 pub use setup::{Begun, Replay, Role, SphereSetup};
-pub use spec_play::Interval;
 pub use spec_log::{Log, ModeName};
+pub use spec_play::Interval;
 pub use sphere::Sphere;

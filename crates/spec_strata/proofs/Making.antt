@@ -1,4 +1,4 @@
--- What is proved here: that the strata which a log is cut into are parallel, and leave what the log leaves.
+-- What is proved here: that the strata which a log is cut into are strata, parallel, and leave what the log leaves.
 pub mod Cutting
 pub mod Counting
 pub mod Playing
@@ -6,3 +6,7 @@ pub mod Ending
 pub mod Commits
 pub mod Sizes
 pub mod Saying
+pub mod Using
+pub mod Given
+pub mod Filling
+pub mod Made

@@ -3,3 +3,4 @@ pub mod Steps
 pub mod Checking
 pub mod Testing
 pub mod Pairs
+pub mod Touches

@@ -18,7 +18,7 @@ header_bytes v = magic ++ u8 1 ++ u8 v.counted ++ u16 v.threads ++ u32 v.s ++ u3
 
 -- chunks have a byte for each thread that is counted, a serial step has its thread
 abbrev pub stratum_bytes : Stratum → List ℕ
-stratum_bytes (Chunks counts) = u8 0 ++ flat_map u8 counts
+stratum_bytes (Chunks counts) = u8 0 ++ counts
 stratum_bytes (Serial thread) = u8 1 ++ u8 thread
 stratum_bytes Dma = u8 2
 

@@ -1,6 +1,7 @@
 pub mod Footprints
 pub mod Shares
 pub mod Parallel
+pub mod Touches
 pub mod InPlay
 pub mod Orders
 pub mod Pieces

@@ -17,6 +17,7 @@ use Rattle.spec_strata.specs.declared.strata.StrataParts.{StrataParts}
 use Rattle.spec_strata.specs.Shares.{StratumState, stratum_start, commit_more, counts_of}
 use Rattle.spec_strata.specs.Parallel.{clashes_next}
 use Rattle.spec_strata.specs.InPlay.{rule_of, IsLike}
+use Rattle.spec_strata.specs.Strata.{AreStrata}
 use Rattle.spec_strata.specs.Canonical.{canonical}
 use Rattle.spec_strata.specs.OnImages.{IsParallelOn}
 
@@ -146,3 +147,9 @@ abbrev pub MadeAreParallel : Type 0
 MadeAreParallel =
     (log : LogParts) (memory : List ℕ) (entry : ℕ) → IsLog log → FitsImage log memory entry
     → MadeGoes log (made log memory entry) memory entry
+
+-- They are strata: within their ranges, and in order.
+abbrev pub MadeAreStrata : Type 0
+MadeAreStrata =
+    (log : LogParts) (memory : List ℕ) (entry : ℕ) → IsLog log → FitsImage log memory entry
+    → AreStrata (made log memory entry)

@@ -2,6 +2,7 @@
 ghost use Rattle.spec_strata.specs.Footprints.{CommitsAreLocal, CommitsCommute, FootprintsStay};
 ghost use Rattle.spec_strata.specs.Parallel.{ClearIsTested, ClearOnesAreParallel, ParallelOnesAreClear};
 ghost use Rattle.spec_strata.specs.Parallel.{ParallelOnesStep, ParallelOnesInterleave, ParallelByPairs};
+ghost use Rattle.spec_strata.specs.Touches.{TouchesBegin, TouchesTell, TouchesFollow};
 ghost use Rattle.spec_strata.specs.Orders.{StrataStep, StrataPlayed, StrataInterleave, CanonicalOrderPlays, CanonicalPlays};
 ghost use Rattle.spec_strata.specs.Orders.{PlaysStayAlike, TurnsAlike, OrdersTurn};
 ghost use Rattle.spec_strata.specs.Pieces.{PiecesAreLocal, LastPartsGo};
@@ -11,7 +12,7 @@ ghost use Rattle.spec_strata.specs.Relogged.{StrataRelog, BlocksRelog};
 ghost use Rattle.spec_strata.specs.Canonical.{CanonicalIsLog};
 ghost use Rattle.spec_strata.specs.OnImages.{ParallelStrataGo};
 ghost use Rattle.spec_strata.specs.Checking.{OneAnswer};
-ghost use Rattle.spec_strata.specs.Making.{MadeAreParallel};
+ghost use Rattle.spec_strata.specs.Making.{MadeAreParallel, MadeAreStrata};
 
 // ---- commits
 
@@ -61,6 +62,21 @@ pub fn parallel_ones_interleave()
 /// Commits are parallel exactly if no two of them, of different threads, conflict.
 pub fn parallel_by_pairs()
     ensures { ParallelByPairs }
+{}
+
+/// At the start of a stratum no word is touched.
+pub fn touches_begin()
+    ensures { TouchesBegin }
+{}
+
+/// Who has touched each word tells whether the next commit conflicts with one that another thread has done.
+pub fn touches_tell()
+    ensures { TouchesTell }
+{}
+
+/// Once a commit without conflict is done, only the touches of its own words change.
+pub fn touches_follow()
+    ensures { TouchesFollow }
 {}
 
 // ---- a stratum in a play
@@ -169,4 +185,9 @@ pub fn one_answer()
 /// log's play leaves: memory, threads, and each thread's commits, with their loads and outputs, in its order.
 pub fn made_are_parallel()
     ensures { MadeAreParallel }
+{}
+
+/// And they are strata: their parts are within their ranges, and in order.
+pub fn made_are_strata()
+    ensures { MadeAreStrata }
 {}

@@ -5,7 +5,7 @@ ghost use Rattle.dl_sphere.specs.Setups.{HasBegun, IsRecordableIf, begun_as, rol
 ghost use Rattle.dl_machine.specs.Setups.{IsWithin};
 
 use dl_elf::{Image, load};
-use dl_entry::{Actor, Bytes, Commit, End, Load, OutOfMemory, Sequence};
+use dl_entry::{Actor, Bytes, Commit, Counts, End, Load, OutOfMemory, Sequence};
 use dl_finish::{finish, next_event};
 use dl_logfmt::{read_log, write_log};
 use dl_machine::{Machine, Setup};
@@ -99,39 +99,58 @@ fn two_chunks_of_a_core_go_as_they_were_worked(rt: HostRuntime) -> Result<(), Fa
     Ok(())
 }
 
-// Once by the events that are listed, and once more by `finish`, which takes as many events.
+// A machine is dropped where it was made, after a call that does all that may fail: to be proved to end wherever a function may
+// return takes long.
 fn goes_as_worked(rt: &impl Abort, alloc: Global, row: &Row) -> Result<(), Fail> {
-    let mut stepped = machine_of(alloc, row)?;
+    let mut machine = machine_of(alloc, row)?;
+    let went = goes(rt, alloc, &mut machine, row);
+    drop(machine);
+    went
+}
+
+// Once by the events that are listed, and once more by `finish`, which takes as many events.
+fn goes(
+    rt: &impl Abort,
+    alloc: Global,
+    stepped: &mut Machine<Banked>,
+    row: &Row,
+) -> Result<(), Fail> {
     for &(event, reply) in row.events {
-        let answered = take(&mut stepped, event)?;
+        let answered = take(stepped, event)?;
         assert!(rt; answered == Some(reply), "{}: {event:?}", row.name);
     }
     for &(event, reply) in row.finishing {
         assert!(rt;
-            next_event(&stepped) == Some(event),
+            next_event(stepped) == Some(event),
             "{}: {event:?}",
             row.name
         );
-        let answered = take(&mut stepped, event)?;
+        let answered = take(stepped, event)?;
         assert!(rt; answered == Some(reply), "{}: {event:?}", row.name);
     }
-    assert!(rt; next_event(&stepped).is_none(), "{}", row.name);
-    let finished = finished(alloc, row)?;
-    assert!(rt; finished.counts() == stepped.counts(), "{}", row.name);
-    have_lived(rt, alloc, &stepped, row)
+    assert!(rt; next_event(stepped).is_none(), "{}", row.name);
+    assert!(rt; finished(alloc, row)? == *stepped.counts(), "{}", row.name);
+    have_lived(rt, alloc, stepped, row)
 }
 
-// The machine once its events are taken and it is finished.
-fn finished(alloc: Global, row: &Row) -> Result<Machine<Banked>, Fail> {
+// What the machine has counted once its events are taken and it is finished.
+fn finished(alloc: Global, row: &Row) -> Result<Counts, Fail> {
     let mut machine = machine_of(alloc, row)?;
+    let finished = take_all(&mut machine, row);
+    let counts = *machine.counts();
+    drop(machine);
+    finished?;
+    Ok(counts)
+}
+
+fn take_all(machine: &mut Machine<Banked>, row: &Row) -> Result<(), Fail> {
     for &(event, _) in row.events {
-        take(&mut machine, event)?;
+        take(machine, event)?;
     }
     if machine.counts().events >= 1 << 24 {
         return Err("too many events".into());
     }
-    finish(&mut machine)?;
-    Ok(machine)
+    Ok(finish(machine)?)
 }
 
 // The reply, if the machine may still take events.
@@ -175,7 +194,13 @@ fn log_of(alloc: Global, sphere: &Sphere) -> Result<Vec<u8>, OutOfMemory> {
     if !sphere.halves() {
         return Ok(Vec::new(alloc));
     }
-    write_log(alloc, &sphere.log()?)
+    written(alloc, sphere.log()?)
+}
+
+fn written(alloc: Global, log: Log) -> Result<Vec<u8>, OutOfMemory> {
+    let bytes = write_log(alloc, &log);
+    drop(log);
+    bytes
 }
 
 fn has_done(alloc: Global, commits: &[Commit], life: &Life) -> Result<bool, AllocError> {
@@ -190,10 +215,18 @@ fn has_done(alloc: Global, commits: &[Commit], life: &Life) -> Result<bool, Allo
 
 fn machine_of(alloc: Global, row: &Row) -> Result<Machine<Banked>, Fail> {
     let setup = setup_of(alloc, row)?;
-    if !is_within(&setup) {
+    let machine = made(alloc, &setup);
+    drop(setup);
+    machine
+}
+
+fn made(alloc: Global, setup: &Setup) -> Result<Machine<Banked>, Fail>
+    requires { All HasBegun setup.now.spheres }
+{
+    if !is_within(setup) {
         return Err("a number is out of its limits".into());
     }
-    Ok(Machine::new(alloc, &setup)?)
+    Ok(Machine::new(alloc, setup)?)
 }
 
 fn is_within(setup: &Setup) -> bool
@@ -240,6 +273,7 @@ fn are_few(count: usize) -> bool
 fn setup_of(alloc: Global, row: &Row) -> Result<Setup, Fail>
     ensures { IfOk result (λ setup. All HasBegun setup.spheres) }
 {
+    let input = Bytes::from_slice(alloc, row.input)?;
     let mut spheres = Sequence::new(alloc);
     for life in row.spheres {
         spheres.push(sphere_of(alloc, life)?)?;
@@ -252,7 +286,7 @@ fn setup_of(alloc: Global, row: &Row) -> Result<Setup, Fail>
         bits: 64,
         depth: row.depth,
         seed: 0,
-        input: Bytes::from_slice(alloc, row.input)?,
+        input,
         spheres,
     })
 }

@@ -10,6 +10,7 @@ use std::test::Fail;
 
 mod depths;
 mod instructions;
+mod intervals;
 mod narrow;
 mod pieces;
 mod queries;

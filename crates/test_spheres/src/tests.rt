@@ -6,4 +6,5 @@ mod modes;
 mod recording;
 mod replaying;
 mod spheres;
+mod trails;
 mod walks;

@@ -3,7 +3,7 @@ use Rattle.std.proofs.Common.{◌≡◌, ℕ, ◌+◌, ◌*◌, ◌/◌, ◌<◌
 use Rattle.std.specs.Prelude.{slice_index}
 use Rattle.std.proofs.lemmas.Bool.{cases_lt}
 use Rattle.std.proofs.lemmas.List.{get_or_past}
-use Rattle.spec_isa.specs.Words.{Stored, lay, lays, read, Lacks, Apart}
+use Rattle.spec_isa.specs.Words.{Stored, lay, lays, read, Lacks}
 use Rattle.spec_isa.specs.Masks.{or_byte}
 use Rattle.spec_strata.proofs.Local.Touching.{AllLack}
 use Rattle.spec_strata.specs.Footprints.{Agree, Unseen}

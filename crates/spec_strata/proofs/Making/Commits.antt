@@ -1,7 +1,7 @@
 -- Each thread counts its commits, so the size that a log gives for a commit is looked up by the commits of its thread before it.
-use Rattle.std.proofs.Common.{◌≡◌, ◌≢◌, ℕ, zero, suc, ◌+◌, inl, inr, Bool, true, false, cond, List, [], ◌∷◌, ◌++◌, length, Option, Some, None, refl, sym, ap, ◌∙◌, subst, arith}
+use Rattle.std.proofs.Common.{◌≡◌, ◌≢◌, ℕ, zero, suc, ◌+◌, ◌≤◌, inl, inr, Bool, true, false, cond, List, [], ◌∷◌, ◌++◌, length, Option, Some, None, refl, sym, ap, ◌∙◌, subst, arith}
 use Rattle.std.specs.Prelude.{slice_get, slice_set, nat_lt, nat_eq, ◌%◌, ◌&&◌, if◌then◌else◌}
-use Rattle.std.proofs.lemmas.Bool.{cases_eq, eq-eqb, ne_eqb}
+use Rattle.std.proofs.lemmas.Bool.{cases_eq, eq-eqb, ne_eqb, and_parts, ltb-true}
 use Rattle.dl_entry.specs.declared.Actor.{Actor}
 use Rattle.dl_entry.specs.declared.Commit.{Commit}
 use Rattle.dl_entry.specs.declared.Input.{Input}
@@ -39,52 +39,67 @@ abbrev pub AreFresh : List Parts → Type 0
 AreFresh [] = Unit {0}
 AreFresh (t ∷ ts) = (t.commits ≡ 0) × AreFresh ts
 
--- the thread keeps its number, and new threads begin at 0
-record CallKept (t : Parts) (c : Called) : Type 0 where
+-- with the new threads there are no more than there may be, if there were no more before
+abbrev pub StayFew : (most : ℕ) → List Parts → (new : List Parts) → Type 0
+StayFew most ts new = length ts ≤ most → length ts + length new ≤ most
+
+-- the thread keeps its number, and new threads begin at 0 and are not too many
+record CallKept (most : ℕ) (ts : List Parts) (t : Parts) (c : Called) : Type 0 where
   same : c.thread.commits ≡ t.commits
   fresh : AreFresh c.spawned
+  few : StayFew most ts c.spawned
 
-record StepKept (t : Parts) (v : StepResult) : Type 0 where
+record StepKept (most : ℕ) (ts : List Parts) (t : Parts) (v : StepResult) : Type 0 where
   same : v.thread.commits ≡ t.commits
   fresh : AreFresh v.spawned
+  few : StayFew most ts v.spawned
 
 either : {A : Type 0} (P : A → Type 0) (b : Bool) (x y : A) → P x → P y → P (if b then x else y)
 either P true x y p q = p
 either P false x y p q = q
 
--- an answer changes nothing else
-answered : (request : Option Request) (t : Parts) (answer : ℕ) → CallKept t (gives request t answer)
-answered request t answer = record { same = refl; fresh = tt }
+either-if : {A : Type 0} (P : A → Type 0) (b : Bool) (x y : A) → (b ≡ true → P x) → P y → P (if b then x else y)
+either-if P true x y p q = p refl
+either-if P false x y p q = q
 
-dma-kept : (size : ℕ) (request : Option Request) (t : Parts) → CallKept t (request_dma size request t)
-dma-kept size None t =
-    either (CallKept t) (is_dma_buffer size (a0 t) (cut (a1 t))) (gives (Some (record { buf = a0 t; len = cut (a1 t) })) t 0) (gives None t bad_buffer)
-    (answered (Some (record { buf = a0 t; len = cut (a1 t) })) t 0) (answered None t bad_buffer)
-dma-kept size (Some request) t = answered (Some request) t (if is_dma_buffer size (a0 t) (cut (a1 t)) then refused else bad_buffer)
+-- an answer changes nothing else
+answered : (most : ℕ) (ts : List Parts) (request : Option Request) (t : Parts) (answer : ℕ) → CallKept most ts t (gives request t answer)
+answered most ts request t answer = record { same = refl; fresh = tt; few = λ l. omega (arith, l) }
+
+dma-kept : (most : ℕ) (ts : List Parts) (size : ℕ) (request : Option Request) (t : Parts) → CallKept most ts t (request_dma size request t)
+dma-kept most ts size None t =
+    either (CallKept most ts t) (is_dma_buffer size (a0 t) (cut (a1 t))) (gives (Some (record { buf = a0 t; len = cut (a1 t) })) t 0) (gives None t bad_buffer)
+    (answered most ts (Some (record { buf = a0 t; len = cut (a1 t) })) t 0) (answered most ts None t bad_buffer)
+dma-kept most ts size (Some request) t = answered most ts (Some request) t (if is_dma_buffer size (a0 t) (cut (a1 t)) then refused else bad_buffer)
 
 fresh-one : (t : Parts) → t.commits ≡ 0 → AreFresh (t ∷ [])
 fresh-one t e = (e, tt)
 
-spawn-kept : (most : ℕ) (ts : List Parts) (request : Option Request) (t : Parts) → CallKept t (spawn most ts request t)
+spawn-kept : (most : ℕ) (ts : List Parts) (request : Option Request) (t : Parts) → CallKept most ts t (spawn most ts request t)
 spawn-kept most ts request t =
     let new : Called = record { thread = with_result (length ts) t; spawned = spawned (a0 t) (a1 t) (a2 t) ∷ []; request = request } in
-    either (CallKept t) (nat_lt (length ts) most && nat_eq (a0 t % 4) 0) new (gives request t refused)
-    (record { same = refl; fresh = fresh-one (spawned (a0 t) (a1 t) (a2 t)) refl }) (answered request t refused)
+    either-if (CallKept most ts t) (nat_lt (length ts) most && nat_eq (a0 t % 4) 0) new (gives request t refused)
+    (λ e. record {
+      same = refl;
+      fresh = fresh-one (spawned (a0 t) (a1 t) (a2 t)) refl;
+      few = λ l. let room = ltb-true (length ts) most (and_parts (nat_lt (length ts) most) (nat_eq (a0 t % 4) 0) e).0 in omega (arith, room);
+    })
+    (answered most ts request t refused)
 
-handler-kept : (request : Option Request) (t : Parts) → CallKept t (set_handler request t)
-handler-kept request t =
+handler-kept : (most : ℕ) (ts : List Parts) (request : Option Request) (t : Parts) → CallKept most ts t (set_handler request t)
+handler-kept most ts request t =
     let new : Called = record { thread = with_result 0 (record t { handler = a0 t }); spawned = []; request = request } in
-    either (CallKept t) (nat_eq (a0 t % 4) 0) new (gives request t refused) (record { same = refl; fresh = tt }) (answered request t refused)
+    either (CallKept most ts t) (nat_eq (a0 t % 4) 0) new (gives request t refused) (record { same = refl; fresh = tt; few = λ l. omega (arith, l) }) (answered most ts request t refused)
 
-iret-kept : (request : Option Request) (t : Parts) → CallKept t (iret request t)
-iret-kept request t =
+iret-kept : (most : ℕ) (ts : List Parts) (request : Option Request) (t : Parts) → CallKept most ts t (iret request t)
+iret-kept most ts request t =
     let new : Called = record { thread = returned t; spawned = []; request = request } in
-    either (CallKept t) t.mask new (gives request t refused) (record { same = refl; fresh = tt }) (answered request t refused)
+    either (CallKept most ts t) t.mask new (gives request t refused) (record { same = refl; fresh = tt; few = λ l. omega (arith, l) }) (answered most ts request t refused)
 
-called-kept : (most size number : ℕ) (ts : List Parts) (request : Option Request) (t : Parts) → CallKept t (called most size number ts request t)
+called-kept : (most size number : ℕ) (ts : List Parts) (request : Option Request) (t : Parts) → CallKept most ts t (called most size number ts request t)
 unfolding called
 called-kept most size number ts request t =
-    let P : Called → Type 0 = CallKept t in
+    let P : Called → Type 0 = CallKept most ts t in
     let is : ℕ → Bool = (λ n. nat_eq (number_of t) n) in
     let ended : Called = gives request t (has_ended (slice_get ts (a0 t))) in
     let c8 : Called = if is call_ended then ended else gives request t unknown_call in
@@ -94,95 +109,96 @@ called-kept most size number ts request t =
     let c4 : Called = if is call_iret then iret request t else c5 in
     let c3 : Called = if is call_handler then set_handler request t else c4 in
     let c2 : Called = if is call_spawn then spawn most ts request t else c3 in
-    let k8 : CallKept t c8 = either P (is call_ended) ended (gives request t unknown_call) (answered request t (has_ended (slice_get ts (a0 t)))) (answered request t unknown_call) in
-    let k7 : CallKept t c7 = either P (is call_yield) (gives request t 0) c8 (answered request t 0) k8 in
-    let k6 : CallKept t c6 = either P (is call_self) (gives request t number) c7 (answered request t number) k7 in
-    let k5 : CallKept t c5 = either P (is call_dma) (request_dma size request t) c6 (dma-kept size request t) k6 in
-    let k4 : CallKept t c4 = either P (is call_iret) (iret request t) c5 (iret-kept request t) k5 in
-    let k3 : CallKept t c3 = either P (is call_handler) (set_handler request t) c4 (handler-kept request t) k4 in
-    let k2 : CallKept t c2 = either P (is call_spawn) (spawn most ts request t) c3 (spawn-kept most ts request t) k3 in
-    either P (is call_exit) (exit request t) c2 (record { same = refl; fresh = tt }) k2
+    let k8 : CallKept most ts t c8 = either P (is call_ended) ended (gives request t unknown_call) (answered most ts request t (has_ended (slice_get ts (a0 t)))) (answered most ts request t unknown_call) in
+    let k7 : CallKept most ts t c7 = either P (is call_yield) (gives request t 0) c8 (answered most ts request t 0) k8 in
+    let k6 : CallKept most ts t c6 = either P (is call_self) (gives request t number) c7 (answered most ts request t number) k7 in
+    let k5 : CallKept most ts t c5 = either P (is call_dma) (request_dma size request t) c6 (dma-kept most ts size request t) k6 in
+    let k4 : CallKept most ts t c4 = either P (is call_iret) (iret request t) c5 (iret-kept most ts request t) k5 in
+    let k3 : CallKept most ts t c3 = either P (is call_handler) (set_handler request t) c4 (handler-kept most ts request t) k4 in
+    let k2 : CallKept most ts t c2 = either P (is call_spawn) (spawn most ts request t) c3 (spawn-kept most ts request t) k3 in
+    either P (is call_exit) (exit request t) c2 (record { same = refl; fresh = tt; few = λ l. omega (arith, l) }) k2
 
-outside-kept : (n : Option Need) (request : Option Request) (t : Parts) (input : Option Input) → StepKept t (outside_called n request t input)
-outside-kept n request t None = record { same = refl; fresh = tt }
-outside-kept n request t (Some r) = record { same = refl; fresh = tt }
+outside-kept : (most : ℕ) (ts : List Parts) (n : Option Need) (request : Option Request) (t : Parts) (input : Option Input) → StepKept most ts t (outside_called n request t input)
+outside-kept most ts n request t None = record { same = refl; fresh = tt; few = λ l. omega (arith, l) }
+outside-kept most ts n request t (Some r) = record { same = refl; fresh = tt; few = λ l. omega (arith, l) }
 
-loaded-kept : (request : Option Request) (t : Parts) (p : Operation) (input : Option Input) → StepKept t (device_loaded request t p input)
-loaded-kept request t (Operation.Go rd value pc) input = record { same = refl; fresh = tt }
-loaded-kept request t (Operation.Stop kind) input = record { same = refl; fresh = tt }
-loaded-kept request t (Operation.Load op rd a) None = record { same = refl; fresh = tt }
-loaded-kept request t (Operation.Load op rd a) (Some r) = record { same = refl; fresh = tt }
-loaded-kept request t (Operation.Store op a v) input = record { same = refl; fresh = tt }
-loaded-kept request t (Operation.LoadReserved rd a) input = record { same = refl; fresh = tt }
-loaded-kept request t (Operation.StoreConditional rd a v) input = record { same = refl; fresh = tt }
-loaded-kept request t (Operation.Amo op rd a v) input = record { same = refl; fresh = tt }
+loaded-kept : (most : ℕ) (ts : List Parts) (request : Option Request) (t : Parts) (p : Operation) (input : Option Input) → StepKept most ts t (device_loaded request t p input)
+loaded-kept most ts request t (Operation.Go rd value pc) input = record { same = refl; fresh = tt; few = λ l. omega (arith, l) }
+loaded-kept most ts request t (Operation.Stop kind) input = record { same = refl; fresh = tt; few = λ l. omega (arith, l) }
+loaded-kept most ts request t (Operation.Load op rd a) None = record { same = refl; fresh = tt; few = λ l. omega (arith, l) }
+loaded-kept most ts request t (Operation.Load op rd a) (Some r) = record { same = refl; fresh = tt; few = λ l. omega (arith, l) }
+loaded-kept most ts request t (Operation.Store op a v) input = record { same = refl; fresh = tt; few = λ l. omega (arith, l) }
+loaded-kept most ts request t (Operation.LoadReserved rd a) input = record { same = refl; fresh = tt; few = λ l. omega (arith, l) }
+loaded-kept most ts request t (Operation.StoreConditional rd a v) input = record { same = refl; fresh = tt; few = λ l. omega (arith, l) }
+loaded-kept most ts request t (Operation.Amo op rd a v) input = record { same = refl; fresh = tt; few = λ l. omega (arith, l) }
 
-stored-kept : (request : Option Request) (t : Parts) (p : Operation) → StepKept t (device_stored request t p)
-stored-kept request t (Operation.Go rd value pc) = record { same = refl; fresh = tt }
-stored-kept request t (Operation.Stop kind) = record { same = refl; fresh = tt }
-stored-kept request t (Operation.Load op rd a) = record { same = refl; fresh = tt }
-stored-kept request t (Operation.Store op a v) = record { same = refl; fresh = tt }
-stored-kept request t (Operation.LoadReserved rd a) = record { same = refl; fresh = tt }
-stored-kept request t (Operation.StoreConditional rd a v) = record { same = refl; fresh = tt }
-stored-kept request t (Operation.Amo op rd a v) = record { same = refl; fresh = tt }
+stored-kept : (most : ℕ) (ts : List Parts) (request : Option Request) (t : Parts) (p : Operation) → StepKept most ts t (device_stored request t p)
+stored-kept most ts request t (Operation.Go rd value pc) = record { same = refl; fresh = tt; few = λ l. omega (arith, l) }
+stored-kept most ts request t (Operation.Stop kind) = record { same = refl; fresh = tt; few = λ l. omega (arith, l) }
+stored-kept most ts request t (Operation.Load op rd a) = record { same = refl; fresh = tt; few = λ l. omega (arith, l) }
+stored-kept most ts request t (Operation.Store op a v) = record { same = refl; fresh = tt; few = λ l. omega (arith, l) }
+stored-kept most ts request t (Operation.LoadReserved rd a) = record { same = refl; fresh = tt; few = λ l. omega (arith, l) }
+stored-kept most ts request t (Operation.StoreConditional rd a v) = record { same = refl; fresh = tt; few = λ l. omega (arith, l) }
+stored-kept most ts request t (Operation.Amo op rd a v) = record { same = refl; fresh = tt; few = λ l. omega (arith, l) }
 
-kind-kept : (most : ℕ) (o : Option Kind) (number : ℕ) (ts : List Parts) (request : Option Request) (t : Parts) (m : List ℕ) (input : Option Input) → StepKept t (serve_kind most o number ts request t m input)
-kind-kept most None number ts request t m input = record { same = refl; fresh = tt }
+kind-kept : (most : ℕ) (o : Option Kind) (number : ℕ) (ts : List Parts) (request : Option Request) (t : Parts) (m : List ℕ) (input : Option Input) → StepKept most ts t (serve_kind most o number ts request t m input)
+kind-kept most None number ts request t m input = record { same = refl; fresh = tt; few = λ l. omega (arith, l) }
 kind-kept most (Some Kind.Call) number ts request t m input =
     let c = called-kept most (length m) number ts request t in
-    either (StepKept t) (is_outside t) (outside_called (need t m) request t input) (inside_called (called most (length m) number ts request t)) (outside-kept (need t m) request t input) (record { same = c.same; fresh = c.fresh })
-kind-kept most (Some Kind.Break) number ts request t m input = record { same = refl; fresh = tt }
-kind-kept most (Some Kind.DeviceLoad) number ts request t m input = loaded-kept request t (next_operation t m) input
-kind-kept most (Some Kind.DeviceStore) number ts request t m input = stored-kept request t (next_operation t m)
-kind-kept most (Some (Kind.Fault cause)) number ts request t m input = record { same = refl; fresh = tt }
+    either (StepKept most ts t) (is_outside t) (outside_called (need t m) request t input) (inside_called (called most (length m) number ts request t)) (outside-kept most ts (need t m) request t input) (record { same = c.same; fresh = c.fresh; few = c.few })
+kind-kept most (Some Kind.Break) number ts request t m input = record { same = refl; fresh = tt; few = λ l. omega (arith, l) }
+kind-kept most (Some Kind.DeviceLoad) number ts request t m input = loaded-kept most ts request t (next_operation t m) input
+kind-kept most (Some Kind.DeviceStore) number ts request t m input = stored-kept most ts request t (next_operation t m)
+kind-kept most (Some (Kind.Fault cause)) number ts request t m input = record { same = refl; fresh = tt; few = λ l. omega (arith, l) }
 
-serve-kept : (most number : ℕ) (ts : List Parts) (request : Option Request) (t : Parts) (m : List ℕ) (input : Option Input) → StepKept t (serve most number ts request t m input)
+serve-kept : (most number : ℕ) (ts : List Parts) (request : Option Request) (t : Parts) (m : List ℕ) (input : Option Input) → StepKept most ts t (serve most number ts request t m input)
 unfolding serve
 serve-kept most number ts request t m input = kind-kept most (next_kind t m) number ts request t m input
 
 -- ---- what a commit leaves of it
 
-abbrev IsOneMore : Parts → LogVerdict → Type 0
-IsOneMore t (Goes e u) = (e.thread.commits ≡ suc t.commits) × AreFresh e.spawned
-IsOneMore t (Fails why) = Unit {0}
+abbrev pub IsOneMore : (most : ℕ) → List Parts → Parts → LogVerdict → Type 0
+IsOneMore most ts t (Goes e u) = (e.thread.commits ≡ suc t.commits) × AreFresh e.spawned × StayFew most ts e.spawned
+IsOneMore most ts t (Fails why) = Unit {0}
 
-unless-more : (t : Parts) (o : Option Why) (v : LogVerdict) → IsOneMore t v → IsOneMore t (unless o v)
-unless-more t None v h = h
-unless-more t (Some why) v h = tt
+unless-more : (most : ℕ) (ts : List Parts) (t : Parts) (o : Option Why) (v : LogVerdict) → IsOneMore most ts t v → IsOneMore most ts t (unless o v)
+unless-more most ts t None v h = h
+unless-more most ts t (Some why) v h = tt
 
-taken-more : (t : Parts) (value : ℕ) (e : Effect) (u : Used) (b : Bool) → IsOneMore t (Goes e u) → IsOneMore t (cond b (Goes (record e { thread = interrupted value e.thread }) (with_interrupt u)) (Fails Why.Interrupt))
-taken-more t value e u true h = h
-taken-more t value e u false h = tt
+taken-more : (most : ℕ) (ts : List Parts) (t : Parts) (value : ℕ) (e : Effect) (u : Used) (b : Bool) → IsOneMore most ts t (Goes e u)
+    → IsOneMore most ts t (cond b (Goes (record e { thread = interrupted value e.thread }) (with_interrupt u)) (Fails Why.Interrupt))
+taken-more most ts t value e u true h = h
+taken-more most ts t value e u false h = tt
 
-interrupted-more : (t : Parts) (o : Option ℕ) (e : Effect) (u : Used) → IsOneMore t (Goes e u) → IsOneMore t (with_interrupted o e u)
-interrupted-more t None e u h = h
-interrupted-more t (Some value) e u h = taken-more t value e u (takes_interrupt e.thread) h
+interrupted-more : (most : ℕ) (ts : List Parts) (t : Parts) (o : Option ℕ) (e : Effect) (u : Used) → IsOneMore most ts t (Goes e u) → IsOneMore most ts t (with_interrupted o e u)
+interrupted-more most ts t None e u h = h
+interrupted-more most ts t (Some value) e u h = taken-more most ts t value e u (takes_interrupt e.thread) h
 
-chunk-more : (log : LogParts) (p : Progress) (u : Used) (k : ℕ) (t : Parts) (r : Run) → r.thread.commits ≡ t.commits → IsOneMore t (chunk_verdict log p u k r)
+chunk-more : (log : LogParts) (p : Progress) (u : Used) (k : ℕ) (ts : List Parts) (t : Parts) (r : Run) → r.thread.commits ≡ t.commits → IsOneMore log.threads ts t (chunk_verdict log p u k r)
 unfolding chunk_verdict
-chunk-more log p u k t r e =
+chunk-more log p u k ts t r e =
     let f : Effect = chunk_effect k p.request r in
-    unless-more t (chunk_why (size_in log (Actor.Thread k) r.thread.commits) r.n) (ended log k f u)
-    (interrupted-more t (interrupt_at log.interrupts k f.thread.commits) f u (omega (arith, e), tt))
+    unless-more log.threads ts t (chunk_why (size_in log (Actor.Thread k) r.thread.commits) r.n) (ended log k f u)
+    (interrupted-more log.threads ts t (interrupt_at log.interrupts k f.thread.commits) f u (omega (arith, e), tt, λ l. omega (arith, l)))
 
-served-more : (log : LogParts) (p : Progress) (k : ℕ) (ts : List Parts) (t : Parts) (m : List ℕ) (o : Option TakenRecord) → IsOneMore t (served_verdict log p k ts t m o)
+served-more : (log : LogParts) (p : Progress) (k : ℕ) (ts : List Parts) (t : Parts) (m : List ℕ) (o : Option TakenRecord) → IsOneMore log.threads ts t (served_verdict log p k ts t m o)
 served-more log p k ts t m None = tt
 served-more log p k ts t m (Some g) =
     let s = serve-kept log.threads k ts p.request t m g.input in
     let same = s.same in
     let f : Effect = serial_effect k (serve log.threads k ts p.request t m g.input) in
-    interrupted-more t (interrupt_at log.interrupts k f.thread.commits) f g.used (omega (arith, same), s.fresh)
+    interrupted-more log.threads ts t (interrupt_at log.interrupts k f.thread.commits) f g.used (omega (arith, same), s.fresh, s.few)
 
-serial-more : (log : LogParts) (p : Progress) (u : Used) (k : ℕ) (ts : List Parts) (t : Parts) (m : List ℕ) → IsOneMore t (serial_verdict log p u k ts t m)
+serial-more : (log : LogParts) (p : Progress) (u : Used) (k : ℕ) (ts : List Parts) (t : Parts) (m : List ℕ) → IsOneMore log.threads ts t (serial_verdict log p u k ts t m)
 unfolding serial_verdict
 serial-more log p u k ts t m =
-    unless-more t (serial_why (size_in log (Actor.Thread k) t.commits)) (served_verdict log p k ts t m (given (need t m) (slice_get log.inputs u.inputs) u))
+    unless-more log.threads ts t (serial_why (size_in log (Actor.Thread k) t.commits)) (served_verdict log p k ts t m (given (need t m) (slice_get log.inputs u.inputs) u))
     (served-more log p k ts t m (given (need t m) (slice_get log.inputs u.inputs) u))
 
-verdict-more : (log : LogParts) (y : Played) (k : ℕ) (t : Parts) (o : Option Kind) → IsOneMore t (thread_verdict log y k t o)
+pub verdict-more : (log : LogParts) (y : Played) (k : ℕ) (t : Parts) (o : Option Kind) → IsOneMore log.threads y.threads t (thread_verdict log y k t o)
 verdict-more log y k t None =
     let n : ℕ = size_or_standard log k t.commits in
-    chunk-more log y.progress y.used k t (run y.memory t n) (run-commits y.memory t n)
+    chunk-more log y.progress y.used k y.threads t (run y.memory t n) (run-commits y.memory t n)
 verdict-more log y k t (Some kind) = serial-more log y.progress y.used k y.threads t y.memory
 
 -- ---- the numbers of all threads
@@ -244,7 +260,7 @@ thread-counted : (log : LogParts) (y : Played) (j k : ℕ) (c : Commit) → y.no
 thread-counted log y j k c turn d =
     let z : Played = settled log y j (Goes d.effect d.used) in
     let one : play_one log y ≡ z = one-by log y (Turn j) turn ∙ ap (play_thread log y j) d.there ∙ ap (settled log y j) d.goes in
-    let more : IsOneMore d.thread (Goes d.effect d.used) = subst (IsOneMore d.thread) d.goes (verdict-more log y j d.thread (next_kind d.thread y.memory)) in
+    let more : IsOneMore log.threads y.threads d.thread (Goes d.effect d.used) = subst (IsOneMore log.threads y.threads d.thread) d.goes (verdict-more log y j d.thread (next_kind d.thread y.memory)) in
     let new : (i : ℕ) → commits_at (play_one log y).threads i ≡ commits_at (slice_set y.threads j d.effect.thread) i =
     (λ i. ap (λ (x : Played). commits_at x.threads i) one ∙ at-with (slice_set y.threads j d.effect.thread) d.effect.spawned i more.1) in
     let actor : is_thread k c.actor ≡ is_thread k (Actor.Thread j) = ap (is_thread k) d.actor in

@@ -65,6 +65,9 @@ live-push : (y : Played) (ks : List ℕ) (k : ℕ) → AreLive y ks → ((t : Pa
 live-push y [] k live l = (l, tt)
 live-push y (j ∷ ks) k live l = (live.0, live-push y ks k live.1 l)
 
+some-push : (ks : List ℕ) (k : ℕ) → 0 < length (ks ++ k ∷ [])
+some-push ks k = let n = length-append ks (k ∷ []) in omega (arith, n)
+
 abbrev pub AllBelow : (counted : ℕ) → List ℕ → Type 0
 AllBelow counted [] = Unit {0}
 AllBelow counted (k ∷ ks) = (k < counted) × AllBelow counted ks
@@ -75,12 +78,12 @@ below-push counted (j ∷ ks) k all l = (all.0, below-push counted ks k all.1 l)
 
 -- ---- threads never get fewer
 
-length-set : {A : Type 0} (xs : List A) (k : ℕ) (x : A) → length (set xs k x) ≡ length xs
+pub length-set : {A : Type 0} (xs : List A) (k : ℕ) (x : A) → length (set xs k x) ≡ length xs
 length-set [] k x = refl
 length-set (y ∷ ys) zero x = refl
 length-set (y ∷ ys) (suc k) x = ap suc (length-set ys k x)
 
-get-below : {A : Type 0} (xs : List A) (k : ℕ) (x : A) → slice_get xs k ≡ Some x → k < length xs
+pub get-below : {A : Type 0} (xs : List A) (k : ℕ) (x : A) → slice_get xs k ≡ Some x → k < length xs
 get-below [] k x e = absurd (none-some x e)
 get-below (y ∷ ys) zero x e = omega arith
 get-below (y ∷ ys) (suc k) x e = let h = get-below ys k x e in omega (arith, h)
@@ -116,13 +119,14 @@ plays-threads log y (suc n) =
 
 -- ---- what the log's play goes through
 
--- a stratum in the log's order and in canonical order
+-- a stratum in the log's order and in canonical order; it is not empty
 pub record CutRight (counted : ℕ) (log : LogParts) (y : Played) (ks js : List ℕ) : Type 0 where
   pub stratum : IsStratum log y ks
   pub canonical : js ≡ rising 0 (map (counts_of ks) (range_with_len 0 counted))
   pub below : AllBelow counted ks
   pub live : AreLive y ks
   pub few : (k : ℕ) → counts_of ks k ≤ most_chunks
+  pub some : 0 < length ks
 
 -- what a commit by itself is: a serial step of a live thread, or a DMA
 abbrev pub IsAlone : Played → TurnOrEnd → Type 0
@@ -130,9 +134,16 @@ IsAlone y (Turn k) = (t : Parts) × ((slice_get y.threads k ≡ Some t) × (is_l
 IsAlone y TurnOfDma = Unit {0}
 IsAlone y (Ended how) = ⊥
 
+-- a thread that is counted
+abbrev pub IsCounted : (counted : ℕ) → TurnOrEnd → Type 0
+IsCounted counted (Turn k) = k < counted
+IsCounted counted TurnOfDma = Unit {0}
+IsCounted counted (Ended how) = Unit {0}
+
 pub record AloneRight (counted : ℕ) (log : LogParts) (y : Played) (now : TurnOrEnd) : Type 0 where
   pub goes : GoesNow log y now
   pub is : IsAlone y now
+  pub below : IsCounted counted now
 
 abbrev pub GoesBy : (counted : ℕ) → LogParts → Played → List Block → Type 0
 GoesBy counted log y [] = Over log y
@@ -167,7 +178,7 @@ pub record Open (counted : ℕ) (log : LogParts) (y0 y : Played) (p : Present) :
 
 abbrev pub At : (counted : ℕ) → LogParts → (y0 y : Played) → Option Present → Type 0
 At counted log y0 y None = y0 ≡ y
-At counted log y0 y (Some p) = Open counted log y0 y p
+At counted log y0 y (Some p) = Open counted log y0 y p × (0 < length p.threads)
 
 abbrev pub cuts : List Stratum → Option Present → Cuts
 cuts strata o = record { strata = strata; present = o }
@@ -177,13 +188,14 @@ closed : (counted : ℕ) (log : LogParts) (y0 y end : Played) (before strata : L
     → CutInto counted log y end (cut_off counted (cuts before o)) strata → CutInto counted log y0 end before strata
 closed counted log y0 y end before strata None at_ c = subst (λ (z : Played). CutInto counted log z end before strata) (sym at_) c
 closed counted log y0 y end before strata (Some p) at_ c =
+    let o : Open counted log y0 y p = at_.0 in
     let js : List ℕ = rising 0 (map (counts_of p.threads) (range_with_len 0 counted)) in
     record {
       blocks = Chunks p.threads js ∷ c.blocks;
-      last = ap (λ (z : Played). in_canonical_order log z c.blocks) (sym at_.come) ∙ c.last;
+      last = ap (λ (z : Played). in_canonical_order log z c.blocks) (sym o.come) ∙ c.last;
       go = (
-        record { stratum = at_.stratum; canonical = refl; below = at_.below; live = at_.live; few = at_.few },
-        subst (λ (z : Played). GoesBy counted log z c.blocks) at_.come c.go,
+        record { stratum = o.stratum; canonical = refl; below = o.below; live = o.live; few = o.few; some = at_.1 },
+        subst (λ (z : Played). GoesBy counted log z c.blocks) o.come c.go,
       );
       are = c.are ∙ append_assoc before (stratum_of counted p ∷ []) (map (stratum_for counted) c.blocks);
     }
@@ -266,17 +278,18 @@ begins : (counted : ℕ) (log : LogParts) (y0 y end : Played) (k : ℕ) (cs : Li
     → CutInto counted log y0 end before (cut_off counted (cut_on counted log (play_one log y) cs (chunk_begins counted log y k (cuts before o))))
 begins counted log y0 y end k cs before o at_ next one open_ =
     closed counted log y0 y end before _ o at_
-    (next y (cut_off counted (cuts before o)) (Some (with_chunk log (no_chunks y) k)) (subst (λ (z : Played). Open counted log y z (with_chunk log (no_chunks y) k)) (sym one) open_))
+    (next y (cut_off counted (cuts before o)) (Some (with_chunk log (no_chunks y) k))
+    (subst (λ (z : Played). Open counted log y z (with_chunk log (no_chunks y) k)) (sym one) open_, some-push [] k))
 
 -- a chunk that comes to these, or begins a stratum
-joins-or : (counted : ℕ) (log : LogParts) (y0 y end : Played) (k : ℕ) (cs : List Commit) (before : List Stratum) (p : Present) → Open counted log y0 y p → Cutting counted log (play_one log y) end cs
+joins-or : (counted : ℕ) (log : LogParts) (y0 y end : Played) (k : ℕ) (cs : List Commit) (before : List Stratum) (p : Present) → Open counted log y0 y p → 0 < length p.threads → Cutting counted log (play_one log y) end cs
     → play_one log y ≡ play_now log y (Turn k) → ChunkGoes log y k → ((t : Parts) → slice_get y.threads k ≡ Some t → is_live t ≡ true) → k < counted
     → (b : Bool) → is_apart log p k ≡ b
     → CutInto counted log y0 end before (cut_off counted (cut_on counted log (play_one log y) cs
     (cond b (chunk_begins counted log y k (cuts before (Some p))) (cuts before (Some (with_chunk log p k))))))
-joins-or counted log y0 y end k cs before p at_ next one c live l true is =
-    begins counted log y0 y end k cs before (Some p) at_ next one (begun counted log y k c live l)
-joins-or counted log y0 y end k cs before p at_ next one c live l false is =
+joins-or counted log y0 y end k cs before p at_ some next one c live l true is =
+    begins counted log y0 y end k cs before (Some p) (at_, some) next one (begun counted log y k c live l)
+joins-or counted log y0 y end k cs before p at_ some next one c live l false is =
     let n = or_neither (nat_eq (counts_of p.threads k) most_chunks) (clashes_next (rule_of log) p.state k) is in
     let other = eqb-false (counts_of p.threads k) most_chunks n.0 in
     let f = at_.few k in
@@ -284,11 +297,13 @@ joins-or counted log y0 y end k cs before p at_ next one c live l false is =
       | inl h ↦ h
       | inr h ↦ absurd (other (omega (arith, f, h)))
     ] in
-    next y0 before (Some (with_chunk log p k))
-    (subst (λ (z : Played). Open counted log y0 z (with_chunk log p k)) (sym one)
-    (joined counted log y0 y p k at_ c live l
-    (λ o there. (clear_is_tested (rule_of log k) p.state k o).0 (next-clear (rule_of log) p.state k (slice_get p.state.shares k) refl n.1 o there))
-    few))
+    next y0 before (Some (with_chunk log p k)) (
+      (subst (λ (z : Played). Open counted log y0 z (with_chunk log p k)) (sym one)
+          (joined counted log y0 y p k at_ c live l
+          (λ o there. (clear_is_tested (rule_of log k) p.state k o).0 (next-clear (rule_of log) p.state k (slice_get p.state.shares k) refl n.1 o there))
+          few)),
+      some-push p.threads k,
+    )
 
 chunk-cut-into : (counted : ℕ) (log : LogParts) (y0 y end : Played) (k : ℕ) (cs : List Commit) (before : List Stratum) (o : Option Present) → At counted log y0 y o → Cutting counted log (play_one log y) end cs
     → play_one log y ≡ play_now log y (Turn k) → ChunkGoes log y k → ((t : Parts) → slice_get y.threads k ≡ Some t → is_live t ≡ true) → k < counted
@@ -296,7 +311,7 @@ chunk-cut-into : (counted : ℕ) (log : LogParts) (y0 y end : Played) (k : ℕ) 
 chunk-cut-into counted log y0 y end k cs before None at_ next one c live l =
     begins counted log y0 y end k cs before None at_ next one (begun counted log y k c live l)
 chunk-cut-into counted log y0 y end k cs before (Some p) at_ next one c live l =
-    joins-or counted log y0 y end k cs before p at_ next one c live l (is_apart log p k) refl
+    joins-or counted log y0 y end k cs before p at_.0 at_.1 next one c live l (is_apart log p k) refl
 
 -- a commit by itself
 alone-cut-into : (counted : ℕ) (log : LogParts) (y0 y end : Played) (now : TurnOrEnd) (cs : List Commit) (before : List Stratum) (o : Option Present) → At counted log y0 y o → Cutting counted log (play_one log y) end cs
@@ -330,6 +345,7 @@ thread-cut-into counted log y0 y end k c d (Some serial) is cs before o at_ next
     (record {
       goes = record { thread = d.thread; there = d.there; effect = d.effect; used = d.used; goes = d.goes };
       is = (d.thread, (d.there, d.live, (serial, is)));
+      below = l;
     })
 
 commit-cut-into : (counted : ℕ) (log : LogParts) (y0 y end : Played) (now : TurnOrEnd) (c : Commit) (cs : List Commit) (before : List Stratum) (o : Option Present) → y.now ≡ now → Does log y now c
@@ -338,7 +354,7 @@ commit-cut-into : (counted : ℕ) (log : LogParts) (y0 y end : Played) (now : Tu
 commit-cut-into counted log y0 y end (Ended how) c cs before o is does at_ next one most = absurd does
 commit-cut-into counted log y0 y end TurnOfDma c cs before o is does at_ next one most =
     subst (λ (a : Actor). CutInto counted log y0 end before (cut_off counted (cut_on counted log (play_one log y) cs (actor_cut counted log y a c.kind (cuts before o))))) (sym (ap actor_in does.commit))
-    (alone-cut-into counted log y0 y end TurnOfDma cs before o at_ next one (record { goes = (does.words, does.goes); is = tt }))
+    (alone-cut-into counted log y0 y end TurnOfDma cs before o at_ next one (record { goes = (does.words, does.goes); is = tt; below = tt }))
 commit-cut-into counted log y0 y end (Turn k) c cs before o is does at_ next one most =
     let below = get-below y.threads k does.thread does.there in
     subst (λ (a : Actor). CutInto counted log y0 end before (cut_off counted (cut_on counted log (play_one log y) cs (actor_cut counted log y a c.kind (cuts before o))))) (sym does.actor)

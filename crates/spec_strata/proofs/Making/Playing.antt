@@ -170,7 +170,7 @@ length-often : (n : ℕ) (kind : CommitKind) → length (replicate n kind) ≡ n
 length-often zero kind = refl
 length-often (suc n) kind = ap suc (length-often n kind)
 
-length-kinds : (x : Stratum) → length (kinds_of x) ≡ commits_in x
+pub length-kinds : (x : Stratum) → length (kinds_of x) ≡ commits_in x
 length-kinds (StratumChunks counts) = length-often (commits_in (StratumChunks counts)) CommitKind.Chunk
 length-kinds (Serial k) = refl
 length-kinds Dma = refl

@@ -43,10 +43,10 @@ use Rattle.spec_strata.proofs.Making.Ending.{over-left, GoAlike, made-alike}
 -- ---- what the log says of a commit that went
 
 -- a thread's commit i: its size is as logged
-record SizeIs (log : LogParts) (k i : ℕ) (c : Commit) : Type 0 where
-  kind : (c.kind ≡ CommitKind.Chunk) ⊎ (c.kind ≡ CommitKind.Serial)
-  chunk : c.kind ≡ CommitKind.Chunk → (chunk_why (size_in log (Actor.Thread k) i) c.size ≡ None) × (c.size ≤ size_or_standard log k i)
-  serial : c.kind ≡ CommitKind.Serial → serial_why (size_in log (Actor.Thread k) i) ≡ None
+pub record SizeIs (log : LogParts) (k i : ℕ) (c : Commit) : Type 0 where
+  pub kind : (c.kind ≡ CommitKind.Chunk) ⊎ (c.kind ≡ CommitKind.Serial)
+  pub chunk : c.kind ≡ CommitKind.Chunk → (chunk_why (size_in log (Actor.Thread k) i) c.size ≡ None) × (c.size ≤ size_or_standard log k i)
+  pub serial : c.kind ≡ CommitKind.Serial → serial_why (size_in log (Actor.Thread k) i) ≡ None
 
 followed-most : (r : Run) (o : InstructionOutcome) (n : ℕ) → r.n ≤ n → (followed r o).n ≤ suc n
 followed-most r (Serial kind) n l = omega (arith, l)
@@ -131,7 +131,7 @@ size-next log y k d cs c step rest false mine i is =
     subst (λ (j : ℕ). SizeIs log k j c) e (rest i (ap (λ (xs : List Commit). slice_get xs i) (sym (own-isnt k d cs mine)) ∙ is))
 
 -- each of a thread's commits
-sizes-are : (log : LogParts) (y : Played) (k i : ℕ) (cs : List Commit) (c : Commit) → Follows log y cs → slice_get (own k cs) i ≡ Some c → SizeIs log k (commits_at y.threads k + i) c
+pub sizes-are : (log : LogParts) (y : Played) (k i : ℕ) (cs : List Commit) (c : Commit) → Follows log y cs → slice_get (own k cs) i ≡ Some c → SizeIs log k (commits_at y.threads k + i) c
 sizes-are log y k i [] c f is = absurd (none-some c is)
 sizes-are log y k i (d ∷ cs) c f is =
     size-next log y k d cs c f.0 (λ j there. sizes-are log (play_one log y) k j cs c f.1 there) (is_thread k d.actor) refl i is
@@ -141,7 +141,7 @@ sizes-are log y k i (d ∷ cs) c f is =
 abbrev second : Actor × ℕ → ℕ
 second p = p.1
 
-own-sizes : (k : ℕ) (cs : List Commit) (zs : List ℕ) → length zs ≡ length cs → length (sizes_of_thread k (map actor_in cs) zs) ≡ length (own k cs)
+pub own-sizes : (k : ℕ) (cs : List Commit) (zs : List ℕ) → length zs ≡ length cs → length (sizes_of_thread k (map actor_in cs) zs) ≡ length (own k cs)
 own-sizes k [] zs l = refl
 own-sizes k (c ∷ cs) [] l = absurd (omega (arith, l))
 own-sizes k (c ∷ cs) (z ∷ zs) l =
@@ -151,7 +151,7 @@ own-sizes k (c ∷ cs) (z ∷ zs) l =
       | inr is ↦ rw is rest
     ]
 
-get-there : {A : Type 0} (xs : List A) (i : ℕ) → i < length xs → (x : A) × (slice_get xs i ≡ Some x)
+pub get-there : {A : Type 0} (xs : List A) (i : ℕ) → i < length xs → (x : A) × (slice_get xs i ≡ Some x)
 get-there [] i l = absurd (omega (arith, l))
 get-there (x ∷ xs) zero l = (x, refl)
 get-there (x ∷ xs) (suc i) l = get-there xs i (omega (arith, l))
@@ -206,15 +206,15 @@ said-there log other k i z c s logged found =
           )
     ]
 
-record Counts (log : LogParts) (memory : List ℕ) (entry : ℕ) : Type 0 where
-  follows : Follows log (opened log memory entry) (play log memory entry).progress.commits
-  numbers : (k : ℕ) → commits_at (play log memory entry).threads k ≡ length (own k (play log memory entry).progress.commits)
+pub record Counts (log : LogParts) (memory : List ℕ) (entry : ℕ) : Type 0 where
+  pub follows : Follows log (opened log memory entry) (play log memory entry).progress.commits
+  pub numbers : (k : ℕ) → commits_at (play log memory entry).threads k ≡ length (own k (play log memory entry).progress.commits)
 
-none-started : (entry k : ℕ) → commits_at (started entry ∷ []) k ≡ 0
+pub none-started : (entry k : ℕ) → commits_at (started entry ∷ []) k ≡ 0
 none-started entry zero = refl
 none-started entry (suc k) = refl
 
-counts : (log : LogParts) (memory : List ℕ) (entry : ℕ) → FitsImage log memory entry → Counts log memory entry
+pub counts : (log : LogParts) (memory : List ℕ) (entry : ℕ) → FitsImage log memory entry → Counts log memory entry
 counts log memory entry fits =
     let start : Played = opened log memory entry in
     let cs : List Commit = (play log memory entry).progress.commits in
@@ -302,7 +302,7 @@ says-all log v s threads interrupts inputs dmas each =
     ]
     by Actor.Dma i none = refl
 
-each-mode : (mode : ModeName) (threads s count : ℕ) (zs : List ℕ) (order : List Actor) → IsSizes mode threads s count (Sizes.Each zs) → IsOrder mode threads count order
+pub each-mode : (mode : ModeName) (threads s count : ℕ) (zs : List ℕ) (order : List Actor) → IsSizes mode threads s count (Sizes.Each zs) → IsOrder mode threads count order
     → (mode ≢ ModeName.Picolog) × (length zs ≡ count) × (length order ≡ count)
 each-mode ModeName.OrderSize threads s count zs order sizes is = ((λ e. cc), sizes.0, is.0)
 each-mode ModeName.OrderOnly threads s count zs order sizes is = absurd sizes
@@ -335,7 +335,7 @@ says-so log memory entry (Sizes.Each zs) is good fits over =
           ∙ used-all end.threads 0 (length end.threads) cs (λ k. let h = n.numbers k in omega (arith, h));
     }
 
-over-end : (log : LogParts) (y : Played) (cs : List Commit) → Follows log y cs → Over log (plays log y (length cs))
+pub over-end : (log : LogParts) (y : Played) (cs : List Commit) → Follows log y cs → Over log (plays log y (length cs))
 over-end log y [] f = f
 over-end log y (c ∷ cs) f = subst (Over log) (plays-shift log y (length cs)) (over-end log (play_one log y) cs f.1)
 

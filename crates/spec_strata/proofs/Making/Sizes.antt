@@ -56,10 +56,10 @@ its-one k i CommitKind.Serial c is = rw is refl
 its-one k i CommitKind.Dma c is = rw is refl
 its-one k i CommitKind.Piece c is = rw is refl
 
-sizes-is : (k i : ℕ) (c : Commit) (cs : List Commit) → is_thread k c.actor ≡ true → chunk_sizes k i (c ∷ cs) ≡ chunk_size k i c ++ chunk_sizes k (suc i) cs
+pub sizes-is : (k i : ℕ) (c : Commit) (cs : List Commit) → is_thread k c.actor ≡ true → chunk_sizes k i (c ∷ cs) ≡ chunk_size k i c ++ chunk_sizes k (suc i) cs
 sizes-is k i c cs e = ap (λ (b : Bool). if b then chunk_size k i c ++ chunk_sizes k (suc i) cs else chunk_sizes k i cs) e
 
-sizes-isnt : (k i : ℕ) (c : Commit) (cs : List Commit) → is_thread k c.actor ≡ false → chunk_sizes k i (c ∷ cs) ≡ chunk_sizes k i cs
+pub sizes-isnt : (k i : ℕ) (c : Commit) (cs : List Commit) → is_thread k c.actor ≡ false → chunk_sizes k i (c ∷ cs) ≡ chunk_sizes k i cs
 sizes-isnt k i c cs e = ap (λ (b : Bool). if b then chunk_size k i c ++ chunk_sizes k (suc i) cs else chunk_sizes k i cs) e
 
 none-or : {A : Type 0} (o p : Option A) → o ≡ None → option_or o p ≡ p
@@ -133,7 +133,7 @@ others-none k j i n (c ∷ cs) ne =
 abbrev pub all_sizes : (from n : ℕ) → List Commit → List ShortSize
 all_sizes from n cs = flat_map (λ k. chunk_sizes k 0 cs) (range_with_len from n)
 
-next-sizes : (from n : ℕ) (cs : List Commit) → all_sizes from (suc n) cs ≡ chunk_sizes from 0 cs ++ all_sizes (suc from) n cs
+pub next-sizes : (from n : ℕ) (cs : List Commit) → all_sizes from (suc n) cs ≡ chunk_sizes from 0 cs ++ all_sizes (suc from) n cs
 next-sizes from n cs = let e : from + 1 ≡ suc from = omega arith in ap (λ (j : ℕ). chunk_sizes from 0 cs ++ all_sizes j n cs) e
 
 found-out : (k i from n : ℕ) (cs : List Commit) → k < from → find (is_for k i) (all_sizes from n cs) ≡ None

@@ -9,7 +9,7 @@ fn questions_are_answered_byte_for_byte(rt: HostRuntime) -> Result<(), Fail> {
 }
 
 // Thread 1 stores 9 to the word at 256 in commit 2, after thread 0 has spawned it.
-const ROW: &[(&str, &[u8])] = &[
+pub(super) const ROW: &[(&str, &[u8])] = &[
     (
         "a.elf",
         b"\x7fELF\x01\x01\x01\0\0\0\0\0\0\0\0\0\x02\0\xf3\0\x01\0\0\0\0\0\0\x004\0\0\0\0\0\0\0\0\0\0\x004\0 \0\
@@ -25,7 +25,7 @@ const ROW: &[(&str, &[u8])] = &[
 ];
 
 // The first commit is shorter than its logged size.
-const DIVERGING: &[(&str, &[u8])] = &[
+pub(super) const DIVERGING: &[(&str, &[u8])] = &[
     (
         "a.elf",
         b"\x7fELF\x01\x01\x01\0\0\0\0\0\0\0\0\0\x02\0\xf3\0\x01\0\0\0\0\0\0\x004\0\0\0\0\0\0\0\0\0\0\x004\0 \0\

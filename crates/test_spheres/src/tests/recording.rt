@@ -1,5 +1,5 @@
 //! The bytes of logs that were recorded.
-ghost use Rattle.std.specs.Prelude.{◌≡◌, ◌+◌, ◌<◌, Contains, IfOk, IfSome, OnOk};
+ghost use Rattle.std.specs.Prelude.{◌≡◌, ◌+◌, ◌<◌, [], Contains, IfOk, IfSome, OnOk};
 ghost use Rattle.dl_entry.specs.Numbers.{plain_threads};
 ghost use Rattle.spec_log.specs.Log.{IsActor, IsInput, AreFewBytes, input_kinds};
 ghost use Rattle.dl_record.specs.Recording.{CanCommit};
@@ -8,7 +8,7 @@ use dl_entry::{Actor, Bytes, Commit, CommitKind, Input, Loads, OutOfMemory, Outp
 use dl_logfmt::write_log;
 use dl_mode::{Noting, OrderAndSize, OrderOnly, PicoLog};
 use dl_record::Recorder;
-use spec_log::ModeName;
+use spec_log::{Log, ModeName};
 use std::alloc::Global;
 use std::process::Abort;
 use std::test::Fail;
@@ -54,17 +54,40 @@ struct Row {
 /// The bytes of a recording's log. A step that no recorder would take fails.
 fn recorded<M: Noting>(rt: &impl Abort, alloc: Global, row: &Row) -> Result<Vec<u8>, Fail> {
     assert!(rt; 16 <= row.s && row.s <= 4096);
-    assert!(rt; row.steps.len() < 100);
     let mut recorder = Recorder::<M>::new(alloc, 1, row.s)?;
+    let log = log_of(rt, alloc, &mut recorder, row);
+    drop(recorder);
+    Ok(written(alloc, log?)?)
+}
+
+/// Notes the steps and the interrupt, and gives the log.
+fn log_of<M: Noting>(
+    rt: &impl Abort,
+    alloc: Global,
+    recorder: &mut Recorder<M>,
+    row: &Row,
+) -> Result<Log, Fail>
+    requires s { recorder.old.kept.s ≡ row.now.s }
+    requires none { recorder.old.kept.count ≡ 0 }
+    requires interrupts { recorder.old.interrupts ≡ [] }
+    requires version { recorder.old.version ≡ 1 }
+{
+    assert!(rt; row.steps.len() < 100);
     for step in row.steps {
         recorder.reserve()?;
-        note(rt, alloc, &mut recorder, step, row.s)?;
+        note(rt, alloc, recorder, step, row.s)?;
     }
     if let Some((thread, index, value)) = row.interrupt {
         assert!(rt; thread < recorder.threads());
         recorder.interrupt(thread, index, value)?;
     }
-    Ok(write_log(alloc, &recorder.finish()?)?)
+    Ok(recorder.finish()?)
+}
+
+fn written(alloc: Global, log: Log) -> Result<Vec<u8>, OutOfMemory> {
+    let bytes = write_log(alloc, &log);
+    drop(log);
+    bytes
 }
 
 fn note<M: Noting>(
@@ -87,8 +110,9 @@ fn note<M: Noting>(
     assert!(rt; !*early || *size > 0);
     let input = input(rt, alloc, record)?;
     let commit = commit(alloc, *code, *size);
-    note_commit(recorder, &commit, *early, input.as_ref(), dma(rt, record))?;
-    Ok(())
+    let noted = note_commit(recorder, &commit, *early, input.as_ref(), dma(rt, record));
+    drop((input, commit));
+    Ok(noted?)
 }
 
 fn note_commit<M: Noting>(

@@ -6,11 +6,11 @@ ghost use Rattle.dl_replay.specs.Replays.{IsReplaying};
 ghost use Rattle.test_spheres.specs.Replaying.{IsFirst};
 
 use dl_entry::{Actor, End, OutOfMemory, Why};
+use dl_kernel::State;
 use dl_logfmt::read_log;
 use dl_mem::Memory;
 use dl_mode::{Noting, OrderAndSize, OrderOnly, PicoLog};
 use dl_replay::Replayer;
-use dl_kernel::State;
 use dl_thread::Thread;
 use spec_log::{Log, ModeName};
 use std::alloc::Global;

@@ -24,11 +24,12 @@ fn begin(alloc: Global, file: &[u8], begins: Begins, s: u32) -> Result<Sphere, F
     requires { IsStandard 1 s }
     ensures { IfOk result (λ p. length p.sphere.threads ≡ 1) }
 {
-    let setup = SphereSetup {
-        image: dl_elf::load(alloc, file, 4096)?,
-        role: role(alloc, begins)?,
-    };
-    Ok(Sphere::new(alloc, &setup, s)?)
+    let image = dl_elf::load(alloc, file, 4096)?;
+    let role = role(alloc, begins)?;
+    let setup = SphereSetup { image, role };
+    let sphere = Sphere::new(alloc, &setup, s);
+    drop(setup);
+    Ok(sphere?)
 }
 
 fn role(alloc: Global, begins: Begins) -> Result<Role, Fail>

@@ -9,7 +9,7 @@ use std::alloc::Global;
 use std::test::Fail;
 
 // A file that exits: `addi x17, x0, 0`, `addi x10, x0, 7`, `ecall`.
-const EXIT: &[u8] = &[
+pub(super) const EXIT: &[u8] = &[
     0x7f, 0x45, 0x4c, 0x46, 0x01, 0x01, 0x01, 0x00, 0x00, 0x00, 0x00, 0x00, 0x00, 0x00, 0x00, 0x00,
     0x02, 0x00, 0xf3, 0x00, 0x01, 0x00, 0x00, 0x00, 0x00, 0x00, 0x00, 0x00, 0x34, 0x00, 0x00, 0x00,
     0x00, 0x00, 0x00, 0x00, 0x00, 0x00, 0x00, 0x00, 0x34, 0x00, 0x20, 0x00, 0x01, 0x00, 0x00, 0x00,
@@ -44,6 +44,7 @@ fn walks_end_where_their_logs_say(rt: HostRuntime) -> Result<(), Fail> {
         let walked = walked(rt.alloc(), row.file, row.log, row.to)?;
         assert!(rt; has_sizes(walked.commits.as_slice(), row.sizes));
         assert!(rt; walked.end == row.end);
+        drop(walked);
     }
     Ok(())
 }
@@ -51,14 +52,16 @@ fn walks_end_where_their_logs_say(rt: HostRuntime) -> Result<(), Fail> {
 #[test]
 fn a_transfer_is_stored_and_loaded(rt: HostRuntime) -> Result<(), Fail> {
     let walked = walked(rt.alloc(), DMA, TRANSFERRED, 5)?;
-    assert!(rt; has_stored(&walked.memory));
-    assert!(rt; has_loaded(walked.threads.get(0)));
-    assert!(rt; walked.request.is_none());
+    assert!(rt; has_stored(&walked.state.memory));
+    assert!(rt; has_loaded(walked.state.threads.get(0)));
+    assert!(rt; walked.state.request.is_none());
     let stores = [at_dma(256, 2), at_dma(260, 0x4241)];
     assert!(rt; walked.stores.as_slice() == stores.as_slice());
-    assert!(rt; watch(rt.alloc(), &walked, 256)?.len() == 1);
     assert!(rt; who(&walked, 260, 5).is_some());
     assert!(rt; when(&walked, 0, 264, 0) == When::None);
+    let watched = watch(rt.alloc(), &walked, 256);
+    drop(walked);
+    assert!(rt; watched?.len() == 1);
     Ok(())
 }
 
@@ -92,7 +95,9 @@ fn has_loaded(thread: Option<&Thread>) -> bool {
 fn walked(alloc: Global, file: &[u8], log: &[u8], to: u32) -> Result<Walked, Fail> {
     let image = dl_elf::load(alloc, file, 4096)?;
     let log = read_log(alloc, log)?;
-    Ok(walk(alloc, &image, &log, to)?)
+    let walked = walk(alloc, &image, &log, to);
+    drop((image, log));
+    Ok(walked?)
 }
 
 fn has_sizes(commits: &[Commit], sizes: &[u32]) -> bool {
@@ -117,7 +122,8 @@ const NO_THREAD: &[u8] = b"\x44\x4C\x52\x4E\x01\x00\x00\x00\x64\x00\x00\x00\x02\
       \x02\x00\x00\x00\x05\x02\x00\x00\x00\x02\x00\x00\x00\x00\x00\x00\
       \x00\x00\x00\x00\x00\x00\x00\x00\x00";
 
-const LEFT_OVER: &[u8] = b"\x44\x4C\x52\x4E\x01\x00\x00\x00\x64\x00\x00\x00\x02\x00\x00\x00\
+pub(super) const LEFT_OVER: &[u8] =
+    b"\x44\x4C\x52\x4E\x01\x00\x00\x00\x64\x00\x00\x00\x02\x00\x00\x00\
       \x02\x00\x00\x00\x00\x02\x00\x00\x00\x02\x00\x00\x00\x00\x00\x00\
       \x00\x01\x00\x00\x00\x05\x00\x00\x00\x00\x00\x00\x00\x00\x00\x00";
 

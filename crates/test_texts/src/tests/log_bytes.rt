@@ -1,13 +1,13 @@
 //! The bytes of the logs of small recordings, and bytes that aren't a log.
-use dl_logfmt::{Fault, LogError, read_log, write_log};
+use super::logs::{refused, rewritten};
+use dl_logfmt::{Fault, LogError};
 use std::alloc::Global;
 use std::test::Fail;
 
 #[test]
 fn logs_are_read_and_written_back(rt: HostRuntime) -> Result<(), Fail> {
     for bytes in LOGS {
-        let log = read_log(rt.alloc(), bytes)?;
-        assert!(rt; write_log(rt.alloc(), &log)?.as_slice() == *bytes);
+        assert!(rt; rewritten(rt.alloc(), bytes)?.as_slice() == *bytes);
     }
     Ok(())
 }
@@ -17,7 +17,7 @@ fn cut_logs_end_inside_a_field(rt: HostRuntime) {
     for bytes in &[EXITS, FULL] {
         for length in 0..bytes.len() {
             let short = Some(malformed(1, length as u64));
-            assert!(rt; read_log(rt.alloc(), &bytes[..length]).err() == short);
+            assert!(rt; refused(rt.alloc(), &bytes[..length]) == short);
         }
     }
 }
@@ -27,7 +27,7 @@ fn the_first_wrong_field_is_named(rt: HostRuntime) -> Result<(), Fail> {
     for (bytes, at, wrong, number, offset) in WRONG {
         let bytes = overwritten(rt.alloc(), bytes, *at, wrong)?;
         let error = Some(malformed(*number, *offset));
-        assert!(rt; read_log(rt.alloc(), &bytes).err() == error, "{at}");
+        assert!(rt; refused(rt.alloc(), &bytes) == error, "{at}");
     }
     Ok(())
 }

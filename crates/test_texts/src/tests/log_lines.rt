@@ -1,13 +1,11 @@
 //! The texts of small logs, of each mode.
-use dl_inspect::inspect_text;
-use dl_logfmt::read_log;
+use super::logs::inspected;
 use std::test::Fail;
 
 #[test]
 fn each_entry_has_a_line(rt: HostRuntime) -> Result<(), Fail> {
     for (bytes, text) in LOGS {
-        let log = read_log(rt.alloc(), bytes)?;
-        assert!(rt; inspect_text(rt.alloc(), &log)?.as_slice() == *text);
+        assert!(rt; inspected(rt.alloc(), bytes)?.as_slice() == *text);
     }
     Ok(())
 }

@@ -1,26 +1,17 @@
 //! Worked logs, read in pieces, and bytes that aren't a log.
 use super::log_bytes::malformed;
-use dl_logfmt::{Log, LogError, LogReader, write_log};
-use std::alloc::Global;
+use super::logs::rejoined;
+use dl_logfmt::LogReader;
 use std::test::Fail;
 
 #[test]
 fn pieces_give_the_log_of_their_bytes(rt: HostRuntime) -> Result<(), Fail> {
     for bytes in &[EXITS, FULL] {
         for size in &[1, 7, 4096] {
-            let log = fed(rt.alloc(), bytes, *size)?;
-            assert!(rt; write_log(rt.alloc(), &log)?.as_slice() == *bytes);
+            assert!(rt; rejoined(rt.alloc(), bytes, *size)?.as_slice() == *bytes);
         }
     }
     Ok(())
-}
-
-fn fed(alloc: Global, bytes: &[u8], size: usize) -> Result<Log, LogError> {
-    let mut reader = LogReader::new(alloc);
-    for piece in bytes.chunks(size.max(1)) {
-        reader.feed(piece)?;
-    }
-    reader.end()
 }
 
 #[test]

@@ -1,13 +1,12 @@
 //! Logs of version 2, byte for byte, what is wrong with others, and logs of version 1 made version 2.
 use super::log_bytes::{malformed, overwritten};
-use dl_logfmt::{LogReader, migrate_log, read_log, write_log};
+use super::logs::{migrated, refused, rejoined, rewritten};
 use std::test::Fail;
 
 #[test]
 fn logs_of_version_2_are_read_and_written_back(rt: HostRuntime) -> Result<(), Fail> {
     for bytes in LOGS {
-        let log = read_log(rt.alloc(), bytes)?;
-        assert!(rt; write_log(rt.alloc(), &log)?.as_slice() == *bytes);
+        assert!(rt; rewritten(rt.alloc(), bytes)?.as_slice() == *bytes);
     }
     Ok(())
 }
@@ -15,12 +14,7 @@ fn logs_of_version_2_are_read_and_written_back(rt: HostRuntime) -> Result<(), Fa
 #[test]
 fn they_are_read_byte_by_byte(rt: HostRuntime) -> Result<(), Fail> {
     for bytes in LOGS {
-        let mut reader = LogReader::new(rt.alloc());
-        for byte in bytes.chunks(1) {
-            reader.feed(byte)?;
-        }
-        let log = reader.end()?;
-        assert!(rt; write_log(rt.alloc(), &log)?.as_slice() == *bytes);
+        assert!(rt; rejoined(rt.alloc(), bytes, 1)?.as_slice() == *bytes);
     }
     Ok(())
 }
@@ -30,7 +24,7 @@ fn they_end_inside_a_field_where_they_are_cut(rt: HostRuntime) {
     for bytes in &[EXITS, FULL, SIZED, TURNS] {
         for length in 0..bytes.len() {
             let short = Some(malformed(1, length as u64));
-            assert!(rt; read_log(rt.alloc(), &bytes[..length]).err() == short);
+            assert!(rt; refused(rt.alloc(), &bytes[..length]) == short);
         }
     }
 }
@@ -39,11 +33,8 @@ fn they_end_inside_a_field_where_they_are_cut(rt: HostRuntime) {
 fn fields_are_good_up_to_their_borders(rt: HostRuntime) -> Result<(), Fail> {
     for (bytes, at, border) in GOOD {
         let bytes = overwritten(rt.alloc(), bytes, *at, border)?;
-        let log = read_log(rt.alloc(), &bytes)?;
-        assert!(rt;
-            write_log(rt.alloc(), &log)?.as_slice() == bytes.as_slice(),
-            "{at}"
-        );
+        let again = rewritten(rt.alloc(), &bytes)?;
+        assert!(rt; again.as_slice() == bytes.as_slice(), "{at}");
     }
     Ok(())
 }
@@ -53,7 +44,7 @@ fn fields_past_their_borders_are_named(rt: HostRuntime) -> Result<(), Fail> {
     for (bytes, at, wrong, number, offset) in WRONG {
         let bytes = overwritten(rt.alloc(), bytes, *at, wrong)?;
         let error = Some(malformed(*number, *offset));
-        assert!(rt; read_log(rt.alloc(), &bytes).err() == error, "{at}");
+        assert!(rt; refused(rt.alloc(), &bytes) == error, "{at}");
     }
     Ok(())
 }
@@ -61,9 +52,7 @@ fn fields_past_their_borders_are_named(rt: HostRuntime) -> Result<(), Fail> {
 #[test]
 fn migrated_logs_keep_their_threads(rt: HostRuntime) -> Result<(), Fail> {
     for (first, second) in MIGRATED {
-        let log = read_log(rt.alloc(), first)?;
-        let migrated = migrate_log(rt.alloc(), &log)?;
-        assert!(rt; write_log(rt.alloc(), &migrated)?.as_slice() == *second);
+        assert!(rt; migrated(rt.alloc(), first)?.as_slice() == *second);
     }
     Ok(())
 }

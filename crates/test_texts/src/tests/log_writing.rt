@@ -7,12 +7,18 @@ use std::test::Fail;
 #[test]
 fn pieces_join_to_the_log(rt: HostRuntime) -> Result<(), Fail> {
     for bytes in LOGS {
-        let log = read_log(rt.alloc(), bytes)?;
-        assert!(rt; writes(&log, bytes, &mut [0; 1]));
-        assert!(rt; writes(&log, bytes, &mut [0; 7]));
-        assert!(rt; writes(&log, bytes, &mut [0; 4096]));
+        assert!(rt; writes_in_pieces(read_log(rt.alloc(), bytes)?, bytes));
     }
     Ok(())
+}
+
+// Whether pieces of 1, of 7 and of 4,096 bytes are these bytes.
+fn writes_in_pieces(log: Log, bytes: &[u8]) -> bool {
+    let all = writes(&log, bytes, &mut [0; 1])
+        && writes(&log, bytes, &mut [0; 7])
+        && writes(&log, bytes, &mut [0; 4096]);
+    drop(log);
+    all
 }
 
 // Whether the pieces that are written into this room are the bytes, and then there are no more.

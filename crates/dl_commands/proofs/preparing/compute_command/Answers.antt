@@ -1,5 +1,5 @@
 use Rattle.std.proofs.Common.{◌≡◌, ◌∙◌, ℕ, ap, refl, sym}
-use Rattle.dl_words.specs.Commands.{CommandValues, Run, Inspect, Walk, Query, Make, Drill, Asm, Migrate, command_view}
+use Rattle.dl_words.specs.Commands.{CommandValues, Run, Inspect, Walk, Query, Interval, Make, Drill, Asm, Migrate, command_view}
 use Rattle.spec_program.specs.commands.Drill.{finish}
 use Rattle.dl_commands.proofs.preparing.compute_command.Goals as goal
 
@@ -15,6 +15,9 @@ returns-in-Walk-clause-halt g c = rw c.in-Walk.is c.walk_log.ensures.halt
 pub returns-in-Query-clause-halt : goal.returns-in-Query-clause-halt
 returns-in-Query-clause-halt g c = rw c.in-Query.is c.answer_query.ensures.halt
 
+pub returns-in-Interval-clause-halt : goal.returns-in-Interval-clause-halt
+returns-in-Interval-clause-halt g c = rw c.in-Interval.is c.tell_interval.ensures.halt
+
 pub returns-in-Asm-clause-halt : goal.returns-in-Asm-clause-halt
 returns-in-Asm-clause-halt g c = rw c.in-Asm.is c.assemble_source.ensures.halt
 
@@ -27,6 +30,7 @@ drilled (Run plan) = 0
 drilled (Inspect log) = 0
 drilled (Walk pair) = 0
 drilled (Query asked) = 0
+drilled (Interval asked) = 0
 drilled (Make number name) = 0
 drilled (Drill number) = number
 drilled (Asm source name) = 0

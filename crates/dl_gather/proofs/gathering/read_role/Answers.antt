@@ -8,16 +8,16 @@ use Rattle.dl_gather.specs.Reads.{read_for_role}
 use Rattle.dl_gather.proofs.Stopping.{err_then, halt_carried, unread_in}
 use Rattle.dl_gather.proofs.gathering.read_role.Goals as goal
 
-pub returns-in_err-read-in-Replay-clause-halt : goal.returns-in_err-read-in-Replay-clause-halt
-returns-in_err-read-in-Replay-clause-halt g c =
+pub returns-in_err-log-in-Replay-clause-halt : goal.returns-in_err-log-in-Replay-clause-halt
+returns-in_err-log-in-Replay-clause-halt g c =
     let old = g.F.Files.seen c.args.files.now in
     let new = g.F.Files.seen c.read_log.new.files in
-    let halt = c.in_err-read-in-Replay.field-0.0 in
+    let halt = c.in_err-log-in-Replay.field-0.0 in
     let log = string_bytes c.in-Replay.log in
-    let role = role_view (Role.Replay c.in-Replay.log) in
+    let role = role_view (Role.Replay c.in-Replay.log c.in-Replay.from c.in-Replay.to) in
     let whole : Role → Type 0 = λ r. Unread (read_for_role (role_view r)) (λ m. role_read m (role_view r)) old new halt in
     halt_carried c.from_residual.result halt (Unread (read_for_role (role_view c.args.role.now)) (λ m. role_read m (role_view c.args.role.now)) old new) c.from_residual.ensures.1
     (subst whole (sym c.in-Replay.is)
     (unread_in old new (log ∷ []) (read_for_role role) (λ m. log_at m log) (λ m. role_read m role) halt
     (record { absent = λ m e name x. err_then (log_at m log) _ name x; next = λ m e name n. n })
-    (subst (λ (n : List ℕ). Unread (n ∷ []) (λ m. log_at m n) old new halt) c.as_str.ensures.value c.in_err-read-in-Replay.ensures.halt)))
+    (subst (λ (n : List ℕ). Unread (n ∷ []) (λ m. log_at m n) old new halt) c.as_str.ensures.value c.in_err-log-in-Replay.ensures.halt)))

@@ -1,7 +1,9 @@
-use Rattle.std.proofs.Common.{◌≡◌, ◌++◌, length, map}
+use Rattle.std.proofs.Common.{◌≡◌, ◌++◌, All, length, map}
 use Rattle.std.specs.Vec.Iter.{into_iter_items, into_iter_len}
+use Rattle.dl_sphere.specs.Setups.{HasBegun}
 use Rattle.spec_program.specs.Built.{spheres_of}
 use Rattle.dl_gather.specs.Inputs.{sphere_view}
+use Rattle.dl_gather.specs.Intervals.{AreAllOrdered}
 use Rattle.dl_gather.proofs.SettingUp.{Come}
 use Rattle.dl_gather.proofs.setups.setups_of.Given as goal
 
@@ -13,5 +15,7 @@ invariant-loop-input l = record {
   images : into_iter_len l.images ≡ length (into_iter_items l.images);
   beside : length (into_iter_items l.images) ≡ length (into_iter_items l.input-iterator);
   number : length l.spheres.items ≡ length l.yielded;
+  order : AreAllOrdered (map sphere_view (into_iter_items l.input-iterator));
+  begun : All HasBegun l.spheres.items;
   made : Come (spheres_of 0 (map sphere_view l.fn.inputs.items) l.fn.images.items) l.spheres.items (into_iter_items l.input-iterator) (into_iter_items l.images);
 }

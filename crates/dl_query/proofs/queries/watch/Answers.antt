@@ -1,4 +1,4 @@
-use Rattle.std.proofs.Common.{◌≡◌, ◌<◌, ◌+◌, ◌∷◌, ◌++◌, [], List, drop, ap, ◌∙◌, arith}
+use Rattle.std.proofs.Common.{◌+◌, ◌∷◌, ◌++◌, [], List, drop, ap, ◌∙◌, arith}
 use Rattle.spec_query.specs.declared.Line.{Line}
 use Rattle.spec_query.specs.Queries.{watch}
 use Rattle.dl_query.proofs.Asking.{watch-noted, watch-passed, watch-done}

@@ -1,5 +1,4 @@
-use Rattle.std.proofs.Common.{◌≡◌, List, Some, None, sym, ap, ◌∙◌, arith}
-use Rattle.spec_query.specs.declared.Line.{Line}
+use Rattle.std.proofs.Common.{List, None, sym, ap, ◌∙◌, arith}
 use Rattle.spec_query.specs.declared.Store.{Store}
 use Rattle.spec_query.specs.declared.When.{When}
 use Rattle.spec_query.specs.Queries.{when_changed}

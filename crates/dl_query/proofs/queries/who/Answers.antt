@@ -1,4 +1,4 @@
-use Rattle.std.proofs.Common.{◌≡◌, ◌+◌, List, Option, Some, drop, ap, ◌∙◌, arith}
+use Rattle.std.proofs.Common.{◌+◌, List, Option, Some, drop, ap, ◌∙◌, arith}
 use Rattle.std.specs.Option.{option_or}
 use Rattle.spec_query.specs.declared.Line.{Line}
 use Rattle.spec_query.specs.declared.Store.{Store}

@@ -36,14 +36,17 @@ fn spheres_begin_in_their_roles(rt: HostRuntime) -> Result<(), Fail> {
 }
 
 fn begins(alloc: Global, row: &Row) -> Result<bool, Fail> {
-    let sphere = begin(alloc, FILE, row.role, 1000)?;
-    Ok(stands(&sphere, row))
+    Ok(stands(begin(alloc, FILE, row.role, 1000)?, row))
 }
 
-fn stands(sphere: &Sphere, row: &Row) -> bool
-    requires { length sphere.now.sphere.threads ≡ 1 }
+fn stands(sphere: Sphere, row: &Row) -> bool
+    requires { length sphere.sphere.threads ≡ 1 }
 {
-    has_limit(sphere, row.limit) && sphere.head() == row.head && sphere.end() == row.end
+    let stands = has_limit(&sphere, row.limit)
+        && sphere.head() == row.head
+        && sphere.end() == row.end;
+    drop(sphere);
+    stands
 }
 
 fn has_limit(sphere: &Sphere, limit: u32) -> bool

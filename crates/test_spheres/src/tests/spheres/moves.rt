@@ -7,7 +7,7 @@ ghost use Rattle.dl_sphere.specs.Moving.{IsTurnOf, IsTurnOfDma};
 use super::{Begins, begin};
 use dl_chunk::Chunk;
 use dl_dev::Devices;
-use dl_entry::{Actor, CommitKind, End, Request};
+use dl_entry::{Actor, CommitKind, End, OutOfMemory, Request};
 use dl_fly::Flights;
 use dl_kernel::thread_at;
 use dl_logfmt::write_log;
@@ -16,7 +16,7 @@ use dl_sphere::{Moved, Sphere};
 use dl_thread::{Thread, ThreadStatus};
 use dl_wbuf::Buffer;
 use spec_engine::answers::How;
-use spec_log::ModeName;
+use spec_log::{Log, ModeName};
 use std::alloc::Global;
 use std::process::Abort;
 use std::test::Fail;
@@ -64,26 +64,40 @@ struct Scene {
 fn moves_are_done_in_each_role(rt: HostRuntime) -> Result<(), Fail> {
     for scene in SCENES {
         let mut sphere = begin(rt.alloc(), scene.file, scene.role, 100)?;
-        let chunk = run(rt.alloc(), &sphere)?;
-        commit_chunk(&rt, &mut sphere, &chunk, scene.closed)?;
-        serial_step(&rt, rt.alloc(), &mut sphere)?;
-        if sphere.request().is_some() {
-            dma(&rt, rt.alloc(), &mut sphere)?;
-        } else if !sphere.replays() {
-            raise(&rt, &mut sphere)?;
-        }
-        are_as_told(&rt, &sphere, scene.commits);
-        let thread = first(&sphere);
-        assert_eq!(rt; (thread.pc(), thread.x()[10]), (scene.pc, scene.x10));
-        assert!(rt; thread.commits() == 2);
-        assert!(rt; sphere.end() == scene.end);
-        if let Some(log) = scene.log {
-            assert!(rt; sphere.halves());
-            let bytes = write_log(rt.alloc(), &sphere.log()?)?;
-            assert!(rt; bytes.as_slice() == log);
-        }
+        let moved = moves(&rt, rt.alloc(), &mut sphere, scene);
+        drop(sphere);
+        moved?;
     }
     Ok(())
+}
+
+fn moves(rt: &impl Abort, alloc: Global, sphere: &mut Sphere, scene: &Scene) -> Result<(), Fail> {
+    let chunk = run(alloc, sphere)?;
+    let committed = commit_chunk(rt, sphere, &chunk, scene.closed);
+    drop(chunk);
+    committed?;
+    serial_step(rt, alloc, sphere)?;
+    if sphere.request().is_some() {
+        dma(rt, alloc, sphere)?;
+    } else if !sphere.replays() {
+        raise(rt, sphere)?;
+    }
+    are_as_told(rt, sphere, scene.commits);
+    let thread = first(sphere);
+    assert_eq!(rt; (thread.pc(), thread.x()[10]), (scene.pc, scene.x10));
+    assert!(rt; thread.commits() == 2);
+    assert!(rt; sphere.end() == scene.end);
+    if let Some(log) = scene.log {
+        assert!(rt; sphere.halves());
+        assert!(rt; written(alloc, sphere.log()?)?.as_slice() == log);
+    }
+    Ok(())
+}
+
+fn written(alloc: Global, log: Log) -> Result<Vec<u8>, OutOfMemory> {
+    let bytes = write_log(alloc, &log);
+    drop(log);
+    bytes
 }
 
 fn are_as_told(rt: &impl Abort, sphere: &Sphere, lines: &[Line]) {
@@ -102,15 +116,25 @@ fn first(sphere: &Sphere) -> Thread
 
 /// A chunk of thread 0, which has run until it was closed.
 fn run(alloc: Global, sphere: &Sphere) -> Result<Chunk<PlainSet>, Fail> {
-    let thread = first(sphere);
     let flights = Flights::new(alloc, 1, 1)?;
+    let chunk = run_beside(alloc, sphere, &flights);
+    drop(flights);
+    chunk
+}
+
+fn run_beside(
+    alloc: Global,
+    sphere: &Sphere,
+    flights: &Flights<PlainSet>,
+) -> Result<Chunk<PlainSet>, Fail> {
+    let thread = first(sphere);
     let mut chunk = Chunk::new(alloc, 4096, 1, 64)?;
     let limit = sphere.limit(0, false);
     let limit = if limit > 4096 { 4096 } else { limit };
     chunk.begin(0, &thread, limit, sphere.halves());
     for _ in 0..4 {
         if chunk.closed().is_none() {
-            chunk.step(sphere.memory(), &flights, 0);
+            chunk.step(sphere.memory(), flights, 0);
         }
     }
     Ok(chunk)

@@ -8,13 +8,13 @@ returns-in_err-times-in-None-clause-steps c =
     let p = err_from_is_err_and c.from_residual.result c.from_residual.ensures.1 in
     let self = c.args.self.now in
     rw (p.1, p.2) (times-unread self.stage self.left self.draft c.args.source.now.bytes.now c.args.at.now c.requires.more c.requires.within
-    c.read_times.new.at _ c.in-None.is c.in_err-times-in-None.ensures)
+    c.read_times.new.at _ c.in-None.is c.in_err-times-in-None.ensures.value)
 
 pub returns-in_ok-times-in-None-clause-steps : goal.returns-in_ok-times-in-None-clause-steps
 returns-in_ok-times-in-None-clause-steps c =
     let self = c.args.self.now in
     times-read self.stage self.left self.draft c.args.source.now.bytes.now c.args.at.now c.requires.more c.requires.within
-    c.in_ok-times-in-None.times c.read_times.new.at c.in-None.is (omega arith) c.in_ok-times-in-None.ensures
+    c.in_ok-times-in-None.times c.read_times.new.at c.in-None.is (omega arith) c.in_ok-times-in-None.ensures.value
 
 pub returns-in-Some-eq0-clause-steps : goal.returns-in-Some-eq0-clause-steps
 returns-in-Some-eq0-clause-steps c =

@@ -1,0 +1,5 @@
+mod Order
+mod Repeating
+mod RunLaws
+mod Staging
+mod StrataLaws

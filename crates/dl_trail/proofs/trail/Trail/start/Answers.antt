@@ -1,0 +1,53 @@
+use Rattle.std.proofs.Common.{◌≡◌, ◌<◌, length, sym, ap, ◌∙◌, subst, arith}
+use Rattle.spec_play.specs.States.{state_after}
+use Rattle.spec_play.specs.Resuming.{HasDone}
+use Rattle.dl_trail.specs.Trails.{Trail}
+use Rattle.dl_trail.proofs.Places.{commits-kept, found-there, place-before, some-kept}
+use Rattle.dl_trail.proofs.trail.Trail.start.Goals as goal
+
+pub overflow_sub-last : goal.overflow_sub-last
+overflow_sub-last c =
+    let t = c.self.inside in
+    let some = some-kept _ _ _ _ t.kept.items c.self.invariant.1 in
+    omega (arith, some, c.len-last.ensures, t.kept.ok.0)
+
+pub index-requires : goal.index-requires
+index-requires c =
+    let t = c.self.inside in
+    let some = some-kept _ _ _ _ t.kept.items c.self.invariant.1 in
+    omega (arith, some, c.len-last.ensures, c.min-index.ensures, t.kept.ok.0)
+
+pub returns-clause-before : goal.returns-clause-before
+returns-clause-before c =
+    let t = c.self.inside in
+    let are = c.self.invariant.1 in
+    let n = c.min-index.result in
+    let some = some-kept _ _ _ _ t.kept.items are in
+    let below : n < length t.kept.items = omega (arith, some, c.len-last.ensures, c.min-index.ensures, t.kept.ok.0) in
+    let is = commits-kept _ _ _ _ t.kept.items are n c.index.result.now (found-there t.kept.items n c.index.result.now below c.index.ensures) in
+    let before = place-before c.args.i n t.every (omega (arith, c.min-index.ensures)) in
+    omega (arith, is, before)
+
+pub returns-clause-done : goal.returns-clause-done
+returns-clause-done c =
+    let t = c.self.inside in
+    let are = c.self.invariant.1 in
+    let n = c.min-index.result in
+    let some = some-kept _ _ _ _ t.kept.items are in
+    let below : n < length t.kept.items = omega (arith, some, c.len-last.ensures, c.min-index.ensures, t.kept.ok.0) in
+    let is = commits-kept _ _ _ _ t.kept.items are n c.index.result.now (found-there t.kept.items n c.index.result.now below c.index.ensures) in
+    subst (λ (v : Trail). HasDone v.log v.memory v.entry c.index.result.now.commits) c.self.view_is
+    (subst (HasDone _ _ _) (sym is) (are.done n below))
+
+pub returns-clause-state : goal.returns-clause-state
+returns-clause-state c =
+    let t = c.self.inside in
+    let are = c.self.invariant.1 in
+    let n = c.min-index.result in
+    let s = c.index.result.now in
+    let some = some-kept _ _ _ _ t.kept.items are in
+    let below : n < length t.kept.items = omega (arith, some, c.len-last.ensures, c.min-index.ensures, t.kept.ok.0) in
+    let there = found-there t.kept.items n s below c.index.ensures in
+    let is = commits-kept _ _ _ _ t.kept.items are n s there in
+    subst (λ (v : Trail). s ≡ state_after v.log v.memory v.entry s.commits) c.self.view_is
+    (are.each n s there ∙ ap (state_after _ _ _) (sym is))

@@ -1,0 +1,3 @@
+mod PlayingExamples
+mod ReadingExamples
+pub mod Whole

@@ -1,0 +1,5 @@
+pub mod Bytes
+pub mod Playing
+pub mod Promise
+pub mod Reading
+pub mod Tails
