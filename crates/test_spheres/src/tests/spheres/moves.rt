@@ -157,6 +157,7 @@ fn commit_chunk<G: Sig>(
     assert!(rt; chunk.n() <= limit);
     is_turn(rt, sphere);
     assert!(rt; sphere.commits().is_empty());
+    assert!(rt; sphere.done() == 0);
     assert!(rt; sphere.request().is_none());
     let moved = sphere.commit_chunk(0, chunk)?;
     assert!(rt; matches!(&moved, Moved::Granted(words) if words.is_empty()));
@@ -197,6 +198,7 @@ fn serial_step(rt: &impl Abort, alloc: Global, sphere: &mut Sphere) -> Result<()
     let _ = first(sphere);
     is_turn(rt, sphere);
     assert!(rt; sphere.commits().len() == 1);
+    assert!(rt; sphere.done() == 1);
     let moved = sphere.serial_step(0, &mut devices, 5)?;
     assert!(rt; matches!(&moved, Moved::Granted(words) if words.is_empty()));
     Ok(())
@@ -209,6 +211,7 @@ fn dma(rt: &impl Abort, alloc: Global, sphere: &mut Sphere) -> Result<(), Fail> 
     assert!(rt; sphere.memory().size() == 4096);
     is_turn_of_dma(rt, sphere);
     assert!(rt; sphere.commits().len() == 2);
+    assert!(rt; sphere.done() == 2);
     let moved = sphere.dma(&mut devices)?;
     assert!(rt; sphere.request().is_none());
     let Moved::Granted(words) = moved else {
