@@ -24,12 +24,12 @@ def _there(folder, name):
 
 
 def recorded():
-    """Every sphere of a plan in an example whose log and account are there."""
+    """Every sphere of a plan in an example whose log is there, and its account of the whole log."""
     out = []
     for plan in sorted([*TOP.glob("examples/*/*.toml"), *TOP.glob("hunt/examples/*/*.toml")]):
         for sphere in tomllib.loads(plan.read_text())["sphere"]:
             files = [_there(plan.parent, sphere.get(key, "")) for key in ("image", "log", "account")]
-            if all(files):
+            if all(files) and not {"from", "to"} & sphere.keys():
                 name = "%s, %s" % (plan.parent.name, plan.name)
                 out.append(Recorded(name, files[0], sphere["memory"], files[1], files[2]))
     return out

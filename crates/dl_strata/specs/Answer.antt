@@ -13,7 +13,7 @@ abbrev pub error_of : LogError → StrataError
 error_of (BadField fault) = Malformed fault
 error_of NoMemory = OutOfMemory
 
--- a call leaves in a value what is read, and stops behind it; with a fault, whatever it has come to
+-- a call leaves in a value what is read, and stops after it; with a fault, whatever it has come to
 abbrev pub Leaves : {X : Type 0} → Result (Read X) Fault → Result (Unit {0}) LogError → (new : X) → ℕ → Type 0
 Leaves reading (Ok x) new after = reading ≡ Ok (record { value = new; after = after })
 Leaves reading (Err (BadField fault)) new after = reading ≡ Err fault

@@ -44,7 +44,7 @@ fn order_of(alloc: Global, runs: &[Stratum]) -> Result<Order, OutOfMemory>
     Ok(order)
 }
 
-/// Puts the actors of a stratum behind others.
+/// Puts the actors of a stratum after others.
 fn put_run(order: &mut Order, run: &Stratum) -> Result<(), OutOfMemory>
     requires { HasFewCounts run.now }
     ensures { OnOk result (order.new ≡ order.old ++ order_in run.now) }

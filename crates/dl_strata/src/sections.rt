@@ -28,7 +28,7 @@ pub fn read_sections(
     Ok(())
 }
 
-/// Reads a section behind those of a list: the number of its entries, and the entries.
+/// Reads a section after the entries of a list: the number of its entries, and the entries.
 fn read_section<E: Entry>(
     list: &mut Sequence<E>,
     source: &Source<'_>,
@@ -56,7 +56,7 @@ pub fn shape_of(draft: &StrataDraft) -> Shape
     }
 }
 
-/// Puts the bytes of the sections behind others.
+/// Puts the bytes of the sections after others.
 pub fn put_sections(parts: &StrataParts, out: &mut Vec<u8>) -> Result<(), OutOfMemory>
     requires { AreStrata parts.now }
     ensures { let v = parts.now in
@@ -70,7 +70,7 @@ pub fn put_sections(parts: &StrataParts, out: &mut Vec<u8>) -> Result<(), OutOfM
     Ok(())
 }
 
-/// Puts the bytes of what is left of a section behind others.
+/// Puts the bytes of what is left of a section after others.
 fn put_section<E: Entry>(mut left: SectionLeft<'_, E>, out: &mut Vec<u8>) -> Result<(), OutOfMemory>
     ensures { OnOk result (out.new.items ≡ out.old.items ++ left.entry) }
 {
@@ -80,7 +80,7 @@ fn put_section<E: Entry>(mut left: SectionLeft<'_, E>, out: &mut Vec<u8>) -> Res
     Ok(())
 }
 
-/// Puts the bytes of a unit behind others.
+/// Puts the bytes of a unit after others.
 pub fn put_unit(unit: &Unit<'_>, out: &mut Vec<u8>) -> Result<(), OutOfMemory>
     ensures { OnOk result (out.new.items ≡ out.old.items ++ unit.now) }
 {

@@ -22,7 +22,7 @@ pub fn write_strata(alloc: Global, strata: &Strata) -> Result<Vec<u8>, OutOfMemo
     Ok(out)
 }
 
-/// Puts the bytes of the runs behind others.
+/// Puts the bytes of the runs after others.
 fn put_runs(runs: &[Stratum], out: &mut Vec<u8>) -> Result<(), OutOfMemory>
     ensures { OnOk result (out.new.items ≡ out.old.items ++ flat_map stratum_bytes runs.now) }
 {

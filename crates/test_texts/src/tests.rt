@@ -13,4 +13,5 @@ mod plans;
 mod reports;
 mod strata_bytes;
 mod summaries;
+mod tail_bytes;
 mod words;

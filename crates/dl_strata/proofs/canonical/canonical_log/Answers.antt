@@ -1,6 +1,5 @@
-use Rattle.std.proofs.Common.{◌≡◌, sym, subst, ap, ◌∙◌, arith}
+use Rattle.std.proofs.Common.{sym, subst, ap, ◌∙◌, arith}
 use Rattle.std.specs.List.{flat_map}
-use Rattle.spec_strata.specs.declared.stratum.Stratum.{Stratum}
 use Rattle.spec_strata.specs.Canonical.{order_of, canonical}
 use Rattle.spec_strata.specs.Strata.{AreStrata}
 use Rattle.dl_strata.proofs.Order.{few-actors, is-canonical, canonical-good}

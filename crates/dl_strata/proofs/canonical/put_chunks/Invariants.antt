@@ -1,4 +1,4 @@
-use Rattle.std.proofs.Common.{◌≡◌, ◌≤◌, ◌++◌, drop, map, length}
+use Rattle.std.proofs.Common.{◌≡◌, ◌++◌, drop, map}
 use Rattle.dl_entry.specs.declared.Actor.{Actor}
 use Rattle.spec_strata.specs.Canonical.{rising}
 use Rattle.dl_strata.proofs.canonical.put_chunks.Given as goal

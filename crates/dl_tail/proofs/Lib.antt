@@ -1,0 +1,9 @@
+pub mod HeaderLaws
+pub mod LogStages
+pub mod PutLaws
+pub mod Repeating
+pub mod RowLaws
+pub mod StageLaws
+pub mod TailLaws
+pub mod ThreadLaws
+pub mod Words
