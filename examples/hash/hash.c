@@ -1,5 +1,5 @@
 /* Hashes a text in several ways, with bytes, halves, multiplications and divisions, each checked by another way, and ends
-   with a checksum of all, or with 0 where a check fails. */
+   with a checksum of all, or with 0 if a check fails. */
 
 typedef signed char i8;
 typedef unsigned char u8;

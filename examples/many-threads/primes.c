@@ -1,5 +1,5 @@
 /* Forty threads count the primes below 1,000: each looks at 25 numbers, and adds what it finds to one word. Ends with 0 if all
-   of them were started and the sum is right, and else with the number of the thread that was refused, or with the sum. */
+   of them were started and the sum is right, and otherwise with the number of the thread that was refused, or with the sum. */
 #include "delorean.h"
 
 enum { WORKERS = 40, EACH = 25, PRIMES = 168 };

@@ -1,5 +1,5 @@
 /* Two threads each add 1 to a counter ten times, under a lock. The lock is taken by a load and then a store, so two
-   threads can both find it free. Ends with 0 where the counter is right, and else with what it came to. */
+   threads can both find it free. Ends with 0 if the counter is right, and otherwise with its value. */
 #include "delorean.h"
 
 enum { THREADS = 2, ROUNDS = 10 };

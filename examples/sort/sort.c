@@ -1,5 +1,5 @@
 /* Sorts numbers on a heap, checks that they ascend and are the same numbers, and ends with a checksum of them in their
-   order, or with 0 where a check fails. */
+   order, or with 0 if a check fails. */
 
 enum { COUNT = 48 };
 

@@ -1,4 +1,4 @@
-/* What a bad end is: any of some cases, each of which holds where all its atoms do. */
+/* What a bad end is: any of some cases, each of which holds if all its atoms do. */
 #ifndef CONDITION_H
 #define CONDITION_H
 

@@ -29,7 +29,7 @@ def recorded():
     for plan in sorted([*TOP.glob("examples/*/*.toml"), *TOP.glob("hunt/examples/*/*.toml")]):
         for sphere in tomllib.loads(plan.read_text())["sphere"]:
             files = [_there(plan.parent, sphere.get(key, "")) for key in ("image", "log", "account")]
-            if all(files) and not {"from", "to"} & sphere.keys():
+            if all(files) and not {"from", "to", "epoch"} & sphere.keys():
                 name = "%s, %s" % (plan.parent.name, plan.name)
                 out.append(Recorded(name, files[0], sphere["memory"], files[1], files[2]))
     return out

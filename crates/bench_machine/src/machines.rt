@@ -107,6 +107,7 @@ fn machine_of(alloc: Global, cores: u8, depth: u8) -> anyhow::Result<Machine<Ban
             role: Role::Record {
                 version: 1,
                 mode: ModeName::OrderSize,
+                epochs: None,
             },
         })?;
     }

@@ -6,7 +6,7 @@ use Rattle.spec_engine.specs.declared.answers.How.{How}
 use Rattle.spec_engine.specs.declared.answers.Stepped.{Stepped}
 use Rattle.spec_engine.specs.declared.answers.CutReply.{CutReply}
 use Rattle.spec_engine.specs.Flights.{Flight, is_none}
-use Rattle.spec_engine.specs.Chunks.{Chunk, Engine, Stepping, Cutting, cut, fresh, is_open, new_engine, squash, step}
+use Rattle.spec_engine.specs.Chunks.{Chunk, Engine, Stepping, Cutting, cut, fresh, is_open, may_follow, new_engine, squash, step}
 use Rattle.dl_chunk.specs.declared.pair.Which.{Which}
 
 -- for how many instructions and words each chunk has room, for how many chunks there is room, 1 or 2, and the chunks
@@ -38,17 +38,10 @@ with_younger ch p = record p { younger = Some ch }
 
 -- ---- a younger chunk begins
 
--- one may begin after a chunk that was closed so
-abbrev pub can_be_followed : Option How → Bool
-can_be_followed None = false
-can_be_followed (Some How.Limit) = true
-can_be_followed (Some How.Serial) = false
-can_be_followed (Some How.Overflow) = true
-can_be_followed (Some How.Cut) = true
-
--- a step begins a younger chunk: there is room for one, and none, and one may follow the older
+-- a step begins a younger chunk: there is room for one, and none, and one may follow the older, unless that is a piece of a
+-- replayed commit, which the pair can't tell
 abbrev pub begins_younger : Pair → Bool
-begins_younger p = nat_lt 1 p.depth && is_none p.younger && can_be_followed p.older.closed
+begins_younger p = nat_lt 1 p.depth && is_none p.younger && may_follow false p.older.closed
 
 -- the chunk that follows an older one: it begins from the state that the older one's commit will leave
 abbrev pub following : (limit : ℕ) → Chunk → Chunk

@@ -1,10 +1,9 @@
 //! The chunks of one core: an older, and at depth 2 at most one younger of the same thread, which runs before the older has
 //! committed. `new` makes room for them; no other call takes memory.
-ghost use Rattle.std.specs.Prelude.{◌≡◌, ◌+◌, ◌≤◌, ◌<◌, ◌^◌, true, not, IfOk, IsSome, option_map};
-ghost use Rattle.spec_engine.specs.Chunks.{fresh};
+ghost use Rattle.std.specs.Prelude.{◌≡◌, ◌+◌, ◌≤◌, ◌<◌, ◌^◌, false, true, not, IfOk, IsSome, option_map};
+ghost use Rattle.spec_engine.specs.Chunks.{fresh, may_follow};
 ghost use Rattle.spec_engine.specs.Flights.{is_none};
 ghost use Rattle.spec_engine.specs.Signatures.{is_size, nothing};
-ghost use Rattle.dl_chunk.specs.Pairs.{can_be_followed};
 
 use crate::base::Laid;
 use crate::chunk::Chunk;
@@ -103,7 +102,7 @@ impl<G: Sig> Pair<G> {
     pub fn begins_younger(&self) -> bool
         ensures { result ≡ begins_younger self.now }
     {
-        self.younger().is_none() && self.second.is_some() && can_be_followed(self.older.closed())
+        self.younger().is_none() && self.second.is_some() && may_follow(self.older.closed())
     }
 
     /// Runs one instruction of the older chunk while that is open, else of the younger one, which is begun with this limit if
@@ -209,9 +208,9 @@ impl<G: Sig> Pair<G> {
     }
 }
 
-// Whether a younger chunk may begin after one that was closed so.
-fn can_be_followed(closed: Option<How>) -> bool
-    ensures { result ≡ can_be_followed closed }
+// Whether a younger chunk may follow one that was closed so, unless that is a piece of a replayed commit.
+fn may_follow(closed: Option<How>) -> bool
+    ensures { result ≡ may_follow false closed }
 {
     match closed {
         Some(How::Limit | How::Overflow | How::Cut) => true,

@@ -3,15 +3,15 @@ ghost use Rattle.std.specs.Prelude.{◌≡◌, ◌≤◌, Some, IfOk, IfErr, OnO
 ghost use Rattle.dl_files.specs.Contents.{Contents};
 ghost use Rattle.dl_words.specs.Commands.{interval_view};
 ghost use Rattle.spec_program.specs.commands.Interval.{finish, outcome};
-ghost use Rattle.spec_program.specs.Operands.{pair_reads};
+ghost use Rattle.spec_program.specs.Operands.{playback_reads};
 ghost use Rattle.dl_gather.specs.Halts.{Halts, IsNotUsage};
-ghost use Rattle.dl_gather.specs.Inputs.{pair_view};
+ghost use Rattle.dl_gather.specs.Inputs.{playback_view};
 ghost use Rattle.dl_commands.specs.Jobs.{IsJobOf, finish_of};
 
 use crate::job::{Job, said};
 use dl_entry::{End, OutOfMemory};
 use dl_files::Files;
-use dl_gather::{Halt, PairRead, read_pair};
+use dl_gather::{Halt, PlaybackRead, read_playback};
 use dl_trail::Trail;
 use dl_words::Interval;
 use std::alloc::Global;
@@ -25,18 +25,18 @@ pub fn tell_interval<F: Files>(
     ensures job { IfOk result (λ job. (m : Contents) → (F.seen files.old).known ≡ Some m
         → IsJobOf (outcome m (interval_view asked.now)) job) }
     ensures halt { IfErr result (Halts (λ m. outcome m (interval_view asked.now))
-        (λ m. pair_reads (interval_view asked.now).pair) (F.seen files.old) (F.seen files.new)) }
+        (λ m. playback_reads (interval_view asked.now).playback) (F.seen files.old) (F.seen files.new)) }
     ensures usage { IfErr result IsNotUsage }
     ensures same { OnOk result (F.seen files.new ≡ F.seen files.old) }
 {
-    let read = read_pair(alloc, files, &asked.pair)?;
+    let read = read_playback(alloc, files, &asked.playback)?;
     Ok(tell_read(alloc, &read, asked)?)
 }
 
 // A state is kept after so many commits each, and the slice starts from the nearest one.
-fn tell_read(alloc: Global, read: &PairRead, asked: &Interval<'_>) -> Result<Job, OutOfMemory>
+fn tell_read(alloc: Global, read: &PlaybackRead, asked: &Interval<'_>) -> Result<Job, OutOfMemory>
     requires { asked.now.from ≤ asked.now.to }
-    ensures { IfOk result (λ job. finish_of job ≡ finish (interval_view asked.now) (pair_view read.now)) }
+    ensures { IfOk result (λ job. finish_of job ≡ finish (interval_view asked.now) (playback_view read.now)) }
 {
     let trail = Trail::new(alloc, &read.image, &read.log, asked.every)?;
     let slice = trail.slice(asked.from, asked.to)?;

@@ -17,6 +17,7 @@ use crate::making::make_image;
 use crate::migrating::migrate;
 use crate::plans::run_plan;
 use crate::querying::answer_query;
+use crate::tails::play_tail;
 use crate::walking::walk_log;
 use dl_files::Files;
 use dl_gather::{Halt, usage_line};
@@ -64,9 +65,10 @@ fn compute_command<F: Files>(
     match command {
         Command::Run { plan } => run_plan(alloc, files, plan),
         Command::Inspect { log } => inspect(alloc, files, log),
-        Command::Walk(pair) => walk_log(alloc, files, &pair),
+        Command::Walk(playback) => walk_log(alloc, files, &playback),
         Command::Query(query) => answer_query(alloc, files, &query),
         Command::Interval(asked) => tell_interval(alloc, files, &asked),
+        Command::Tail { name } => play_tail(alloc, files, name),
         Command::Make { number, name } => Ok(make_image(alloc, number, name)?),
         Command::Drill { number } => Ok(drill_number(alloc, number)?),
         Command::Asm { source, name } => assemble_source(alloc, files, source, name),

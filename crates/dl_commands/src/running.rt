@@ -1,13 +1,14 @@
 //! Running: the machine takes the schedule to its end, and what it comes to is put into texts.
-ghost use Rattle.std.specs.Prelude.{◌≡◌, List, IfOk, length, map};
+ghost use Rattle.std.specs.Prelude.{◌≡◌, ◌<◌, List, IfOk, length, map};
 ghost use Rattle.dl_machine.specs.Setups.{IsWithin, setup_in};
+ghost use Rattle.dl_plan.specs.declared.Product.{Product};
 ghost use Rattle.dl_plan.specs.Values.{plan_view};
 ghost use Rattle.dl_plan.specs.Views.{output_view};
 ghost use Rattle.dl_run.specs.Ran.{IsOver};
 ghost use Rattle.dl_run.specs.Schedules.{AreFew, events_in};
 ghost use Rattle.spec_protocol.specs.declared.event.Event.{Event};
-ghost use Rattle.spec_program.specs.Runs.{product_for};
-ghost use Rattle.spec_program.specs.Writes.{filled, is_log};
+ghost use Rattle.spec_program.specs.Runs.{is_log, product_for};
+ghost use Rattle.spec_program.specs.Writes.{filled};
 ghost use Rattle.dl_commands.specs.Jobs.{IsRunOf, bytes_in, is_in_pieces, write_of, writes_of};
 ghost use Rattle.dl_commands.specs.Products.{IsProduct, AreProducts};
 
@@ -16,7 +17,8 @@ use crate::writing::{Content, NamedContent};
 use dl_entry::OutOfMemory;
 use dl_machine::Setup;
 use dl_plan::{Output, Plan, Product, outputs_of};
-use dl_run::{Run, Schedule};
+use dl_run::{Run, Schedule, SphereLog};
+use dl_tail::write_tail;
 use std::alloc::Global;
 
 /// The run of a plan's machine over the schedule, which has at most 2^24 events.
@@ -59,7 +61,7 @@ fn writes_to(
 ) -> Result<Vec<NamedContent>, OutOfMemory>
     requires { AreProducts (length run.now.setup.spheres) (map output_view outputs.now) }
     ensures { IfOk result (λ writes. (es : List Event) → IsOver es run.now
-        → writes_of writes.items ≡ map (filled (product_for run.now.setup es)) (map output_view outputs.now)) }
+        → writes_of writes.items ≡ map (filled (product_for run.now.setup es) (is_log run.now.setup)) (map output_view outputs.now)) }
 {
     let mut writes = Vec::new(alloc);
     for output in outputs {
@@ -75,7 +77,7 @@ fn writes_to(
 fn write_to(alloc: Global, output: &Output<'_>, run: &Run) -> Result<NamedContent, OutOfMemory>
     requires { IsProduct (length run.now.setup.spheres) output.now.product }
     ensures { IfOk result (λ write. (es : List Event) → IsOver es run.now
-        → write_of write ≡ filled (product_for run.now.setup es) (output_view output.now)) }
+        → write_of write ≡ filled (product_for run.now.setup es) (is_log run.now.setup) (output_view output.now)) }
 {
     let content = product_of(alloc, output.product, run)?;
     Ok(NamedContent {
@@ -88,12 +90,26 @@ fn product_of(alloc: Global, product: Product, run: &Run) -> Result<Content, Out
     requires { IsProduct (length run.now.setup.spheres) product }
     ensures bytes { IfOk result (λ content. (es : List Event) → IsOver es run.now
         → bytes_in content ≡ product_for run.now.setup es product) }
-    ensures in_pieces { IfOk result (λ content. is_in_pieces content ≡ is_log product) }
+    ensures in_pieces { IfOk result (λ content. is_in_pieces content ≡ is_log run.now.setup product) }
 {
     match product {
-        Product::Log(sphere) => Ok(Content::Log(run.log(sphere)?)),
+        Product::Log(sphere) => log_of(alloc, sphere, run),
         Product::Account(sphere) => Ok(Content::Bytes(run.account(alloc, sphere)?)),
         Product::Console => Ok(Content::Bytes(run.console(alloc)?)),
         Product::Report => Ok(Content::Bytes(run.report(alloc)?)),
+    }
+}
+
+// A log is written in pieces, and a tail at once.
+fn log_of(alloc: Global, sphere: usize, run: &Run) -> Result<Content, OutOfMemory>
+    requires { sphere < length run.now.setup.spheres }
+    ensures bytes { IfOk result (λ content. (es : List Event) → IsOver es run.now
+        → bytes_in content ≡ product_for run.now.setup es (Product.Log sphere)) }
+    ensures in_pieces { IfOk result (λ content. is_in_pieces content ≡ is_log run.now.setup (Product.Log sphere)) }
+{
+    match run.log(alloc, sphere)? {
+        SphereLog::None => Ok(Content::Log(None)),
+        SphereLog::Whole(log) => Ok(Content::Log(Some(log))),
+        SphereLog::Tail(tail) => Ok(Content::Bytes(write_tail(alloc, &tail)?)),
     }
 }

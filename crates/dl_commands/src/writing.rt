@@ -13,7 +13,7 @@ pub struct NamedContent {
 pub enum Content {
     /// These bytes, written at once.
     Bytes(Vec<u8>),
-    /// The bytes of a sphere's log, written in pieces; none where it has no log.
+    /// The bytes of a sphere's whole log, written in pieces; none if it has no log.
     Log(Option<Log>),
 }
 

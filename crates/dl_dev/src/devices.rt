@@ -1,6 +1,6 @@
 //! The devices.
 ghost use Rattle.std.specs.Prelude.{◌≡◌, ◌≤◌, ◌<◌, ◌^◌, ◌++◌, length, drop, slice_get, replicate, [], IfOk, OnOk, OnErr};
-ghost use Rattle.spec_kernel.specs.Devices.{devices_of, input_taken, console_put, pipe_fitting, pipe_put, pipe_first, pipe_taken, random_bytes, random_taken};
+ghost use Rattle.spec_kernel.specs.Devices.{HaveByteInput, devices_of, input_taken, console_put, pipe_fitting, pipe_put, pipe_first, pipe_taken, random_bytes, random_taken};
 ghost use Rattle.spec_kernel.specs.Numbers.{most_input, pipe_count};
 
 use crate::pipe::Pipe;
@@ -31,7 +31,7 @@ impl Model for Devices {
 
     ghost use Rattle.dl_dev.specs.Invariant.{AreDevices};
 
-    ghost invariant = { λ d. AreDevices d.input.items d.taken d.words };
+    ghost invariant = { λ d. AreDevices d.input.items d.taken d.pipes d.words };
 }
 
 impl Devices {
@@ -62,6 +62,7 @@ impl Devices {
     pub fn input_left(&self) -> u32
         ensures value { result ≡ length self.now.input }
         ensures few { result ≤ most_input }
+        ensures bytes { HaveByteInput self.now }
     {
         (self.input.len() - self.taken) as u32
     }

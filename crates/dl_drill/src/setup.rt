@@ -20,6 +20,7 @@ pub fn recording_setup(alloc: Global, number: u32) -> Result<Setup, OutOfMemory>
     let role = Role::Record {
         version: 1,
         mode: ModeName::OrderOnly,
+        epochs: None,
     };
     let spheres = one_sphere(alloc, number, role)?;
     Ok(Setup {

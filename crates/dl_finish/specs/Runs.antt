@@ -5,13 +5,12 @@ use Rattle.spec_protocol.specs.machine.World.{World}
 use Rattle.spec_protocol.specs.machine.Machine.{ReplaySetup, IsReplayed, SphereSetup, Setup}
 use Rattle.spec_finishing.specs.Ending.{Ends}
 use Rattle.spec_finishing.specs.Finished.{HasPlayed}
-use Rattle.spec_finishing.specs.Function.{finishing_of, finished}
+use Rattle.spec_finishing.specs.Function.{finishing_of}
 use Rattle.dl_machine.specs.Events.{wants_memory}
 use Rattle.dl_machine.specs.Runs.{IsRun}
 
 -- the events that finish the run have happened, all of them and no others, and each replay has done all that was asked for
 pub record HasEnded (s : Setup) (es : List Event) (w : World) : Type 0 where
-  pub world : w ≡ finished s es
   pub run : IsRun s (es ++ finishing_of s es) w
   pub ends : Ends s es (finishing_of s es)
   pub events : w.counts.events ≡ length es + length (finishing_of s es)

@@ -1,19 +1,20 @@
 -- The logs of recorded spheres can have the plan's chunks, and what is replayed is in order: as planned, as read, and as set up.
 use Rattle.std.proofs.Common.{◌≡◌, ℕ, zero, suc, ◌<◌, ◌≤◌, ◌⊎◌, inl, inr, List, [], ◌∷◌, ◌++◌, length, map, get_or, Option, Some, None, Result, Ok, All, refl, sym, subst, arith}
+use Rattle.std.specs.Prelude.{IfSome, option_map}
 use Rattle.std.proofs.lemmas.List.Elements.{All-nil, All-cons}
 use Rattle.dl_elf.specs.Images.{Image}
 use Rattle.dl_plan.specs.declared.Sphere.{Sphere}
 use Rattle.dl_plan.specs.Limits.{longest_chunk}
-use Rattle.dl_plan.specs.Values.{RoleValues, Plain, Record, Replay, SphereValues, PlanValues, IsPlan, IsRole, AreRoles, CanHave, CanAllHave, AreOrdered as ArePlannedInOrder, IsOrdered as IsPlannedInOrder, AreAllOrdered as AllPlannedInOrder, sphere_view as planned}
+use Rattle.dl_plan.specs.Values.{EpochValues, AreEpochs, CanBeInEpochs, CanAllBeInEpochs, RoleValues, Plain, Record, Replay, SphereValues, PlanValues, IsPlan, IsRole, AreRoles, CanHave, CanAllHave, AreOrdered as ArePlannedInOrder, IsOrdered as IsPlannedInOrder, AreAllOrdered as AllPlannedInOrder, sphere_view as planned}
 use Rattle.dl_sphere.specs.Setups.{IsRecordableIf}
 use Rattle.spec_log.specs.declared.ModeName.{ModeName}
 use Rattle.spec_play.specs.Intervals.{AreOrdered}
-use Rattle.spec_program.specs.Built.{bad_log, mode_named, record_setup, role_of, sphere_of, spheres_of}
+use Rattle.spec_program.specs.Built.{bad_log, epoch_setup, mode_named, record_setup, role_of, sphere_of, spheres_of}
 use Rattle.spec_program.specs.Files.{ReplayInputs, RoleRead, PlainRead, RecordRead, ReplayRead, SphereRead}
 use Rattle.spec_program.specs.Stages.{Refused, refusing}
 use Rattle.spec_program.proofs.Made.{then_ok}
-use Rattle.spec_protocol.specs.machine.Machine.{RoleSetup, IsPlain, IsRecorded, SphereSetup}
-use Rattle.spec_protocol.specs.promises.Sound.{IsRecordable}
+use Rattle.spec_protocol.specs.machine.Machine.{EpochSetup, RoleSetup, IsPlain, IsRecorded, SphereSetup}
+use Rattle.spec_protocol.specs.promises.Sound.{AreEpochsIf, IsRecordable}
 use Rattle.dl_gather.specs.declared.inputs.SphereInputs.{SphereInputs}
 use Rattle.dl_gather.specs.Inputs.{IsPlannedRole, IsReadRole, ArePlannedRoles, AreReadRoles, sphere_view}
 use Rattle.dl_gather.specs.Intervals.{IsOrdered, AreAllOrdered}
@@ -27,29 +28,37 @@ one_or_two (suc zero) least most = inl refl
 one_or_two (suc (suc zero)) least most = inr refl
 one_or_two (suc (suc (suc version))) least most = absurd (omega arith)
 
-by_version : (s version : ℕ) (mode : ModeName) → (version ≡ 1) ⊎ (version ≡ 2) → 16 ≤ s → s ≤ longest_chunk version → IsRecordable s (record { version = version; mode = mode })
-by_version s version mode (inl one) least most =
-    subst (λ (v : ℕ). s ≤ longest_chunk v → IsRecordable s (record { version = v; mode = mode })) (sym one) (λ m. (inl (refl, refl), (least, m))) most
-by_version s version mode (inr two) least most =
-    subst (λ (v : ℕ). s ≤ longest_chunk v → IsRecordable s (record { version = v; mode = mode })) (sym two) (λ m. (inr (refl, inr refl), (least, m))) most
+by_version : (s version : ℕ) (mode : ModeName) (epochs : Option EpochSetup) → (version ≡ 1) ⊎ (version ≡ 2) → 16 ≤ s → s ≤ longest_chunk version → AreEpochsIf version epochs → IsRecordable s (record { version = version; mode = mode; epochs = epochs })
+by_version s version mode epochs (inl one) least most are =
+    subst (λ (v : ℕ). s ≤ longest_chunk v → AreEpochsIf v epochs → IsRecordable s (record { version = v; mode = mode; epochs = epochs })) (sym one) (λ m a. (inl (refl, refl), (least, m), a)) most are
+by_version s version mode epochs (inr two) least most are =
+    subst (λ (v : ℕ). s ≤ longest_chunk v → AreEpochsIf v epochs → IsRecordable s (record { version = v; mode = mode; epochs = epochs })) (sym two) (λ m a. (inr (refl, inr refl), (least, m), a)) most are
+
+-- the epochs of a plan are within their limits
+epochs_planned : (version : ℕ) (epochs : Option EpochValues) → IfSome epochs AreEpochs → IfSome epochs (λ e. version ≡ 2) → AreEpochsIf version (option_map epoch_setup epochs)
+epochs_planned version None are two = tt
+epochs_planned version (Some e) are two =
+    record { second = two; least = are.size.0; most = are.size.1; some = are.keep.0; few = are.keep.1 }
 
 numbers_ordered : (from to : Option ℕ) → ArePlannedInOrder from to → AreOrdered from to
 numbers_ordered None to order = tt
 numbers_ordered (Some from) None order = tt
 numbers_ordered (Some from) (Some to) order = order
 
-role_planned : (s : ℕ) (role : RoleValues) → 16 ≤ s → IsRole role → CanHave s role → IsPlannedInOrder role → IsPlannedRole s role
-role_planned s Plain least is can order = tt
-role_planned s (Record values) least is can order = by_version s values.version (mode_named values.mode) (one_or_two values.version is.0 is.1) least can
-role_planned s (Replay values) least is can order = numbers_ordered values.from values.to order
+role_planned : (s : ℕ) (role : RoleValues) → 16 ≤ s → IsRole role → CanHave s role → IsPlannedInOrder role → CanBeInEpochs role → IsPlannedRole s role
+role_planned s Plain least is can order epochs = tt
+role_planned s (Record values) least is can order epochs =
+    by_version s values.version (mode_named values.mode) (option_map epoch_setup values.epochs) (one_or_two values.version is.0 is.1) least can (epochs_planned values.version values.epochs is.2 epochs)
+role_planned s (Replay values) least is can order epochs = numbers_ordered values.from values.to order
 
-roles_planned : (s : ℕ) (spheres : List SphereValues) → 16 ≤ s → AreRoles spheres → CanAllHave s spheres → AllPlannedInOrder spheres → ArePlannedRoles s spheres
-roles_planned s [] least are can order = tt
-roles_planned s (x ∷ xs) least are can order = (role_planned s x.role least are.0 can.0 order.0, roles_planned s xs least are.1 can.1 order.1)
+roles_planned : (s : ℕ) (spheres : List SphereValues) → 16 ≤ s → AreRoles spheres → CanAllHave s spheres → AllPlannedInOrder spheres → CanAllBeInEpochs spheres → ArePlannedRoles s spheres
+roles_planned s [] least are can order epochs = tt
+roles_planned s (x ∷ xs) least are can order epochs =
+    (role_planned s x.role least are.0 can.0 order.0 epochs.0, roles_planned s xs least are.1 can.1 order.1 epochs.1)
 
 -- so it is of each sphere of a plan
 pub plan_recordable : (p : PlanValues) → IsPlan p → ArePlannedRoles p.sizes.chunk p.spheres
-plan_recordable p is = roles_planned p.sizes.chunk p.spheres is.numbers.sizes.chunk.0 is.numbers.roles is.chunk is.order
+plan_recordable p is = roles_planned p.sizes.chunk p.spheres is.numbers.sizes.chunk.0 is.numbers.roles is.chunk is.order is.epochs
 
 -- ---- as read
 

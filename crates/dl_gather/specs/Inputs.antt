@@ -1,18 +1,18 @@
 -- What a plan has read, as the definitions see it, and what is true of it.
-use Rattle.std.specs.Prelude.{◌≡◌, ℕ, ◌≤◌, ◌^◌, ⊤, List, map, length, IfOk}
+use Rattle.std.specs.Prelude.{◌≡◌, ℕ, ◌≤◌, ◌^◌, ⊤, List, map, length, option_map, IfOk}
 use Rattle.std.specs.List.{AllByRecursion}
 use Rattle.dl_logio.specs.Files.{read_view}
 use Rattle.dl_scriptio.specs.Files.{read_view as script_view}
-use Rattle.dl_plan.specs.Values.{PlanValues, RoleValues, Plain, Record, Replay, SphereValues, IsMemory}
+use Rattle.dl_plan.specs.Values.{PlanValues, RecordValues, RoleValues, Plain, Record, Replay, SphereValues, IsMemory, epochs_view}
 use Rattle.spec_play.specs.Intervals.{AreOrdered}
 use Rattle.spec_protocol.specs.promises.Sound.{IsRecordable}
-use Rattle.spec_program.specs.Built.{mode_named, record_setup}
-use Rattle.spec_program.specs.Files.{ScheduleRead, ScriptRead, EventsDrawn, RoleRead, PlainRead, RecordRead, ReplayRead, SphereRead, PlanRead}
+use Rattle.spec_program.specs.Built.{record_setup}
+use Rattle.spec_program.specs.Files.{ScheduleRead, ScriptRead, EventsDrawn, RecordInputs, RoleRead, PlainRead, RecordRead, ReplayRead, SphereRead, PlanRead}
 use Rattle.dl_gather.specs.declared.inputs.ScheduleInputs.{ScheduleInputs}
 use Rattle.dl_gather.specs.declared.inputs.RoleInputs.{RoleInputs}
 use Rattle.dl_gather.specs.declared.inputs.SphereInputs.{SphereInputs}
 use Rattle.dl_gather.specs.declared.inputs.Inputs.{Inputs}
-use Rattle.dl_gather.specs.declared.inputs.PairRead.{PairRead}
+use Rattle.dl_gather.specs.declared.inputs.PlaybackRead.{PlaybackRead}
 use Rattle.spec_program.specs.Operands as operands
 
 abbrev pub schedule_view : ScheduleInputs → ScheduleRead
@@ -21,7 +21,8 @@ schedule_view (ScheduleInputs.Drawn events) = EventsDrawn events
 
 abbrev pub role_view : RoleInputs → RoleRead
 role_view RoleInputs.Plain = PlainRead
-role_view (RoleInputs.Record version mode) = RecordRead (record { version = version; mode = mode })
+role_view (RoleInputs.Record version mode epochs) =
+    RecordRead (record { version = version; mode = mode; epochs = option_map epochs_view epochs })
 role_view (RoleInputs.Replay log from to) = ReplayRead (record { log = read_view log; from = from; to = to })
 
 abbrev pub sphere_view : SphereInputs → SphereRead
@@ -31,8 +32,8 @@ abbrev pub inputs_view : Inputs → PlanRead
 inputs_view r = record { schedule = schedule_view r.schedule; input = r.input.items; spheres = map sphere_view r.spheres.items }
 
 -- an image and a log
-abbrev pub pair_view : PairRead → operands.PairRead
-pair_view p = record { image = p.image; log = p.log }
+abbrev pub playback_view : PlaybackRead → operands.PlaybackRead
+playback_view p = record { image = p.image; log = p.log }
 
 -- ---- what is true of them
 
@@ -45,11 +46,15 @@ IsScheduleRead (EventsDrawn events) = events ≤ 2 ^ 24
 abbrev pub HaveMemories : List SphereRead → Type 0
 HaveMemories spheres = AllByRecursion (λ (s : SphereRead). IsMemory s.memory) spheres
 
+-- what a recording has read is what is planned of it
+abbrev pub recorded_as : RecordValues → RecordInputs
+recorded_as values = record { version = values.version; mode = values.mode; epochs = values.epochs }
+
 -- the log of what is recorded, as planned or as read, can have standard chunks of s instructions; of what is replayed, the
 -- first commit isn't after the last
 abbrev pub IsPlannedRole : (s : ℕ) → RoleValues → Type 0
 IsPlannedRole s Plain = ⊤
-IsPlannedRole s (Record values) = IsRecordable s (record { version = values.version; mode = mode_named values.mode })
+IsPlannedRole s (Record values) = IsRecordable s (record_setup (recorded_as values))
 IsPlannedRole s (Replay values) = AreOrdered values.from values.to
 
 abbrev pub IsReadRole : (s : ℕ) → RoleRead → Type 0

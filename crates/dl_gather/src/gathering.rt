@@ -137,9 +137,15 @@ fn read_role<F: Files>(alloc: Global, files: &mut F, role: &Role) -> Result<Role
 {
     match role {
         Role::Plain => Ok(RoleInputs::Plain),
-        Role::Record { mode, version, .. } => Ok(RoleInputs::Record {
+        Role::Record {
+            mode,
+            version,
+            epochs,
+            ..
+        } => Ok(RoleInputs::Record {
             version: *version,
             mode: *mode,
+            epochs: *epochs,
         }),
         Role::Replay { log, from, to } => {
             let log = read_log(alloc, files, log.as_str())?;

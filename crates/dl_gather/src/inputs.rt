@@ -2,7 +2,7 @@
 use dl_elf::Image;
 use dl_logfmt::Log;
 use dl_logio::LogRead;
-use dl_plan::Mode;
+use dl_plan::{Epochs, Mode};
 use dl_scriptio::ScriptRead;
 
 /// What a plan has read.
@@ -38,6 +38,7 @@ pub enum RoleInputs {
     Record {
         version: u8,
         mode: Mode,
+        epochs: Option<Epochs>,
     },
     /// What the file of a log says, and which of its commits the plan names: from which on, and up to which.
     Replay {
@@ -49,7 +50,7 @@ pub enum RoleInputs {
 
 /// An image and a log, which is played on it.
 #[derive(Drop)]
-pub struct PairRead {
+pub struct PlaybackRead {
     pub image: Image,
     pub log: Log,
 }

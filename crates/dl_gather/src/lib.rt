@@ -10,19 +10,21 @@ mod inputs;
 mod intervals;
 mod lines;
 mod logs;
-mod pairs;
 mod planning;
+mod playbacks;
 mod reading;
 mod setups;
+mod tails;
 mod task;
 
 pub use halt::Halt;
-pub use inputs::PairRead;
+pub use inputs::PlaybackRead;
 pub use lines::{
     absent_line, assembled_line, fault_line, made_line, migrated_line, source_line, usage_line,
 };
 pub use logs::read_good_log;
-pub use pairs::read_pair;
 pub use planning::load_plan;
+pub use playbacks::read_playback;
 pub use reading::read_file;
+pub use tails::read_good_tail;
 pub use task::{Task, load_task};

@@ -1,7 +1,8 @@
 //! The setups of a plan's spheres.
-ghost use Rattle.std.specs.Prelude.{◌≡◌, All, Ok, IfOk, IfErr, length, map};
-ghost use Rattle.dl_sphere.specs.Setups.{HasBegun, IsBegunAs, role_setup, setup_of as setup_view};
-ghost use Rattle.spec_program.specs.Built.{mode_named, role_of, sphere_of, spheres_of};
+ghost use Rattle.std.specs.Prelude.{◌≡◌, All, Ok, IfOk, IfErr, length, map, option_map};
+ghost use Rattle.dl_plan.specs.Values.{epochs_view};
+ghost use Rattle.dl_sphere.specs.Setups.{HasBegun, IsBegunAs, epoch_setup as epochs_in, role_setup, setup_of as setup_view};
+ghost use Rattle.spec_program.specs.Built.{epoch_setup, mode_named, role_of, sphere_of, spheres_of};
 ghost use Rattle.dl_gather.specs.Halts.{Refuses};
 ghost use Rattle.dl_gather.specs.Inputs.{role_view, sphere_view};
 ghost use Rattle.dl_gather.specs.Intervals.{AreAllOrdered, IsOrdered, sphere_on};
@@ -13,7 +14,7 @@ use crate::logs::good_log;
 use dl_elf::Image;
 use dl_logfmt::ModeName;
 use dl_plan::Mode;
-use dl_sphere::{Replay, Role, SphereSetup};
+use dl_sphere::{Epochs, Replay, Role, SphereSetup};
 use std::alloc::Global;
 
 /// Each sphere with its image and its role; the first log that has a bad field is refused.
@@ -71,15 +72,33 @@ fn role_of(alloc: Global, number: usize, image: &Image, role: RoleInputs) -> Res
 {
     match role {
         RoleInputs::Plain => Ok(Role::Plain),
-        RoleInputs::Record { version, mode } => Ok(Role::Record {
+        RoleInputs::Record {
+            version,
+            mode,
+            epochs,
+        } => Ok(Role::Record {
             version,
             mode: mode_named(mode),
+            epochs: epochs_of(epochs),
         }),
         RoleInputs::Replay { log, from, to } => {
             let log = good_log(alloc, number, log)?;
             let begun = begun_of(alloc, image, &log, interval_of(from, to, log.parts().count))?;
             Ok(Role::Replay(Replay { log, begun }))
         }
+    }
+}
+
+// The epochs, as a sphere has them.
+fn epochs_of(epochs: Option<dl_plan::Epochs>) -> Option<Epochs>
+    ensures { option_map epochs_in result ≡ option_map epoch_setup (option_map epochs_view epochs) }
+{
+    match epochs {
+        Some(epochs) => Some(Epochs {
+            size: epochs.size,
+            keep: epochs.keep,
+        }),
+        None => None,
     }
 }
 

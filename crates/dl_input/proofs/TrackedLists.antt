@@ -7,9 +7,9 @@ use Rattle.std.proofs.lemmas.Option.{none-some}
 use Rattle.dl_input.specs.declared.interrupts.Raised.{Raised}
 use Rattle.spec_log.specs.Reading.{is_earlier}
 use Rattle.dl_moments.specs.declared.lane.Mark.{Mark}
-use Rattle.dl_moments.specs.Marks.{with_mark, value_at}
+use Rattle.dl_moments.specs.Marks.{with_mark, lanes_from, value_at}
 use Rattle.dl_moments.proofs.Entries as entries
-use Rattle.dl_input.specs.Tracked.{Tracked, tracked_of, tracked_from, raised_at, insert_tracked, interrupt_of}
+use Rattle.dl_input.specs.Tracked.{Tracked, tracked_of, tracked_from, raised_at, insert_tracked, interrupt_of, tracked_since}
 use Rattle.spec_log.specs.Noting.{insert_interrupt}
 
 -- an interrupt put into its thread's lane is inserted into the list
@@ -20,6 +20,10 @@ insert-put = entries.insert-put (λ s. s.thread) (λ s. s.index) tracked_of (λ 
 -- what was raised at an index of a thread's lane is found in the list
 pub raised_at-at : (lanes : List (List (Mark Raised))) (t i : ℕ) → value_at i (get_or lanes t []) ≡ raised_at (tracked_from 0 lanes) t i
 raised_at-at = entries.value-found (λ s. s.thread) (λ s. s.index) tracked_of (λ t m. refl) (λ t m. refl) (λ s. s.raised) (λ t m. refl)
+
+-- what is left of each thread's lane from its start on is left of the list
+pub tracked_from-cut : (starts : List ℕ) (lanes : List (List (Mark Raised))) → tracked_from 0 (lanes_from starts 0 lanes) ≡ tracked_since starts (tracked_from 0 lanes)
+tracked_from-cut starts lanes = entries.filter-from (λ s. s.thread) (λ s. s.index) tracked_of (λ t m. refl) (λ t m. refl) starts 0 lanes
 
 -- a place among a thread's entries is one of its lane
 pub slice_get-lane : (lane : List (Mark Raised)) (rest : List Tracked) (t i : ℕ) (d : Mark Raised) → i < length lane

@@ -1,6 +1,8 @@
 -- The data of DMAs by their positions.
-use Rattle.std.specs.Prelude.{◌≡◌, ℕ, slice_set, slice_index_or, ◌<◌, ◌==◌, Bool, true, List, [], ◌∷◌, length, Option, Some, None, if◌then◌else◌}
-use Rattle.std.specs.List.{AllAdjacentBelow}
+use Rattle.std.specs.Prelude.{◌≡◌, ℕ, slice_set, slice_index_or, ◌<◌, ◌==◌, Bool, true, List, [], ◌∷◌, length, Option, Some, None}
+use Rattle.std.specs.Prelude.{if◌then◌else◌}
+use Rattle.std.specs.Prelude.{nat_le}
+use Rattle.std.specs.List.{AllAdjacentBelow, filter}
 use Rattle.spec_log.specs.declared.records.DmaRecord.{DmaRecord}
 
 -- each position is lower than the next
@@ -11,6 +13,10 @@ Rises dmas = AllAdjacentBelow (λ x y. x.position < y.position) dmas (length dma
 abbrev pub bytes_at : ℕ → List DmaRecord → Option (List ℕ)
 bytes_at position [] = None
 bytes_at position (dma ∷ dmas) = if dma.position == position then Some dma.bytes else bytes_at position dmas
+
+-- those from a position on
+abbrev pub dmas_from : ℕ → List DmaRecord → List DmaRecord
+dmas_from position dmas = filter (λ dma. nat_le position dma.position) dmas
 
 -- the marks, with that of a position set
 abbrev pub taken_at : ℕ → List DmaRecord → List Bool → List Bool

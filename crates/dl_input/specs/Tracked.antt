@@ -1,5 +1,7 @@
 -- Interrupts by thread and index, and whether each was taken.
 use Rattle.std.specs.Prelude.{ℕ, ◌==◌, Bool, true, false, ◌&&◌, List, find, Option, Some, None, option_map}
+use Rattle.std.specs.Prelude.{nat_le, slice_index}
+use Rattle.std.specs.List.{filter}
 use Rattle.spec_log.specs.declared.records.Interrupt.{Interrupt}
 use Rattle.spec_log.specs.Noting.{insert_by}
 use Rattle.dl_moments.specs.declared.lane.Mark.{Mark}
@@ -43,6 +45,10 @@ marked thread index (Some raised) entries =
 
 abbrev pub taken_at : ℕ → ℕ → List Tracked → List Tracked
 taken_at thread index entries = marked thread index (raised_at entries thread index) entries
+
+-- each thread's from an index of its own on
+abbrev pub tracked_since : (starts : List ℕ) → List Tracked → List Tracked
+tracked_since starts entries = filter (λ s. nat_le (slice_index starts s.thread) s.index) entries
 
 -- the interrupts by thread and index, and whether there is room for one more
 pub record Noted : Type 0 where

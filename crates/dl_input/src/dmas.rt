@@ -1,11 +1,12 @@
 //! The data of DMAs by their positions.
-ghost use Rattle.std.specs.Prelude.{◌≡◌, ℕ, ◌-◌, ◌<◌, ◌≤◌, false, [], ◌∷◌, ◌++◌, None, Some, length, slice_index_or, IfOk, IsOk, IsTrue, MatchOption};
-ghost use Rattle.std.specs.Prelude.{OnOk, OnErr};
+ghost use Rattle.std.specs.Prelude.{◌≡◌, ℕ, ◌-◌, ◌<◌, ◌≤◌, false, [], ◌∷◌, ◌++◌, None, Some, length, slice_index_or, IfOk, IsOk};
+ghost use Rattle.std.specs.Prelude.{IsTrue, MatchOption};
+ghost use Rattle.std.specs.Prelude.{OnOk, OnErr, drop};
 ghost use Rattle.dl_entry.specs.Numbers.{most_bytes};
 ghost use Rattle.std.specs.List.{list_all};
 ghost use Rattle.std.specs.Slice.{IsItemAt};
 ghost use Rattle.spec_log.specs.declared.records.DmaRecord.{DmaRecord as Record};
-ghost use Rattle.dl_input.specs.Dmas.{Rises, bytes_at, taken_at, Stands, Misses};
+ghost use Rattle.dl_input.specs.Dmas.{Rises, bytes_at, taken_at, dmas_from, Stands, Misses};
 
 use crate::copied::copied;
 use dl_entry::{Bytes, MOST_BYTES, OutOfMemory, Sequence};
@@ -108,6 +109,17 @@ impl Dmas {
         if let Some(place) = place_of(&self.entries, position) {
             self.taken[place] = true;
         }
+    }
+
+    /// Drops those at positions below this one, taken or not.
+    pub fn forget(&mut self, position: u32)
+        ensures dmas { self.new.dmas ≡ dmas_from position self.old.dmas }
+        ensures taken { self.new.taken ≡ drop (length self.old.dmas - length self.new.dmas) self.old.taken }
+        ensures room { IsTrue self.old.room → IsTrue self.new.room }
+    {
+        let place = lowest(&self.entries, position);
+        self.entries.drain(..place);
+        self.taken.drain(..place);
     }
 
     /// A copy of all.

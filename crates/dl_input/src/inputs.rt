@@ -1,5 +1,5 @@
 //! Inputs in the order of commits.
-ghost use Rattle.std.specs.Prelude.{◌≡◌, ◌==◌, ◌≤◌, [], ◌∷◌, ◌++◌, length, IfOk, IsOk, IsTrue, OnOk, OnErr};
+ghost use Rattle.std.specs.Prelude.{◌≡◌, ◌-◌, ◌^◌, ◌==◌, ◌<◌, ◌≤◌, [], ◌∷◌, ◌++◌, length, drop, IfOk, IsOk, IsTrue, OnOk, OnErr};
 ghost use Rattle.dl_entry.specs.Numbers.{most_bytes};
 ghost use Rattle.std.specs.Slice.{IsItemAt};
 ghost use Rattle.dl_input.specs.Inputs.{one_taken};
@@ -96,11 +96,30 @@ impl Inputs {
         }
     }
 
+    /// Drops the first `n` inputs, taken or not, or all if there are fewer.
+    pub fn forget(&mut self, n: u32)
+        ensures inputs { self.new.inputs ≡ drop n self.old.inputs }
+        ensures taken { self.new.taken ≡ self.old.taken - n }
+        ensures room { IsTrue self.old.room → IsTrue self.new.room }
+    {
+        let n = (n as usize).min(self.entries.len());
+        self.entries.drain(..n);
+        self.taken = self.taken.saturating_sub(n);
+    }
+
     /// Whether all are taken.
     pub fn used(&self) -> bool
         ensures { result ≡ (self.now.taken == length self.now.inputs) }
     {
         self.taken == self.entries.len()
+    }
+
+    /// How many there are, taken or not.
+    pub fn len(&self) -> u32
+        requires { length self.now.inputs < 2 ^ 32 }
+        ensures { result ≡ length self.now.inputs }
+    {
+        self.entries.len() as u32
     }
 
     /// The i-th input, from 0, taken or not.

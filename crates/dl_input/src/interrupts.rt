@@ -1,8 +1,10 @@
 //! Interrupts by thread and index.
-ghost use Rattle.std.specs.Prelude.{◌≡◌, ◌^◌, ◌<◌, ◌++◌, [], None, length, map, option_map, slice_get, IfOk, IsOk, IsTrue, OnOk, OnErr};
+ghost use Rattle.std.specs.Prelude.{◌≡◌, ◌^◌, ◌<◌, ◌++◌, [], None, length, map, option_map, slice_get, IfOk, IsOk, IsTrue, OnOk};
+ghost use Rattle.std.specs.Prelude.{OnErr};
 ghost use Rattle.dl_entry.specs.Numbers.{most_threads};
 ghost use Rattle.std.specs.List.{list_all};
 ghost use Rattle.dl_input.specs.Tracked.{tracked_of, new_tracked, raised_at, insert_tracked, interrupt_of, taken_at};
+ghost use Rattle.dl_input.specs.Tracked.{tracked_since};
 
 use dl_entry::{MOST_THREADS, OutOfMemory, Sequence};
 use dl_moments::{Mark, Moments};
@@ -17,8 +19,8 @@ pub struct Raised {
     pub taken: bool,
 }
 
-/// Interrupts by thread, and for one thread by the number of its commits before. They are counted in 32 bits: beyond that
-/// there is no room.
+/// Interrupts by thread, and for one thread by the number of its commits before. All that were noted are counted in 32 bits:
+/// beyond that there is no room.
 #[derive(Debug, Drop)]
 pub struct Interrupts {
     moments: Moments<Raised>,
@@ -27,7 +29,7 @@ pub struct Interrupts {
 
 impl Model for Interrupts {
     ghost use Rattle.dl_entry.specs.Numbers.{most_threads};
-    ghost use Rattle.std.specs.Prelude.{◌≡◌, ◌-◌, ◌^◌, nat_lt, ◌&&◌, length};
+    ghost use Rattle.std.specs.Prelude.{◌≡◌, ◌≤◌, ◌-◌, ◌^◌, nat_lt, ◌&&◌, length};
     ghost use Rattle.dl_input.specs.Tracked.{Noted, tracked_from};
 
     ghost Value = { Noted };
@@ -37,7 +39,7 @@ impl Model for Interrupts {
       room = i.moments.room && nat_lt i.count (2 ^ 32 - 1);
     } };
 
-    ghost invariant = { λ i. (length i.moments.lanes ≡ most_threads) × (i.count ≡ length (tracked_from 0 i.moments.lanes)) };
+    ghost invariant = { λ i. (length i.moments.lanes ≡ most_threads) × (length (tracked_from 0 i.moments.lanes) ≤ i.count) };
 }
 
 impl Interrupts {
@@ -110,6 +112,14 @@ impl Interrupts {
             };
             self.moments.set(thread, index, taken);
         }
+    }
+
+    /// Drops each thread's interrupts below its start, by the number of the thread; a thread without a start keeps all.
+    pub fn forget(&mut self, starts: &[u32])
+        ensures entries { self.new.entries ≡ tracked_since starts.now self.old.entries }
+        ensures room { IsTrue self.old.room → IsTrue self.new.room }
+    {
+        self.moments.forget(starts);
     }
 
     /// Whether all are taken.

@@ -1,8 +1,13 @@
 -- Where a play is between two commits, as the code keeps it.
+use Rattle.std.specs.Prelude.{ℕ, List}
 use Rattle.spec_play.specs.States as play
 use Rattle.dl_kernel.specs.declared.state.State.{State}
 
-abbrev pub state_in : State → play.State
+-- whether the play goes on from it or it is kept, its memory is seen as the bytes
+abbrev pub PlayState : Type 0
+PlayState = State (List ℕ)
+
+abbrev pub state_in : PlayState → play.State
 state_in s =
     record {
       memory = s.memory;

@@ -21,7 +21,7 @@ pub use commits::{chunk_commit, dma_commit, serial_commit};
 pub use copying::{copied, dma_words};
 pub use dl_dev::Devices;
 pub use dl_entry::{Input, OutOfMemory, Request};
-pub use dl_mem::Memory;
+pub use dl_mem::{Memory, Snapshot};
 pub use dl_thread::{Thread, Threads};
 pub use inside::sphere_call;
 pub use outside::{outside_call, outside_record, outside_take};

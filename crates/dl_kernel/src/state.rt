@@ -11,10 +11,11 @@ use spec_play::Used;
 use std::alloc::Global;
 
 /// All that the next commits of a play depend on: the memory, the threads, the outstanding DMA request, the thread that
-/// committed last, the number of whole commits that are done, and how many records of the log they used.
+/// committed last, the number of whole commits that are done, and how many records of the log they used. The memory is a
+/// `Memory` if the play goes on from the state, and a `Snapshot` if the state is kept.
 #[derive(Drop)]
-pub struct State {
-    pub memory: Memory,
+pub struct State<M = Memory> {
+    pub memory: M,
     pub threads: Threads,
     pub request: Option<Request>,
     pub last: Option<u8>,
@@ -43,35 +44,52 @@ impl State {
         }
     }
 
-    /// The same state again. The two share the pages of memory until one of them puts to them.
-    pub fn snapshot(&mut self, alloc: Global) -> Result<State, OutOfMemory>
-        ensures same { IfOk result (λ state. state ≡ self.old) }
+    /// The state as it is now, to be kept while the play goes on. States that are kept one after another share the pages of
+    /// memory to which nothing was put between them.
+    pub fn keep(&mut self) -> Result<State<Snapshot>, OutOfMemory>
+        ensures kept { IfOk result (λ kept. kept ≡ self.old) }
         ensures unchanged { self.new ≡ self.old }
     {
         let memory = self.memory.snapshot()?;
-        self.over(alloc, &memory)
+        Ok(self.over(memory))
     }
 
     /// The same state again, if this one can't be changed. The two share the pages of memory to which nothing was put since
-    /// the last `snapshot`, so all of them if this state is a snapshot itself.
+    /// the last `keep`, so all of them if this state was made by `resumed`.
     pub fn again(&self, alloc: Global) -> Result<State, OutOfMemory>
         ensures { IfOk result (λ state. state ≡ self.now) }
     {
         let memory = self.memory.shared()?;
-        self.over(alloc, &memory)
+        Ok(self.over(Memory::from_snapshot(alloc, &memory)?))
     }
+}
 
-    // This state over the bytes of a snapshot.
-    fn over(&self, alloc: Global, memory: &Snapshot) -> Result<State, OutOfMemory>
-        ensures { IfOk result (λ state. state ≡ record self.now { memory = memory.now }) }
+impl State<Snapshot> {
+    /// The state that was kept, from which the play can go on. It shares the pages of memory until it puts to them.
+    pub fn resumed(&self, alloc: Global) -> Result<State, OutOfMemory>
+        ensures { IfOk result (λ state. state ≡ self.now) }
     {
-        Ok(State {
-            memory: Memory::from_snapshot(alloc, memory)?,
+        Ok(self.over(Memory::from_snapshot(alloc, &self.memory)?))
+    }
+}
+
+impl<M> State<M> {
+    // This state over another memory.
+    fn over<N>(&self, memory: N) -> State<N>
+        ensures memory { result.memory ≡ memory }
+        ensures threads { result.threads ≡ self.now.threads }
+        ensures request { result.request ≡ self.now.request }
+        ensures last { result.last ≡ self.now.last }
+        ensures commits { result.commits ≡ self.now.commits }
+        ensures used { result.used ≡ self.now.used }
+    {
+        State {
+            memory,
             threads: self.threads.again(),
             request: self.request,
             last: self.last,
             commits: self.commits,
             used: self.used,
-        })
+        }
     }
 }

@@ -1,4 +1,4 @@
-//! Where a parser stands, so that what was read behind it can be taken away.
+//! Where a parser stands, so that what was read after it can be taken away.
 ghost use Rattle.std.specs.Prelude.{◌≡◌, take};
 ghost use Rattle.dl_logfmt.specs.Parsing.{cut as cut_back, mark_of};
 
@@ -44,7 +44,7 @@ impl Parser {
         }
     }
 
-    /// Takes away what was read behind the mark.
+    /// Takes away what was read after the mark.
     pub fn cut(&mut self, mark: Mark)
         ensures { self.new ≡ cut_back mark self.old }
     {
@@ -62,7 +62,7 @@ impl Parser {
     }
 }
 
-/// Takes away what stands behind so many entries.
+/// Takes away what comes after so many entries.
 fn cut<T: Drop>(list: &mut Sequence<T>, len: usize)
     ensures { list.new ≡ take len list.old }
 {

@@ -1,4 +1,4 @@
-//! Numbers read from a log's bytes. Each call reads at an offset, which it moves behind what it has read.
+//! Numbers read from a log's bytes. Each call reads at an offset, which it moves past what it has read.
 ghost use Rattle.std.specs.Prelude.{◌≡◌, ◌≢◌, true, false, MatchResult, IfErr};
 ghost use Rattle.dl_logfmt.specs.Answer.{Answers};
 ghost use Rattle.spec_log.specs.Fields.{raw, any};

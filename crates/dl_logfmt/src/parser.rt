@@ -45,7 +45,7 @@ impl Parser {
         }
     }
 
-    /// Reads on as far as the bytes go. An error is a fault that stays whatever follows, or want of memory.
+    /// Reads on as far as the bytes go. An error is a fault that stays whatever follows, or says that memory ran out.
     pub fn feed(&mut self, source: &Source<'_>, at: &mut usize) -> Result<(), LogError>
         requires { at.old ≤ length source.now.bytes.now }
         ensures reads { Feeds source.now.bytes.now self.old at.old result self.new at.new }

@@ -53,7 +53,7 @@ fn is_kind(kind: u8) -> bool
     )
 }
 
-/// The bytes of a record behind their number.
+/// The bytes of a record, after their number.
 pub fn read_counted(source: &Source<'_>, at: &mut usize) -> Result<Bytes, LogError>
     ensures { Answers (counted source.now.bytes.now at.old) result at.new }
 {

@@ -1,4 +1,4 @@
-//! An entry of a section, as it is read behind those before it.
+//! An entry of a section, as it is read after those before it.
 ghost use Rattle.std.specs.Prelude.{◌≡◌, OnErr};
 ghost use Rattle.spec_log.specs.Fields.{comes_after, last, next_entry, one_more};
 ghost use Rattle.dl_logfmt.specs.Answer.{Answers, Makes};

@@ -20,7 +20,7 @@ pub enum StageName {
 }
 
 impl StageName {
-    /// The stage behind this one.
+    /// The stage after this one.
     pub fn next(self) -> StageName
         ensures { result ≡ next self }
     {

@@ -52,7 +52,7 @@ impl<'a> Unit<'a> {
         Unit::new(fixed, &[])
     }
 
-    /// The fixed bytes that are left, and those behind them.
+    /// The fixed bytes that are left, and those after them.
     pub fn parts(&self) -> (&[u8], &'a [u8])
         ensures { self.now ≡ result.0.now ++ result.1.now }
     {

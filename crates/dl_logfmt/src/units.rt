@@ -1,4 +1,4 @@
-//! The units of a log behind its header.
+//! The units of a log after its header.
 ghost use Rattle.std.specs.Prelude.{◌≡◌, ◌++◌};
 ghost use Rattle.spec_log.specs.Bytes.{order_bytes, sizes_bytes, section, interrupt_bytes, input_bytes, dma_bytes};
 ghost use Rattle.spec_log.specs.Log.{IsLog};
@@ -11,7 +11,7 @@ use dl_entry::Input;
 use spec_log::{DmaRecord, Interrupt, LogParts, ShortSize, Sizes};
 use std::marker::Model;
 
-/// What is left of each section, seen as their bytes. One of the two forms of sizes is none.
+/// What is left of each section, seen as their bytes. One of the two forms of sizes is empty.
 #[derive(Drop)]
 pub struct Units<'a> {
     order: OrderLeft<'a>,

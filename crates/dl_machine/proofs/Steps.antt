@@ -9,21 +9,22 @@ use Rattle.spec_isa.specs.declared.thread.Parts.{Parts}
 use Rattle.spec_isa.specs.Words.{lays}
 use Rattle.spec_play.specs.Effects.{counted}
 use Rattle.spec_engine.specs.declared.answers.How.{How}
-use Rattle.spec_engine.specs.Chunks.{Chunk, fresh, is_open, step}
+use Rattle.spec_engine.specs.Chunks.{Chunk, fresh, is_open, step, may_follow}
 use Rattle.spec_engine.specs.Flights.{Flights, at}
 use Rattle.spec_kernel.specs.Devices.{Devices}
 use Rattle.spec_protocol.specs.declared.reply.Reply.{Reply}
 use Rattle.spec_protocol.specs.machine.Placing.{replays}
 use Rattle.spec_protocol.specs.machine.Spheres.{Role, is_stopped, limit_after, limit_after_in}
-use Rattle.spec_protocol.specs.machine.Stepping.{cut_held, cut_in, cutting, may_follow, reply_of_cut, reply_of_step, step_held, step_younger, stepping, younger_afresh, younger_for}
+use Rattle.spec_protocol.specs.machine.Stepping.{cut_held, cut_in, cutting, reply_of_cut, reply_of_step, step_held, step_younger, stepping, younger_afresh, younger_for}
 use Rattle.spec_protocol.specs.machine.World.{EventOutcome, Occupant, World, answered, sphere_at, with_core}
-use Rattle.dl_chunk.specs.Pairs.{Pair, PairCutting, PairStepping, can_step, following, can_be_followed, pair_cut, pair_cut_of, pair_step, runs_younger, younger_or}
+use Rattle.dl_chunk.specs.Pairs.{Pair, PairCutting, PairStepping, can_step, following, pair_cut, pair_cut_of, pair_step, runs_younger, younger_or}
 use Rattle.dl_machine.specs.Cores.{CanStepHeld, Core, pair_in, seen, waits, waits_for, with_pair}
 use Rattle.dl_machine.specs.declared.one_core.Held.{Held as Seen}
 use Rattle.dl_machine.specs.Ready.{HasRoom, IsReady}
 use Rattle.dl_machine.specs.Requests.{Runs}
 use Rattle.dl_machine.specs.Rows.{Cores, Spheres, with_held}
 use Rattle.dl_machine.specs.States.{left, world_in}
+use Rattle.dl_machine.proofs.Worlds.Ready.{sphere_sound}
 use Rattle.dl_machine.proofs.Commits.Able.{few_commits}
 
 -- core c of a world, whose chunks may run so many instructions
@@ -113,7 +114,7 @@ step_by most w c h limit going runs follows =
 
 -- ---- what the pair asks for
 
-followed : (b : Bool) (o : Option How) → may_follow b o ≡ true → can_be_followed o ≡ true
+followed : (b : Bool) (o : Option How) → may_follow b o ≡ true → may_follow false o ≡ true
 followed b None e = absurd (true≢false (sym e))
 followed b (Some How.Limit) e = refl
 followed b (Some How.Serial) e = absurd (true≢false (sym e))
@@ -125,7 +126,7 @@ both true b c f e = f e
 both false b c f e = absurd (true≢false (sym e))
 
 younger_can : (most : ℕ) (w : World) (c : ℕ) (h : Occupant) (y : Option Chunk) (b : Bool) → waits_for w.numbers.depth b h y ≡ false → runs_younger (record (pair_in (core_here most w c) h) { younger = y }) y ≡ true
-younger_can most w c h None b e = both (nat_lt 1 w.numbers.depth) (may_follow b h.chunk.closed) (can_be_followed h.chunk.closed) (followed b h.chunk.closed) (not_false _ e)
+younger_can most w c h None b e = both (nat_lt 1 w.numbers.depth) (may_follow b h.chunk.closed) (may_follow false h.chunk.closed) (followed b h.chunk.closed) (not_false _ e)
 younger_can most w c h (Some y) b e = not_false (is_open y) e
 
 pair_can : (most : ℕ) (w : World) (c : ℕ) (h : Occupant) (b : Bool) → (is_open h.chunk ≡ false → waits w.numbers.depth b h ≡ false) → can_step (pair_in (core_here most w c) h) ≡ true
@@ -140,7 +141,7 @@ few_of : (w : World) (c : ℕ) (h : Occupant) → IsReady w → HasRoom w → at
 few_of w c h ready room is going =
     let g = ready.good.held c h is in
     let few = few_commits w h.chunk.sphere ready room g.sphere going in
-    let own = ((ready.sound.spheres h.chunk.sphere g.sphere).threads h.thread h.chunk.start g.thread.start).few in
+    let own = ((sphere_sound w h.chunk.sphere ready g.sphere).threads h.thread h.chunk.start g.thread.start).few in
     let same = (ready.sound.held c h is).commits in
     omega (arith, few, own, same)
 

@@ -1,24 +1,26 @@
 -- What is promised of a machine that began as a setup and took some events.
-use Rattle.std.specs.Prelude.{◌≡◌, ℕ, true, false, List, length, slice_get, Some}
+use Rattle.std.specs.Prelude.{◌≡◌, ℕ, true, false, List, length, slice_get, Some, None}
 use Rattle.dl_entry.specs.declared.Point.{Point}
 use Rattle.spec_play.specs.Plays.{plays}
 use Rattle.spec_protocol.specs.declared.event.Event.{Event}
 use Rattle.spec_protocol.specs.machine.Spheres.{Recording, Cursor, Record, Replay, Sphere, is_over}
 use Rattle.spec_protocol.specs.machine.Placing.{replays}
-use Rattle.spec_protocol.specs.machine.World.{World}
-use Rattle.spec_protocol.specs.machine.Machine.{last_played, first_played, ReplaySetup, RecordSetup, IsRecorded, IsReplayed, Setup, SphereSetup}
+use Rattle.spec_protocol.specs.machine.World.{World, sphere_at}
+use Rattle.spec_protocol.specs.machine.Machine.{last_played, first_played, ReplaySetup, EpochSetup, RecordSetup, IsRecorded, IsReplayed, Setup, SphereSetup}
 use Rattle.spec_protocol.specs.machine.Serial.{CanDoAll, serial, serial_start}
 use Rattle.spec_protocol.specs.machine.Shown.{shown_of}
-use Rattle.spec_protocol.specs.promises.Promises.{after}
+use Rattle.spec_protocol.specs.promises.Alike.{IsAlike}
+use Rattle.spec_protocol.specs.promises.Kept.{IsKept, Shows, WillKeep}
 use Rattle.spec_protocol.specs.promises.PlayingBack.{PlaysBack}
 use Rattle.spec_protocol.specs.promises.Sound.{IsWithinLimits}
 use Rattle.spec_replay.specs.Following.{Follows}
 use Rattle.spec_replay.specs.Promises.{IsPlayed}
 
--- the setup is within the limits, and these events have come to the world
+-- the setup is within the limits, and the world shows what these events leave: all of it, but for what recordings in epochs
+-- have given up
 pub record IsRun (s : Setup) (es : List Event) (w : World) : Type 0 where
   pub limits : IsWithinLimits s
-  pub here : w ≡ after s es
+  pub here : Shows s es w
 
 -- some setup within the limits and some schedule have led to the world
 pub record HasRun (w : World) : Type 0 where
@@ -27,12 +29,12 @@ pub record HasRun (w : World) : Type 0 where
   pub run : IsRun setup schedule w
 
 -- the plain and recorded spheres, with their current memories, and the devices are those of doing these points whole, one
--- at a time; and each point can be done as it says
+-- at a time, but for what recordings in epochs have given up; and each point can be done as it says
 pub record IsSerial (s : Setup) (w : World) (points : List Point) : Type 0 where
   pub spheres : (i : ℕ) (p : Sphere)
       → slice_get (shown_of w).spheres i ≡ Some p
       → replays p.role ≡ false
-      → slice_get (serial s points).spheres i ≡ Some p
+      → (q : Sphere) × (slice_get (serial s points).spheres i ≡ Some q) × IsAlike p q
   pub devices : w.devices ≡ (serial s points).devices
   pub possible : CanDoAll (serial_start s) points
 
@@ -41,14 +43,18 @@ pub record IsNow (s : Setup) (i : ℕ) (w : World) (image : SphereSetup) (p : Sp
   pub there : slice_get s.spheres i ≡ Some image
   pub shown : slice_get (shown_of w).spheres i ≡ Some p
 
--- where sphere i is recorded, its log so far fits its image and plays back; where it is replayed, it stands in the play of
--- its log, and once it has stopped it has done all that was asked for
+-- if sphere i is recorded, its log so far fits its image and plays back, or it has the end of what its points tell, if it is
+-- recorded in epochs; if it is replayed, it is in the play of its log, and once it has stopped it has done all that was asked for
 pub record IsPromised (s : Setup) (i : ℕ) (w : World) : Type 0 where
   pub recorded : (image : SphereSetup) (asked : RecordSetup) (p : Sphere) (recording : Recording)
       → IsNow s i w image p
       → image.role ≡ IsRecorded asked
+      → asked.epochs ≡ None
       → p.role ≡ Record recording
       → PlaysBack recording.log image p
+  pub kept : (image : SphereSetup) (asked : RecordSetup) (x : EpochSetup)
+      → WillKeep s i image asked x
+      → IsKept s w.points i asked x (sphere_at w i)
   pub replayed : (image : SphereSetup) (asked : ReplaySetup) (p : Sphere)
       → IsNow s i w image p
       → image.role ≡ IsReplayed asked

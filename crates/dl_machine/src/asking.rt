@@ -4,6 +4,7 @@ ghost use Rattle.spec_engine.specs.Flights.{at, is_full};
 ghost use Rattle.spec_engine.specs.Signatures.{line, signed};
 ghost use Rattle.spec_protocol.specs.machine.Asking.{ask_arbiter, asking, asks_serial, grant_chunk, grant_serial, is_short as short_of};
 ghost use Rattle.spec_protocol.specs.machine.Spheres.{is_stopped, turn_against as turn_before};
+ghost use Rattle.spec_protocol.specs.promises.Kept.{NoneIsDue};
 ghost use Rattle.spec_protocol.specs.machine.World.{flown, sphere_at, with_core};
 ghost use Rattle.dl_machine.specs.Cores.{goes_on};
 ghost use Rattle.dl_machine.specs.Events.{passes_checks};
@@ -31,6 +32,7 @@ impl<G: Sig> State<G> {
         requires core { core < length self.old.cores }
         requires ready { IsReady self.old }
         requires room { HasRoom self.old }
+        requires begun { NoneIsDue self.old }
         ensures reply { IfOk result (λ r. r ≡ (asking self.old core).reply) }
         ensures world { OnOk result (self.new ≡ left (asking self.old core)) }
         ensures err { OnErr result (self.new ≡ self.old) }
@@ -64,6 +66,7 @@ impl<G: Sig> State<G> {
         requires good { IsOf self.old held }
         requires closed { IsClosedBy self.old core how }
         requires room { HasRoom self.old }
+        requires begun { NoneIsDue self.old }
         requires going { is_stopped (sphere_at self.old held.sphere).role ≡ false }
         requires turn { turn_before (sphere_at self.old held.sphere) (Actor.Thread held.thread) ≡ None }
         requires window { is_full self.old.slots ≡ false }
@@ -113,6 +116,7 @@ impl<G: Sig> State<G> {
         requires good { IsOf self.old held }
         requires closed { IsClosedBy self.old core how }
         requires room { HasRoom self.old }
+        requires begun { NoneIsDue self.old }
         requires going { is_stopped (sphere_at self.old held.sphere).role ≡ false }
         requires turn { turn_before (sphere_at self.old held.sphere) (Actor.Thread held.thread) ≡ None }
         requires window { is_full self.old.slots ≡ false }
@@ -129,25 +133,17 @@ impl<G: Sig> State<G> {
         let short = is_short(self.spheres.s(), how, limit);
         let moment = self.counts.events;
         let moved = self.spheres.commit_chunk(held.sphere, held.thread, chunk)?;
-        match moved {
-            Moved::Granted(words) => {
-                self.points
-                    .push_reserved(point_of(moment, held, CommitKind::Chunk, n, short));
-                let writes = self.cores.hand_over(core, empty);
-                self.fly_from(core, held.sphere, words, writes);
-                self.go_on(core, held.sphere);
-                Ok(Reply::Granted)
-            }
-            Moved::Piece(words) => {
-                self.points
-                    .push_reserved(point_of(moment, held, CommitKind::Piece, n, short));
-                let writes = self.cores.hand_over(core, empty);
-                self.fly_from(core, held.sphere, words, writes);
-                self.go_on(core, held.sphere);
-                Ok(Reply::Piece)
-            }
-            Moved::Diverged(commits, why) => Ok(Reply::Diverged(commits, why)),
-        }
+        let (words, kind, reply) = match moved {
+            Moved::Granted(words) => (words, CommitKind::Chunk, Reply::Granted),
+            Moved::Piece(words) => (words, CommitKind::Piece, Reply::Piece),
+            Moved::Diverged(commits, why) => return Ok(Reply::Diverged(commits, why)),
+        };
+        self.points
+            .push_reserved(point_of(moment, held, kind, n, short));
+        let writes = self.cores.hand_over(core, empty);
+        self.fly_from(core, held.sphere, words, writes);
+        self.go_on(core, held.sphere);
+        Ok(reply)
     }
 
     // The serial step is done.
@@ -158,6 +154,7 @@ impl<G: Sig> State<G> {
         requires held { Holds self.old core held }
         requires good { IsOf self.old held }
         requires room { HasRoom self.old }
+        requires begun { NoneIsDue self.old }
         requires going { is_stopped (sphere_at self.old held.sphere).role ≡ false }
         requires turn { turn_before (sphere_at self.old held.sphere) (Actor.Thread held.thread) ≡ None }
         requires window { is_full self.old.slots ≡ false }

@@ -52,8 +52,8 @@ impl<G: Sig> Cores<G> {
     ghost use Rattle.dl_machine.specs.Cores.{CanStepHeld, given_up, goes_on, pair_in, reads_in, seen, waits, with_pair, writes_in};
     ghost use Rattle.dl_machine.specs.Rows.{core_in, numbers_in, with_held};
 
-    /// The cores of a setup, each with thread 0 of its own sphere, or idle where there is none. They have room for the loads of the
-    /// greatest chunk of any sphere.
+    /// The cores of a setup, each with thread 0 of its own sphere, or idle if there are fewer spheres. They have room for the
+    /// loads of the greatest chunk of any sphere.
     pub(crate) fn new(
         alloc: Global,
         setup: &Setup,

@@ -4,6 +4,7 @@
 mod asking;
 mod cores;
 mod counting;
+mod epochs;
 mod flying;
 mod machine;
 mod one_core;

@@ -5,6 +5,8 @@ ghost use Rattle.spec_protocol.specs.declared.event.Event.{Event};
 ghost use Rattle.spec_protocol.specs.machine.Machine.{Setup as SetupOf, happens, world_of};
 ghost use Rattle.spec_protocol.specs.machine.Serial.{serial};
 ghost use Rattle.spec_protocol.specs.machine.World.{sphere_at};
+ghost use Rattle.spec_protocol.specs.promises.Alike.{AreAlike};
+ghost use Rattle.spec_protocol.specs.promises.Kept.{NoneIsDue};
 
 use crate::one_core::Held;
 use crate::setup::Setup;
@@ -64,19 +66,35 @@ impl<G: Sig> Machine<G> {
         let _ = &self.state;
     }
 
-    /// Takes one event.
+    /// In each recorded sphere in which an epoch is due, it begins. If memory runs out, it may have begun in some of them; the
+    /// machine still shows the same events. A machine does this before each event that commits or interrupts; once a run is
+    /// over, it is done once more, so that each sphere has a base.
+    pub fn begin_epochs(&mut self) -> Result<(), OutOfMemory>
+        ensures begun { OnOk result (NoneIsDue self.new) }
+        ensures alike { AreAlike self.new self.old }
+        ensures run { (s : SetupOf) (es : List Event) → IsRun s es self.old → IsRun s es self.new }
+        ensures same { NoneIsDue self.old → self.new ≡ self.old }
+    {
+        self.state.begin_epochs()
+    }
+
+    /// Takes one event. Before one that commits or interrupts, the epochs begin that are due. If memory runs out, all is as
+    /// before, but some of these epochs may have begun.
     #[inline(always)]
-    #[tactic(auto, using(crate::proofs::Worlds::Events::act_counts, crate::proofs::Worlds::Events::happens_world, crate::proofs::Worlds::Events::happens_reply, crate::proofs::Worlds::Events::replies_few))]
     pub fn apply(&mut self, event: Event) -> Result<Reply, OutOfMemory>
         requires events { self.old.counts.events < 2 ^ 63 }
         requires commits { HasRoom self.old }
         ensures done { IfOk result (λ r. r ≡ (happens self.old event).reply) }
-        ensures world { OnOk result (self.new ≡ (happens self.old event).world) }
+        ensures world { OnOk result (NoneIsDue self.old → self.new ≡ (happens self.old event).world) }
+        ensures alike { OnOk result (AreAlike self.new (happens self.old event).world) }
         ensures run { OnOk result ((s : SetupOf) (es : List Event) → IsRun s es self.old → IsRun s (es ++ event ∷ []) self.new) }
-        ensures refused { OnErr result (self.new ≡ self.old) }
+        ensures refused { OnErr result (NoneIsDue self.old → self.new ≡ self.old) }
+        ensures refused_alike { OnErr result (AreAlike self.new self.old) }
+        ensures refused_run { OnErr result ((s : SetupOf) (es : List Event) → IsRun s es self.old → IsRun s es self.new) }
         ensures plenty { wants_memory event ≡ false → IsOk result }
-        ensures wanted { OnErr result (IsWanted event (happens self.old event).reply) }
+        ensures wanted { OnErr result (NoneIsDue self.old → IsWanted event (happens self.old event).reply) }
     {
+        self.state.prepare(event)?;
         let reply = self.state.act(event)?;
         self.state.count(reply);
         Ok(reply)

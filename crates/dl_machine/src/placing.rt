@@ -4,6 +4,7 @@ ghost use Rattle.spec_isa.specs.declared.thread.Parts.{Parts};
 ghost use Rattle.spec_kernel.specs.Interrupts.{takes_interrupt};
 ghost use Rattle.spec_protocol.specs.declared.reply.Reply.{Reply};
 ghost use Rattle.spec_protocol.specs.machine.Placing.{placing, raise_in, raising, replays, with_renewed};
+ghost use Rattle.spec_protocol.specs.promises.Kept.{NoneIsDue};
 ghost use Rattle.spec_protocol.specs.machine.World.{core_of, held_afresh, sphere_at, with_core};
 ghost use Rattle.dl_machine.specs.Events.{passes_checks};
 ghost use Rattle.dl_machine.specs.Ready.{IsReady};
@@ -43,6 +44,7 @@ impl<G: Sig> State<G> {
     pub(crate) fn raise(&mut self, sphere: u8, thread: u8, value: u32) -> Result<Reply, OutOfMemory>
         requires sphere { sphere < length self.old.spheres }
         requires ready { IsReady self.old }
+        requires begun { NoneIsDue self.old }
         ensures reply { IfOk result (λ r. r ≡ (raising self.old sphere thread value).reply) }
         ensures world { OnOk result (self.new ≡ left (raising self.old sphere thread value)) }
         ensures err { OnErr result (self.new ≡ self.old) }
@@ -73,6 +75,7 @@ impl<G: Sig> State<G> {
         requires thread { thread < length (sphere_at self.old sphere).threads }
         requires there { (t : Parts) → slice_get (sphere_at self.old sphere).threads thread ≡ Some t → takes_interrupt t ≡ true }
         requires recorded { replays (sphere_at self.old sphere).role ≡ false }
+        requires begun { NoneIsDue self.old }
         ensures reply { IfOk result (λ r. r ≡ Reply.Raised) }
         ensures world { OnOk result ((t : Parts) → slice_get (sphere_at self.old sphere).threads thread ≡ Some t →
             self.new ≡ left (raise_in self.old sphere thread value t)) }

@@ -1,5 +1,5 @@
 //! The row of spheres.
-ghost use Rattle.std.specs.Prelude.{◌≡◌, ◌≤◌, ◌<◌, ◌^◌, max, IfOk, IfSome, OnOk, OnErr, IsSome, Some, false, true, length, map, slice_get, All};
+ghost use Rattle.std.specs.Prelude.{◌≡◌, ◌≤◌, ◌<◌, ◌^◌, max, IfOk, OnOk, OnErr, IsSome, Some, false, true, length, map, slice_get, All};
 ghost use Rattle.spec_isa.specs.declared.thread.Parts.{Parts};
 ghost use Rattle.spec_engine.specs.declared.answers.How.{How};
 ghost use Rattle.spec_engine.specs.Flights.{IsInside, at, drain};
@@ -7,8 +7,13 @@ ghost use Rattle.spec_kernel.specs.Devices.{Devices};
 ghost use Rattle.spec_kernel.specs.Interrupts.{takes_interrupt};
 ghost use Rattle.spec_play.specs.Progress.{position};
 ghost use Rattle.spec_protocol.specs.machine.Placing.{replays};
-ghost use Rattle.spec_protocol.specs.promises.Sound.{IsChunkSize, AreFew, HaveByteInput, IsImage, IsSoundRequest};
+ghost use Rattle.spec_protocol.specs.promises.Sound.{IsChunkSize, AreFew, IsImage};
 ghost use Rattle.spec_protocol.specs.machine.Asking.{is_short};
+ghost use Rattle.spec_isa.specs.Words.{lays};
+ghost use Rattle.spec_engine.specs.Flights.{AreInside};
+ghost use Rattle.spec_protocol.specs.machine.Epochs.{epoch_begun};
+ghost use Rattle.spec_protocol.specs.machine.Shown.{flying};
+ghost use Rattle.spec_protocol.specs.promises.Kept.{has_due};
 ghost use Rattle.spec_protocol.specs.machine.Commits.{chunk_moved, dma_moved, is_piece, raised, serial_moved};
 ghost use Rattle.dl_fly.specs.Slots.{set_slot};
 ghost use Rattle.spec_protocol.specs.machine.Machine.{sphere_of};
@@ -125,6 +130,7 @@ impl Spheres {
         requires thread { thread < length (nth_sphere i self.old).threads }
         requires chunk { (how : How) × CanCommit self.old.s (nth_sphere i self.old) thread how chunk.now.chunk }
         requires few { let p = nth_sphere i self.old in replays p.role ≡ false → position p.progress < 2 ^ 24 }
+        requires ready { has_due (nth_sphere i self.old) ≡ false }
         ensures ok { IfOk result (λ m. (d : Devices) (how : How) → chunk.now.chunk.closed ≡ Some how →
             let p = nth_sphere i self.old in
             let short = is_short self.old.s how chunk.now.chunk.limit in
@@ -148,7 +154,7 @@ impl Spheres {
         requires thread { thread < length (nth_sphere i self.old).threads }
         requires turn { IsTurnOf thread (nth_sphere i self.old).role }
         requires few { let p = nth_sphere i self.old in replays p.role ≡ false → position p.progress < 2 ^ 24 }
-        requires devices { HaveByteInput devices.old }
+        requires ready { has_due (nth_sphere i self.old) ≡ false }
         ensures ok { IfOk result (λ m. (t : Parts) → slice_get (nth_sphere i self.old).threads thread ≡ Some t →
             let p = nth_sphere i self.old in
             came m (nth_sphere i self.new) devices.new ≡ serial_moved thread moment t devices.old p) }
@@ -166,6 +172,7 @@ impl Spheres {
         requires thread { thread < length (nth_sphere i self.old).threads }
         requires there { (t : Parts) → slice_get (nth_sphere i self.old).threads thread ≡ Some t → takes_interrupt t ≡ true }
         requires recorded { replays (nth_sphere i self.old).role ≡ false }
+        requires ready { has_due (nth_sphere i self.old) ≡ false }
         ensures ok { OnOk result ((t : Parts) → slice_get (nth_sphere i self.old).threads thread ≡ Some t →
             nth_sphere i self.new ≡ raised thread value t (nth_sphere i self.old)) }
         ensures others { self.new ≡ with_nth i (nth_sphere i self.new) self.old }
@@ -178,11 +185,10 @@ impl Spheres {
     /// The i-th does its DMA.
     pub(crate) fn dma(&mut self, i: u8, devices: &mut Devices) -> Result<Moved, OutOfMemory>
         requires sphere { i < length self.old.spheres }
-        requires request { let p = nth_sphere i self.old in IfSome p.progress.request (IsSoundRequest (length p.memory)) }
         requires turn { IsTurnOfDma (nth_sphere i self.old).role }
         requires some { IsSome (dma_moved devices.old (nth_sphere i self.old)) }
         requires few { let p = nth_sphere i self.old in replays p.role ≡ false → position p.progress < 2 ^ 24 }
-        requires devices { HaveByteInput devices.old }
+        requires ready { has_due (nth_sphere i self.old) ≡ false }
         ensures ok { IfOk result (λ m. let p = nth_sphere i self.old in
             dma_moved devices.old p ≡ Some (came m (nth_sphere i self.new) devices.new)) }
         ensures others { self.new ≡ with_nth i (nth_sphere i self.new) self.old }
@@ -191,5 +197,21 @@ impl Spheres {
     {
         let sphere = &mut self.row[i as usize];
         sphere.dma(devices)
+    }
+
+    /// An epoch begins in the i-th, if one is due.
+    pub(crate) fn begin_epoch<G: Sig>(
+        &mut self,
+        i: u8,
+        flights: &Flights<G>,
+    ) -> Result<(), OutOfMemory>
+        requires sphere { i < length self.old.spheres }
+        requires inside { AreInside (length (nth_sphere i self.old).memory) (flying i flights.now.slots) }
+        ensures ok { let p = nth_sphere i self.old in
+            OnOk result (self.new ≡ with_nth i (epoch_begun (lays p.memory (flying i flights.now.slots)) p) self.old) }
+        ensures err { OnErr result (self.new ≡ self.old) }
+    {
+        let sphere = &mut self.row[i as usize];
+        sphere.begin_epoch(flights, i)
     }
 }

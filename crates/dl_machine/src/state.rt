@@ -1,7 +1,11 @@
 //! The state of the machine, with one method for each event.
-ghost use Rattle.std.specs.Prelude.{◌≡◌, ◌<◌, ◌%◌, ◌^◌, false, IfOk, IfSome, IsOk, OnErr, OnOk, All, length, option_map};
+ghost use Rattle.std.specs.Prelude.{◌≡◌, ◌<◌, ◌%◌, ◌^◌, List, false, true, IfOk, IfSome, IsOk, OnErr, OnOk, All, length, option_map};
 ghost use Rattle.spec_engine.specs.Flights.{IsInside, at};
 ghost use Rattle.spec_protocol.specs.machine.Machine.{act, world_of};
+ghost use Rattle.spec_protocol.specs.declared.event.Event.{Event as EventOf};
+ghost use Rattle.spec_protocol.specs.machine.Machine.{Setup as SetupOf};
+ghost use Rattle.spec_protocol.specs.promises.Alike.{AreAlike};
+ghost use Rattle.spec_protocol.specs.promises.Kept.{NoneIsDue, Shows};
 ghost use Rattle.spec_protocol.specs.machine.World.{sphere_at};
 ghost use Rattle.spec_protocol.specs.promises.Sound.{IsImage};
 ghost use Rattle.dl_sphere.specs.Setups.{setup_of};
@@ -104,6 +108,7 @@ impl<G: Sig> State<G> {
     pub(crate) fn act(&mut self, event: Event) -> Result<Reply, OutOfMemory>
         requires ready { IsReady self.old }
         requires room { HasRoom self.old }
+        requires begun { wants_memory event ≡ true → NoneIsDue self.old }
         ensures reply { IfOk result (λ r. r ≡ (act self.old event).reply) }
         ensures world { OnOk result (self.new ≡ left (act self.old event)) }
         ensures err { OnErr result (self.new ≡ self.old) }

@@ -5,6 +5,7 @@ ghost use Rattle.spec_play.specs.Progress.{position};
 ghost use Rattle.spec_protocol.specs.machine.Commits.{Diverged, Granted, MovedSphere, dma_moved};
 ghost use Rattle.spec_protocol.specs.machine.Spheres.{is_stopped, turn_against as turn_before};
 ghost use Rattle.spec_protocol.specs.machine.Transferring.{dma_done, dma_with, transfer, transferring};
+ghost use Rattle.spec_protocol.specs.promises.Kept.{NoneIsDue};
 ghost use Rattle.spec_protocol.specs.machine.World.{sphere_at};
 ghost use Rattle.dl_machine.specs.Ready.{HasRoom, IsReady};
 ghost use Rattle.dl_machine.specs.Transfers.{ComesTo};
@@ -27,6 +28,7 @@ impl<G: Sig> State<G> {
         requires sphere { sphere < length self.old.spheres }
         requires ready { IsReady self.old }
         requires room { HasRoom self.old }
+        requires begun { NoneIsDue self.old }
         ensures reply { IfOk result (λ r. r ≡ (transferring self.old sphere).reply) }
         ensures world { OnOk result (self.new ≡ left (transferring self.old sphere)) }
         ensures err { OnErr result (self.new ≡ self.old) }
@@ -52,6 +54,7 @@ impl<G: Sig> State<G> {
         requires sphere { sphere < length self.old.spheres }
         requires ready { IsReady self.old }
         requires room { HasRoom self.old }
+        requires begun { NoneIsDue self.old }
         requires going { is_stopped (sphere_at self.old sphere).role ≡ false }
         requires turn { turn_before (sphere_at self.old sphere) Actor.Dma ≡ None }
         requires diverges { let p = sphere_at self.old sphere in
@@ -77,6 +80,7 @@ impl<G: Sig> State<G> {
         requires goes { ComesTo Granted (dma_moved self.old.devices (sphere_at self.old sphere)) }
         requires ready { IsReady self.old }
         requires room { HasRoom self.old }
+        requires begun { NoneIsDue self.old }
         ensures reply { IfOk result (λ r. (v : MovedSphere) → dma_moved self.old.devices (sphere_at self.old sphere) ≡ Some v →
             r ≡ (transfer self.old sphere v).reply) }
         ensures world { OnOk result ((v : MovedSphere) → dma_moved self.old.devices (sphere_at self.old sphere) ≡ Some v →
@@ -100,6 +104,7 @@ impl<G: Sig> State<G> {
         requires sphere { sphere < length self.old.spheres }
         requires ready { IsReady self.old }
         requires room { HasRoom self.old }
+        requires begun { NoneIsDue self.old }
         requires going { is_stopped (sphere_at self.old sphere).role ≡ false }
         requires turn { turn_before (sphere_at self.old sphere) Actor.Dma ≡ None }
         requires goes { ComesTo Granted (dma_moved self.old.devices (sphere_at self.old sphere)) }

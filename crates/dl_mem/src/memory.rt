@@ -2,6 +2,7 @@
 ghost use Rattle.std.specs.Prelude.{◌≡◌, ◌+◌, ◌/◌, ◌%◌, ◌<◌, ◌≤◌, length, take, drop, IfOk};
 ghost use Rattle.std.specs.List.{concat};
 ghost use Rattle.spec_isa.specs.Words.{lay, read};
+ghost use Rattle.dl_elf.specs.Images.{IsSize};
 ghost use Rattle.spec_isa.specs.Masks.{bytes_of};
 ghost use Rattle.dl_mem.specs.Memories.{IsMemory, IsPaged};
 
@@ -35,7 +36,14 @@ impl Memory {
     pub fn new(alloc: Global, image: &Image) -> Result<Memory, AllocError>
         ensures { IfOk result (λ memory. memory ≡ image.now.bytes) }
     {
-        let bytes = image.bytes();
+        Memory::from_bytes(alloc, image.bytes())
+    }
+
+    /// A memory with these bytes.
+    pub fn from_bytes(alloc: Global, bytes: &[u8]) -> Result<Memory, AllocError>
+        requires { IsSize (length bytes.now) }
+        ensures { IfOk result (λ memory. memory ≡ bytes.now) }
+    {
         let (pages, _) = bytes.as_chunks::<PAGE>();
         Ok(Memory {
             pages: new_pages(alloc, pages)?,

@@ -120,7 +120,7 @@ pub(crate) fn word_at(bytes: &[u8; PAGE], at: usize) -> u32
 }
 
 // Lays the masked bytes of a value over the four from that place on.
-fn put_masked(bytes: &mut [u8], at: usize, mask: u8, value: u32)
+pub(crate) fn put_masked(bytes: &mut [u8], at: usize, mask: u8, value: u32)
     requires aligned { at % 4 ≡ 0 }
     requires inside { at + 4 ≤ length bytes.old }
     ensures { bytes.new ≡ lay bytes.old (bytes_of (at / 4) mask value) }

@@ -1,7 +1,9 @@
 //! The bytes of a page that snapshots share.
-ghost use Rattle.std.specs.Prelude.{◌≡◌, IfOk};
+ghost use Rattle.std.specs.Prelude.{◌≡◌, ◌+◌, ◌/◌, ◌%◌, ◌≤◌, IfOk};
+ghost use Rattle.spec_isa.specs.Words.{lay};
+ghost use Rattle.spec_isa.specs.Masks.{bytes_of};
 
-use crate::page::PAGE;
+use crate::page::{PAGE, put_masked};
 use std::alloc::{AllocError, Global};
 use std::marker::Model;
 use std::rc::Rc;
@@ -44,4 +46,30 @@ impl Shared {
     {
         &self.bytes
     }
+
+    /// A copy of these bytes in which those bytes of the value whose bits are set in the mask are written into the word at a
+    /// place.
+    pub(crate) fn with_word(
+        &self,
+        alloc: Global,
+        at: usize,
+        mask: u8,
+        value: u32,
+    ) -> Result<Shared, AllocError>
+        requires aligned { at % 4 ≡ 0 }
+        requires inside { at + 4 ≤ 4096 }
+        ensures { IfOk result (λ shared. shared ≡ lay self.now (bytes_of (at / 4) mask value)) }
+    {
+        Shared::new(alloc, &with_word(self.bytes(), at, mask, value))
+    }
+}
+
+fn with_word(bytes: &[u8; PAGE], at: usize, mask: u8, value: u32) -> [u8; PAGE]
+    requires aligned { at % 4 ≡ 0 }
+    requires inside { at + 4 ≤ 4096 }
+    ensures { result ≡ lay bytes.now (bytes_of (at / 4) mask value) }
+{
+    let mut written = *bytes;
+    put_masked(&mut written, at, mask, value);
+    written
 }

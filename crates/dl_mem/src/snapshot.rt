@@ -1,11 +1,13 @@
 //! A memory as it was at one moment.
-ghost use Rattle.std.specs.Prelude.{◌≡◌, ◌+◌, ◌/◌, ◌%◌, ◌≤◌, length};
+ghost use Rattle.std.specs.Prelude.{◌≡◌, ◌+◌, ◌/◌, ◌%◌, ◌≤◌, length, OnErr, OnOk};
 ghost use Rattle.std.specs.List.{concat};
-ghost use Rattle.spec_isa.specs.Words.{read};
+ghost use Rattle.spec_isa.specs.Words.{lay, read};
+ghost use Rattle.spec_isa.specs.Masks.{bytes_of};
 ghost use Rattle.dl_mem.specs.Memories.{IsMemory, IsPaged};
 
 use crate::page::{PAGE, word_at};
 use crate::shared::Shared;
+use std::alloc::{AllocError, Global};
 use std::marker::Model;
 
 /// The bytes of a memory at the moment of `Memory::snapshot`, whatever is put to it later. Snapshots share the pages that
@@ -51,5 +53,21 @@ impl Snapshot {
     {
         let at = addr as usize;
         word_at(self.pages[at / PAGE].bytes(), at % PAGE)
+    }
+
+    /// Writes those bytes of the value whose bits are set in the mask into the word at an address inside. What else shares
+    /// the page shows it as it was.
+    pub fn put(&mut self, alloc: Global, addr: u32, mask: u8, value: u32) -> Result<(), AllocError>
+        requires aligned { addr % 4 ≡ 0 }
+        requires inside { addr + 4 ≤ length self.old }
+        ensures laid { OnOk result (self.new ≡ lay self.old (bytes_of (addr / 4) mask value)) }
+        ensures refused { OnErr result (self.new ≡ self.old) }
+        ensures before { IsMemory self.old }
+        ensures after { IsMemory self.new }
+    {
+        let at = addr as usize;
+        let page = self.pages[at / PAGE].with_word(alloc, at % PAGE, mask, value)?;
+        self.pages[at / PAGE] = page;
+        Ok(())
     }
 }

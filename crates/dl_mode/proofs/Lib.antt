@@ -1,3 +1,4 @@
+pub mod Nothing
+mod Past
 mod ShortLists
 mod SizeLookups
-pub mod Nothing

@@ -16,12 +16,15 @@ pub AreAmong-none : (done : List ℕ) (count : ℕ) → done ≡ replicate most_
 AreAmong-none done count e t = rw (e, none_at most_threads t) (omega arith)
 
 -- at first the sizes and the counts stand together with an order
-pub IsWhole-none : (threads : ThreadSizes) → threads.sizes ≡ [] → threads.done ≡ replicate most_threads 0 → IsWhole [] [] threads
-IsWhole-none threads s d =
+pub IsWhole-none : (past : List ℕ) (threads : ThreadSizes) → past ≡ replicate most_threads 0 → threads.sizes ≡ [] → threads.done ≡ replicate most_threads 0
+    → IsWhole [] [] past threads
+IsWhole-none past threads p s d =
     record {
       few = omega arith;
       same = refl;
       all = rw d (length-replicate {A = ℕ} most_threads 0);
+      all_past = rw p (length-replicate {A = ℕ} most_threads 0);
+      few_done = λ t. rw (d, none_at most_threads t) (omega arith);
       each = λ t i. rw s refl;
-      counted = λ t. rw (d, none_at most_threads t) refl;
+      counted = λ t. rw (d, p, none_at most_threads t) refl;
     }

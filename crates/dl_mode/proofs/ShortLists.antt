@@ -10,15 +10,20 @@ use Rattle.spec_log.specs.Log.{ComesBefore}
 use Rattle.spec_log.specs.Noting.{insert_size}
 use Rattle.spec_log.specs.Reading.{is_earlier}
 use Rattle.dl_moments.specs.declared.lane.Mark.{Mark}
-use Rattle.dl_moments.specs.Marks.{with_mark, value_at}
+use Rattle.dl_moments.specs.Marks.{with_mark, lanes_from, value_at}
 use Rattle.dl_moments.proofs.Entries as entries
 use Rattle.dl_moments.proofs.Entries.{earlier-lower, earlier-same}
+use Rattle.dl_mode.specs.Since.{short_since}
 use Rattle.dl_mode.specs.ThreadSizes.{short_of, sizes_from, size_among}
 
 -- a size put into its thread's lane is inserted into the list
 pub insert-put : (lanes : List (List (Mark ℕ))) (t i v : ℕ) → t < length lanes
     → sizes_from 0 (set lanes t (with_mark i v (get_or lanes t []))) ≡ insert_size (record { thread = t; index = i; size = v }) (sizes_from 0 lanes)
 insert-put = entries.insert-put (λ s. s.thread) (λ s. s.index) short_of (λ t m. refl) (λ t m. refl)
+
+-- what is left of each thread's lane from its start on is left of the list
+pub sizes_from-cut : (starts : List ℕ) (lanes : List (List (Mark ℕ))) → sizes_from 0 (lanes_from starts 0 lanes) ≡ short_since starts (sizes_from 0 lanes)
+sizes_from-cut starts lanes = entries.filter-from (λ s. s.thread) (λ s. s.index) short_of (λ t m. refl) (λ t m. refl) starts 0 lanes
 
 -- the size at an index of a thread's lane is found in the list
 pub size_among-at : (lanes : List (List (Mark ℕ))) (t i : ℕ) → value_at i (get_or lanes t []) ≡ size_among (sizes_from 0 lanes) t i

@@ -1,8 +1,8 @@
 -- A size that was put is found, the others are found as before, and the commits are counted.
-use Rattle.std.proofs.Common.{◌≡◌, ℕ, zero, suc, ◌+◌, cond, get_or, slice_index, replicate, append-nil, ◌<◌, ◌≤◌, ◌^◌, take, ◌==◌, Bool, true, false, ◌&&◌, List, [], ◌∷◌, ◌++◌, length, Some, slice_get, inl, inr, refl, ap, sym, ◌∙◌, arith}
+use Rattle.std.proofs.Common.{◌≡◌, ℕ, zero, suc, ◌+◌, cond, fold, get_or, slice_index, replicate, append-nil, ◌<◌, ◌≤◌, ◌^◌, take, ◌==◌, Bool, true, false, ◌&&◌, List, [], ◌∷◌, ◌++◌, length, Some, slice_get, inl, inr, refl, ap, sym, ◌∙◌, arith}
 use Rattle.std.specs.List.{range_with_len}
 use Rattle.std.proofs.lemmas.Bool.{eq-eqb, ne_eqb, cases_lt, cases_eq, cases_Bool, eqb-true, and_parts, both_ways, le-ltb}
-use Rattle.std.proofs.lemmas.List.{length_push, length-set, get_or-set_same, get_or-set_other, set_past, take_more}
+use Rattle.std.proofs.lemmas.List.{length_push, length-set, length-take, get_or-set_same, get_or-set_other, set_past, take_more}
 use Rattle.dl_entry.specs.declared.actor.Actor.{Actor}
 use Rattle.dl_entry.specs.declared.actor.Actor.TheVariants.{Thread, Dma}
 use Rattle.spec_log.specs.declared.sizes.ShortSize.{ShortSize}
@@ -15,6 +15,7 @@ use Rattle.spec_log.specs.Reading.{is_earlier}
 use Rattle.spec_log.specs.Size.{is_thread, sizes_of_thread}
 use Rattle.dl_mode.specs.ThreadSizes.{ThreadSizes, size_among}
 use Rattle.dl_mode.specs.Whole.{IsWhole}
+use Rattle.dl_mode.proofs.Nothing.{AreAmong-none}
 use Rattle.spec_log.specs.declared.mode_name.ModeName.TheVariants.{OrderSize}
 use Rattle.spec_log.specs.declared.sizes.Sizes.TheVariants as Sizes
 
@@ -87,40 +88,41 @@ slice_get-before [] x (suc i) h = refl
 slice_get-before (y ∷ xs) x zero h = refl
 slice_get-before (y ∷ xs) x (suc i) h = slice_get-before xs x i (λ e. h (omega arith))
 
-abbrev Each : List Actor → List ℕ → List ShortSize → Type 0
-Each order sizes short = (t i : ℕ) → size_among short t i ≡ slice_get (sizes_of_thread t order sizes) i
+abbrev Each : List Actor → List ℕ → (past : List ℕ) → List ShortSize → Type 0
+Each order sizes past short = (t i : ℕ) → size_among short t (slice_index past t + i) ≡ slice_get (sizes_of_thread t order sizes) i
 
-abbrev Done : List Actor → List ℕ → List ℕ → Type 0
-Done order sizes done = (t : ℕ) → slice_index done t ≡ length (sizes_of_thread t order sizes)
+abbrev Done : List Actor → List ℕ → (past : List ℕ) → List ℕ → Type 0
+Done order sizes past done = (t : ℕ) → slice_index done t ≡ slice_index past t + length (sizes_of_thread t order sizes)
 
 -- with a commit more the sizes are found still, and the commits are counted
-pub Each-noted : (order : List Actor) (sizes : List ℕ) (short : List ShortSize) (done : List ℕ) (actor : Actor) (size : ℕ) → length sizes ≡ length order
-    → Each order sizes short → Done order sizes done → Each (order ++ actor ∷ []) (sizes ++ size ∷ []) (short_with short done actor size true)
-Each-noted order sizes short done Dma size h each counted t i =
+pub Each-noted : (order : List Actor) (sizes past : List ℕ) (short : List ShortSize) (done : List ℕ) (actor : Actor) (size : ℕ) → length sizes ≡ length order
+    → Each order sizes past short → Done order sizes past done → Each (order ++ actor ∷ []) (sizes ++ size ∷ []) past (short_with short done actor size true)
+Each-noted order sizes past short done Dma size h each counted t i =
     rw (sizes_of_thread-push t order sizes Dma size h, append-nil (sizes_of_thread t order sizes)) (each t i)
-Each-noted order sizes short done (Thread u) size h each counted t i =
+Each-noted order sizes past short done (Thread u) size h each counted t i =
     let x : ShortSize = record { thread = u; index = slice_index done u; size = size } in
+    let j : ℕ = slice_index past t + i in
     rw (sizes_of_thread-push t order sizes (Thread u) size h)
     (elim (cases_eq u t) [
       | inr other ↦ rw (ne_eqb u t other, append-nil (sizes_of_thread t order sizes))
-          (size_among-other short x t i (rw (ne_eqb u t other) refl) ∙ each t i)
-      | inl same ↦ elim (cases_eq (slice_index done u) i) [
-        | inl here ↦ rw (eq-eqb u t same, ← here, ← same, size_among-put short x)
-            (sym (slice_get-push (sizes_of_thread u order sizes) size (slice_index done u) (counted u)))
-        | inr there ↦ rw (eq-eqb u t same, size_among-other short x t i (rw (ne_eqb (slice_index done u) i there) (and-false (u == t))), each t i)
-            (sym (slice_get-before (sizes_of_thread t order sizes) size i (λ e. there (rw same (counted t ∙ sym e)))))
+          (size_among-other short x t j (rw (ne_eqb u t other) refl) ∙ each t i)
+      | inl same ↦ elim (cases_eq (slice_index done u) j) [
+        | inl here ↦ let last : i ≡ length (sizes_of_thread u order sizes) = omega (arith, counted u, here, ap (slice_index past) same) in
+            rw (eq-eqb u t same, ← here, ← same, size_among-put short x) (sym (slice_get-push (sizes_of_thread u order sizes) size i last))
+        | inr there ↦ rw (eq-eqb u t same, size_among-other short x t j (rw (ne_eqb (slice_index done u) j there) (and-false (u == t))), each t i)
+            (sym (slice_get-before (sizes_of_thread t order sizes) size i (λ e. there (omega (arith, counted t, e, ap (slice_index done) same)))))
       ]
     ])
 
-pub Done-noted : (order : List Actor) (sizes : List ℕ) (done : List ℕ) (actor : Actor) (size : ℕ) → length sizes ≡ length order
-    → length done ≡ most_threads → IsActor most_threads actor → Done order sizes done → Done (order ++ actor ∷ []) (sizes ++ size ∷ []) (done_with done actor)
-Done-noted order sizes done Dma size h all good counted t =
+pub Done-noted : (order : List Actor) (sizes past : List ℕ) (done : List ℕ) (actor : Actor) (size : ℕ) → length sizes ≡ length order
+    → length done ≡ most_threads → IsActor most_threads actor → Done order sizes past done → Done (order ++ actor ∷ []) (sizes ++ size ∷ []) past (done_with done actor)
+Done-noted order sizes past done Dma size h all good counted t =
     rw (sizes_of_thread-push t order sizes Dma size h, append-nil (sizes_of_thread t order sizes)) (counted t)
-Done-noted order sizes done (Thread u) size h all good counted t =
+Done-noted order sizes past done (Thread u) size h all good counted t =
     rw (sizes_of_thread-push t order sizes (Thread u) size h)
     (elim (cases_eq t u) [
-      | inl same ↦ rw (same, eq-eqb u u refl, get_or-set_same done u (get_or done u 0 + 1) 0 (omega arith), counted u)
-          (sym (length_push (sizes_of_thread u order sizes) size))
+      | inl same ↦ rw (same, eq-eqb u u refl, get_or-set_same done u (get_or done u 0 + 1) 0 (omega (arith, all, good)))
+          (omega (arith, counted u, length_push (sizes_of_thread u order sizes) size))
       | inr other ↦ rw (ne_eqb u t (λ e. other (sym e)), append-nil (sizes_of_thread t order sizes), get_or-set_other done u t (get_or done u 0 + 1) 0 other)
           (counted t)
     ])
@@ -142,33 +144,45 @@ pub done_by-few : (done : List ℕ) (actor : Actor) (n : ℕ) → AreAmong n don
 done_by-few done (Thread t) n h = h t
 done_by-few done Dma n h = omega arith
 
-sizes_of_thread-few : (t : ℕ) (order : List Actor) (sizes : List ℕ) → length (sizes_of_thread t order sizes) ≤ length order
-sizes_of_thread-few t [] [] = omega arith
-sizes_of_thread-few t [] (z ∷ sizes) = omega arith
-sizes_of_thread-few t (a ∷ order) [] = omega arith
-sizes_of_thread-few t (a ∷ order) (z ∷ sizes) =
-    let rest = sizes_of_thread-few t order sizes in
-    elim (cases_Bool (is_thread t a)) [ inl e ↦ rw e (omega (arith, rest)) | inr e ↦ rw e (omega (arith, rest)) ]
+-- with one more commit of an actor that has fewer than so many, no thread has more
+done_with-below : (done : List ℕ) (actor : Actor) (n : ℕ) → AreAmong n done → done_by done actor < n → AreAmong n (done_with done actor)
+done_with-below done Dma n h few t = h t
+done_with-below done (Thread u) n h few t =
+    elim (cases_eq t u) [
+      | inr other ↦ rw (get_or-set_other done u t (get_or done u 0 + 1) 0 other) (h t)
+      | inl same ↦ elim (cases_lt u (length done)) [
+        | inl within ↦ rw (same, get_or-set_same done u (get_or done u 0 + 1) 0 within) (omega (arith, few))
+        | inr past ↦ rw (set_past done u (get_or done u 0 + 1) past) (h t)
+      ]
+    ]
 
--- where sizes and counts stand together with an order, no thread has more commits than the order
-pub IsWhole-few : (order : List Actor) (sizes : List ℕ) (threads : ThreadSizes) → IsWhole order sizes threads → AreAmong (length order) threads.done
-IsWhole-few order sizes threads w t = omega (arith, w.counted t, sizes_of_thread-few t order sizes)
+-- no thread has more commits than an order that is counted
+fold-few : (done : List ℕ) (order : List Actor) (n : ℕ) → AreAmong n done → AreAmong (n + length order) (fold done_with done order)
+fold-few done [] n h t = omega (arith, h t)
+fold-few done (a ∷ order) n h t = omega (arith, fold-few (done_with done a) order (n + 1) (done_with-few done a n h) t)
 
-length-done_with : (done : List ℕ) (actor : Actor) → length (done_with done actor) ≡ length done
+pub counted-few : (order : List Actor) (i : ℕ) → AreAmong i (counted (take i order))
+counted-few order i t =
+    omega (arith, fold-few (replicate most_threads 0) (take i order) 0 (AreAmong-none (replicate most_threads 0) 0 refl) t, length-take i order)
+
+pub length-done_with : (done : List ℕ) (actor : Actor) → length (done_with done actor) ≡ length done
 length-done_with done (Thread u) = length-set done u (get_or done u 0 + 1)
 length-done_with done Dma = refl
 
 -- sizes and counts stand together with an order still after a commit more
-pub IsWhole-noted : (order : List Actor) (sizes : List ℕ) (threads new : ThreadSizes) (actor : Actor) (size : ℕ) → IsWhole order sizes threads
-    → IsActor most_threads actor → length order < 2 ^ 24 → new.sizes ≡ short_with threads.sizes threads.done actor size true → new.done ≡ done_with threads.done actor
-    → IsWhole (order ++ actor ∷ []) (sizes ++ size ∷ []) new
-IsWhole-noted order sizes threads new actor size w good few e d =
+pub IsWhole-noted : (order : List Actor) (sizes past : List ℕ) (threads new : ThreadSizes) (actor : Actor) (size : ℕ) → IsWhole order sizes past threads
+    → IsActor most_threads actor → length order < 2 ^ 24 → done_by threads.done actor < 2 ^ 24
+    → new.sizes ≡ short_with threads.sizes threads.done actor size true → new.done ≡ done_with threads.done actor
+    → IsWhole (order ++ actor ∷ []) (sizes ++ size ∷ []) past new
+IsWhole-noted order sizes past threads new actor size w good few below e d =
     record {
       few = omega (arith, length_push order actor);
       same = omega (arith, length_push order actor, length_push sizes size, w.same);
       all = rw d (length-done_with threads.done actor ∙ w.all);
-      each = rw e (Each-noted order sizes threads.sizes threads.done actor size w.same w.each w.counted);
-      counted = rw d (Done-noted order sizes threads.done actor size w.same w.all good w.counted);
+      all_past = w.all_past;
+      few_done = rw d (done_with-below threads.done actor (2 ^ 24) w.few_done below);
+      each = rw e (Each-noted order sizes past threads.sizes threads.done actor size w.same w.each w.counted);
+      counted = rw d (Done-noted order sizes past threads.done actor size w.same w.all good w.counted);
     }
 
 -- the commits of an order that were counted

@@ -4,8 +4,9 @@ ghost use Rattle.dl_entry.specs.Numbers.{most_threads};
 ghost use Rattle.spec_log.specs.declared.mode_name.ModeName.{ModeName};
 ghost use Rattle.spec_log.specs.Log.{IsActor};
 ghost use Rattle.spec_log.specs.Noting.{nothing_kept, noted, kept_size, limit_by, sizes_used, kept_head};
-ghost use Rattle.dl_mode.specs.Counts.{counted};
+ghost use Rattle.dl_mode.specs.Counts.{counted, done_by};
 ghost use Rattle.dl_mode.specs.Lists.{lists_of, AreLists};
+ghost use Rattle.dl_mode.specs.Since.{kept_since};
 ghost use Rattle.dl_mode.specs.Logged.{Logged, note_of};
 
 use crate::lists::Lists;
@@ -66,9 +67,16 @@ pub trait Noting: Mode {
     fn note(log: &mut Self::Log, commit: &Commit, closed_short: bool) -> Result<(), OutOfMemory>
         requires actor { IsActor most_threads commit.now.actor }
         requires commits { (Self.logged log.old).kept.count < 2 ^ 24 }
+        requires done { done_by (Self.logged log.old).kept.done commit.now.actor < 2 ^ 24 }
         ensures ok { OnOk result ((Self.logged log.new).kept ≡ noted Self.mode (Self.logged log.old).kept (note_of commit.now closed_short)) }
         ensures err { OnErr result ((Self.logged log.new).kept ≡ (Self.logged log.old).kept) }
         ensures room { IsTrue (Self.logged log.old).room → IsOk result };
+
+    /// Gives up the first `n` commits, after which each thread had done so many commits, by its number. The threads' commits
+    /// are still counted from the first.
+    fn forget(log: &mut Self::Log, n: u32, done: &[u32])
+        ensures kept { (Self.logged log.new).kept ≡ kept_since n done.now (Self.logged log.old).kept }
+        ensures room { IsTrue (Self.logged log.old).room → IsTrue (Self.logged log.new).room };
 
     /// The lists of a log.
     fn lists(alloc: Global, log: &Self::Log) -> Result<Lists, OutOfMemory>

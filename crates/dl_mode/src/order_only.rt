@@ -21,7 +21,6 @@ pub struct OrderOnlyLog {
 impl Model for OrderOnlyLog {
     ghost use Rattle.std.specs.Prelude.{◌^◌, ◌≤◌, nat_lt, ◌&&◌, length, vec_len, vec_capacity};
     ghost use Rattle.spec_log.specs.declared.sizes.Sizes.TheVariants.{Short};
-    ghost use Rattle.dl_mode.specs.Counts.{AreAmong};
     ghost use Rattle.dl_mode.specs.Logged.{Logged};
 
     ghost Value = { Logged };
@@ -31,7 +30,7 @@ impl Model for OrderOnlyLog {
       room = nat_lt (vec_len l.order) (vec_capacity l.order) && l.short.room;
     } };
 
-    ghost invariant = { λ l. (length l.order.items ≤ 2 ^ 24) × AreAmong (length l.order.items) l.short.done };
+    ghost invariant = { λ l. length l.order.items ≤ 2 ^ 24 };
 }
 
 /// The mode that logs the order alone, and the sizes that a replay couldn't find.
@@ -98,6 +97,12 @@ impl Noting for OrderOnly {
         log.short.note(commit.actor, commit.size, closed_short)?;
         log.order.push_reserved(commit.actor);
         Ok(())
+    }
+
+    fn forget(log: &mut OrderOnlyLog, n: u32, done: &[u32]) {
+        let n = (n as usize).min(log.order.len());
+        log.order.drain(..n);
+        log.short.forget(done);
     }
 
     fn lists(alloc: Global, log: &OrderOnlyLog) -> Result<Lists, OutOfMemory> {

@@ -1,9 +1,10 @@
 //! Order-size: the order of commits, and the size of each.
-ghost use Rattle.std.specs.Prelude.{◌≡◌, ◌^◌, ◌<◌, Bool, IfOk, IsOk, IsTrue, OnOk, OnErr};
+ghost use Rattle.std.specs.Prelude.{◌≡◌, ◌+◌, ◌^◌, ◌<◌, Bool, fold, IfOk, IsOk, IsTrue, OnOk, OnErr};
 ghost use Rattle.spec_log.specs.declared.mode_name.ModeName.TheVariants.{OrderSize as BySize};
 ghost use Rattle.dl_entry.specs.Numbers.{most_threads};
 ghost use Rattle.spec_log.specs.Log.{IsActor};
-ghost use Rattle.spec_log.specs.Noting.{noted, nothing_kept};
+ghost use Rattle.spec_log.specs.Noting.{noted, nothing_kept, kept_size, done_with};
+ghost use Rattle.dl_mode.specs.Counts.{AreFew, done_by};
 ghost use Rattle.dl_mode.specs.Lists.{AreLists};
 ghost use Rattle.dl_mode.specs.Logged.{note};
 ghost use Rattle.spec_log.specs.declared.sizes.Sizes.TheVariants.{Each};
@@ -12,17 +13,20 @@ use crate::lists::Lists;
 use crate::mode::{Mode, Noting, limit_of};
 use crate::thread_sizes::{ThreadSizes, count_of};
 use dl_entry::{Actor, Commit, MOST_THREADS, OutOfMemory, Sequence};
+use dl_moments::THREADS;
 use spec_log::{ModeName, Order, Sizes};
 use std::alloc::Global;
 use std::marker::Model;
 
-/// A log in order-size. Each thread's sizes stand by index too, so that one is found at once.
+/// A log in order-size. Each thread's sizes stand by index too, so that one is found at once; the index counts the commits
+/// that were given up as well.
 #[derive(Debug, Drop)]
 pub struct OrderSizeLog {
     s: u32,
     order: Vec<Actor>,
     sizes: Vec<u32>,
     threads: ThreadSizes,
+    past: [u32; THREADS],
 }
 
 impl Model for OrderSizeLog {
@@ -38,7 +42,7 @@ impl Model for OrderSizeLog {
       room = nat_lt (vec_len l.order) (vec_capacity l.order) && nat_lt (vec_len l.sizes) (vec_capacity l.sizes) && l.threads.room;
     } };
 
-    ghost invariant = { λ l. IsWhole l.order.items l.sizes.items l.threads };
+    ghost invariant = { λ l. IsWhole l.order.items l.sizes.items l.past l.threads };
 }
 
 impl OrderSizeLog {
@@ -50,6 +54,7 @@ impl OrderSizeLog {
             order: Vec::new(alloc),
             sizes: Vec::new(alloc),
             threads: ThreadSizes::new(alloc)?,
+            past: [0; THREADS],
         })
     }
 
@@ -57,6 +62,7 @@ impl OrderSizeLog {
     fn push(&mut self, actor: Actor, size: u32) -> Result<(), OutOfMemory>
         requires actor { IsActor most_threads actor }
         requires commits { self.old.kept.count < 2 ^ 24 }
+        requires done { done_by self.old.kept.done actor < 2 ^ 24 }
         ensures ok { (short : Bool) → OnOk result (self.new.kept ≡ noted BySize self.old.kept (note actor size short)) }
         ensures err { OnErr result (self.new.kept ≡ self.old.kept) }
         ensures room { IsTrue self.old.room → IsOk result }
@@ -67,6 +73,18 @@ impl OrderSizeLog {
         self.order.push_reserved(actor);
         self.sizes.push_reserved(size);
         Ok(())
+    }
+
+    /// The size of a thread's commit with so many before it that weren't given up.
+    fn size_of(&self, thread: u8, index: u32) -> Option<u32>
+        ensures { result ≡ kept_size self.now.kept (Actor.Thread thread) index }
+    {
+        let past = count_of(&self.past, thread);
+        if index < self.threads.done(thread) - past {
+            self.threads.size(thread, past + index)
+        } else {
+            None
+        }
     }
 }
 
@@ -86,18 +104,19 @@ impl Mode for OrderAndSize {
 
     fn size(log: &OrderSizeLog, actor: Actor, index: u32) -> Option<u32> {
         match actor {
-            Actor::Thread(thread) => log.threads.size(thread, index),
+            Actor::Thread(thread) => log.size_of(thread, index),
             Actor::Dma => log.sizes.get(index as usize).copied(),
         }
     }
 
     fn limit(log: &OrderSizeLog, thread: u8, index: u32) -> u32 {
-        limit_of(log.s, log.threads.size(thread, index))
+        limit_of(log.s, log.size_of(thread, index))
     }
 
     fn used(log: &OrderSizeLog, done: &[u32]) -> bool {
         for thread in 0..MOST_THREADS {
-            if log.threads.done(thread) > count_of(done, thread) {
+            let past = count_of(&log.past, thread);
+            if log.threads.done(thread) - past > count_of(done, thread) {
                 return false;
             }
         }
@@ -131,6 +150,14 @@ impl Noting for OrderAndSize {
         log.push(commit.actor, commit.size)
     }
 
+    fn forget(log: &mut OrderSizeLog, n: u32, _: &[u32]) {
+        let n = (n as usize).min(log.order.len());
+        count_each(&mut log.past, &log.order[..n]);
+        log.threads.forget(&log.past);
+        log.order.drain(..n);
+        log.sizes.drain(..n);
+    }
+
     fn lists(alloc: Global, log: &OrderSizeLog) -> Result<Lists, OutOfMemory> {
         Ok(Lists {
             mode: ModeName::OrderSize,
@@ -149,6 +176,29 @@ impl Noting for OrderAndSize {
             log.push(order[i], sizes[i])?;
         }
         Ok(log)
+    }
+}
+
+/// Counts a commit of each actor; a DMA is no thread's.
+fn count_each(counts: &mut [u32], actors: &[Actor])
+    requires few { AreFew counts.old actors.now }
+    ensures { counts.new ≡ fold done_with counts.old actors.now }
+{
+    for actor in actors {
+        count_one(counts, *actor);
+    }
+}
+
+fn count_one(counts: &mut [u32], actor: Actor)
+    requires { done_by counts.old actor + 1 < 2 ^ 32 }
+    ensures { counts.new ≡ done_with counts.old actor }
+{
+    let Actor::Thread(thread) = actor else {
+        return;
+    };
+    let place = usize::from(thread);
+    if place < counts.len() {
+        counts[place] += 1;
     }
 }
 

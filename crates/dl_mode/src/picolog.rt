@@ -24,7 +24,6 @@ pub struct TurnLog {
 impl Model for TurnLog {
     ghost use Rattle.std.specs.Prelude.{[]};
     ghost use Rattle.spec_log.specs.declared.sizes.Sizes.TheVariants.{Short};
-    ghost use Rattle.dl_mode.specs.Counts.{AreAmong};
     ghost use Rattle.dl_mode.specs.Logged.{Logged};
 
     ghost Value = { Logged };
@@ -33,8 +32,6 @@ impl Model for TurnLog {
       kept = record { s = l.s; count = l.count; order = []; sizes = Short l.short.sizes; done = l.short.done };
       room = l.short.room;
     } };
-
-    ghost invariant = { λ l. AreAmong l.count l.short.done };
 }
 
 /// The mode in which threads take turns.
@@ -91,6 +88,11 @@ impl Noting for PicoLog {
         log.short.note(commit.actor, commit.size, closed_short)?;
         log.count += 1;
         Ok(())
+    }
+
+    fn forget(log: &mut TurnLog, n: u32, done: &[u32]) {
+        log.count = log.count.saturating_sub(n);
+        log.short.forget(done);
     }
 
     fn lists(alloc: Global, log: &TurnLog) -> Result<Lists, OutOfMemory> {

@@ -1,10 +1,12 @@
 //! Sizes by thread and index, and the number of each thread's commits.
-ghost use Rattle.std.specs.Prelude.{◌≡◌, ℕ, ◌+◌, nat_lt, ◌^◌, ◌<◌, ◌≤◌, [], ◌++◌, All, length, map, replicate, slice_index, IfOk, IsOk, IsTrue, OnOk, OnErr};
+ghost use Rattle.std.specs.Prelude.{◌≡◌, ℕ, ◌+◌, nat_lt, ◌^◌, ◌<◌, ◌≤◌, [], ◌++◌, All, length, map, replicate, slice_index, IfOk};
+ghost use Rattle.std.specs.Prelude.{IsOk, IsTrue, OnOk, OnErr};
 ghost use Rattle.dl_entry.specs.Numbers.{most_threads};
 ghost use Rattle.spec_log.specs.Log.{IsActor, AreShortSizes};
 ghost use Rattle.spec_log.specs.Noting.{short_with, done_with};
 ghost use Rattle.spec_log.specs.declared.sizes.Sizes.TheVariants.{Short};
 ghost use Rattle.dl_mode.specs.ThreadSizes.{size_among, short_of};
+ghost use Rattle.dl_mode.specs.Since.{short_since};
 ghost use Rattle.std.specs.List.{list_all};
 ghost use Rattle.dl_mode.specs.Lists.{AreShort};
 ghost use Rattle.dl_mode.specs.Counts.{done_by};
@@ -103,6 +105,15 @@ impl ThreadSizes {
         }
         self.done[usize::from(thread)] = index + 1;
         Ok(())
+    }
+
+    /// Drops the sizes of commits that were done when each thread had done so many. The commits are counted still.
+    pub fn forget(&mut self, done: &[u32])
+        ensures sizes { self.new.sizes ≡ short_since done.now self.old.sizes }
+        ensures done { self.new.done ≡ self.old.done }
+        ensures room { IsTrue self.old.room → IsTrue self.new.room }
+    {
+        self.sizes.forget(done);
     }
 
     /// The size of a thread's commit with so many of its commits before.

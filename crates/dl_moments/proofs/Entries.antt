@@ -1,13 +1,14 @@
 -- Entries by thread and index are put and found in lists of threads as in one list.
-use Rattle.std.proofs.Common.{◌≡◌, ℕ, zero, suc, ◌+◌, ◌<◌, ◌==◌, nat_lt, Bool, true, false, ◌&&◌, List, [], ◌∷◌, ◌++◌, length, map, drop, get_or, Option, Some, None, option_map, find, inl, inr, refl, ap, sym, arith, add-one}
+use Rattle.std.proofs.Common.{◌≡◌, ℕ, zero, suc, ◌+◌, ◌<◌, ◌==◌, nat_le, nat_lt, Bool, true, false, ◌&&◌, List, [], ◌∷◌, ◌++◌, length, map, drop, slice_index, get_or, Option, Some, None, option_map, find, inl, inr, refl, ap, sym, ◌∙◌, arith, add-one}
 use Rattle.std.proofs.Math.ListN.{set}
-use Rattle.std.specs.List.{list_all}
+use Rattle.std.specs.List.{list_all, filter}
 use Rattle.std.proofs.lemmas.Bool.{lt-ltb, le-ltb, eq-eqb, ne_eqb, cases_lt, cases_eq, cases_Bool}
 use Rattle.std.proofs.lemmas.List.{drop_more}
+use Rattle.std.proofs.lemmas.List.Elements.{filter-append}
 use Rattle.spec_log.specs.Noting.{insert_by}
 use Rattle.spec_log.specs.Reading.{is_earlier}
 use Rattle.dl_moments.specs.declared.lane.Mark.{Mark}
-use Rattle.dl_moments.specs.Marks.{with_mark, value_at}
+use Rattle.dl_moments.specs.Marks.{with_mark, marks_from, lanes_from, value_at}
 use Rattle.dl_moments.specs.Entries.{entries_from}
 
 -- of entries of two threads, that of the lower thread is earlier
@@ -70,6 +71,28 @@ module _ {V X : Type 0} (thread index : X → ℕ) (entry : ℕ → Mark V → X
   pub insert-put : (lanes : List (List (Mark V))) (t i : ℕ) (v : V) → t < length lanes
       → entries_from entry 0 (set lanes t (with_mark i v (get_or lanes t []))) ≡ insert_by thread index (entry t (mark i v)) (entries_from entry 0 lanes)
   insert-put lanes t i v h = insert-lane lanes 0 t t i v (omega arith) h
+
+  -- cutting
+
+  abbrev passes : List ℕ → X → Bool
+  passes starts x = nat_le (slice_index starts (thread x)) (index x)
+
+  filter-lane : (starts : List ℕ) (t : ℕ) (lane : List (Mark V)) → filter (passes starts) (map (entry t) lane) ≡ map (entry t) (marks_from (slice_index starts t) lane)
+  filter-lane starts t [] = refl
+  filter-lane starts t (m ∷ lane) =
+      rw (is_thread t m, is_index t m)
+      (elim (cases_Bool (nat_le (slice_index starts t) m.index)) [
+        | inl e ↦ rw e (ap (λ (xs : List X). entry t m ∷ xs) (filter-lane starts t lane))
+        | inr e ↦ rw e (filter-lane starts t lane)
+      ])
+
+  -- each thread's values from its start on are the entries from there on
+  pub filter-from : (starts : List ℕ) (t : ℕ) (lanes : List (List (Mark V)))
+      → entries_from entry t (lanes_from starts t lanes) ≡ filter (passes starts) (entries_from entry t lanes)
+  filter-from starts t [] = refl
+  filter-from starts t (lane ∷ lanes) =
+      sym (filter-append (passes starts) (map (entry t) lane) (entries_from entry (suc t) lanes)
+      ∙ rw (filter-lane starts t lane, ← filter-from starts (suc t) lanes) refl)
 
   -- looking up
 

@@ -1,11 +1,13 @@
 -- Of the lists of all threads, a change of one leaves the others.
-use Rattle.std.proofs.Common.{◌≡◌, ℕ, zero, suc, ◌+◌, ◌<◌, ◌≤◌, Bool, true, ◌&&◌, List, [], ◌∷◌, ◌++◌, length, map, take, get_or, replicate, inl, inr, refl, ap, sym, ◌∙◌, arith}
+use Rattle.std.proofs.Common.{◌≡◌, ℕ, zero, suc, ◌+◌, ◌<◌, ◌≤◌, Bool, true, ◌&&◌, List, [], ◌∷◌, ◌++◌, length, map, take, get_or, slice_index, replicate, inl, inr, refl, ap, sym, ◌∙◌, arith}
 use Rattle.std.proofs.Math.ListN.{set}
 use Rattle.std.specs.List.{list_all}
 use Rattle.std.proofs.lemmas.Bool.{cases_eq, and_parts}
-use Rattle.std.proofs.lemmas.List.{map-set, map-append, length-set, set-get_or, get_or-set_same, get_or-set_other, replicate_more}
+use Rattle.std.proofs.lemmas.List.{map-set, map-append, length-set, set-get_or, get_or-set_same, get_or-set_other, get_or_default, length-map, same_lists, replicate_more}
 use Rattle.dl_moments.specs.declared.lane.Mark.{Mark}
+use Rattle.dl_moments.specs.Marks.{marks_from, lanes_from}
 use Rattle.dl_moments.specs.Views.{LaneState, HaveNone}
+use Rattle.dl_moments.proofs.Cuts.{lanes_from-at, length-lanes_from}
 
 -- the values of a thread's list, without its room
 abbrev pub marks_of : {V : Type 0} → LaneState V → List (Mark V)
@@ -107,5 +109,66 @@ pub Roomy-set : {V : Type 0} (lanes : List (LaneState V)) (n t : ℕ) (new : Lan
 Roomy-set lanes n t new h rooms room k d l =
     elim (cases_eq k t) [
       | inl same ↦ rw (same, get_or-set_same lanes t new d h) room
+      | inr other ↦ rw (get_or-set_other lanes t k new d other) (rooms k d l)
+    ]
+
+-- the first n lists are cut at their starts, and the others are as they were
+pub record AreCut {V : Type 0} (starts : List ℕ) (n : ℕ) (old new : List (List (Mark V))) : Type 0 where
+  pub long : length new ≡ length old
+  pub cut : (k : ℕ) → k < n → get_or new k [] ≡ marks_from (slice_index starts k) (get_or old k [])
+  pub rest : (k : ℕ) → n ≤ k → get_or new k [] ≡ get_or old k []
+
+pub AreCut-none : {V : Type 0} (starts : List ℕ) (old new : List (List (Mark V))) → new ≡ old → AreCut starts 0 old new
+AreCut-none starts old new e = record { long = ap length e; cut = λ k h. absurd (omega arith); rest = λ k h. ap (λ (l : List (List (Mark _))). get_or l k []) e }
+
+-- with the next one cut too
+pub AreCut-more : {V : Type 0} (starts : List ℕ) (t : ℕ) (start : ℕ) (old : List (List (Mark V))) (lanes : List (LaneState V)) (lane new : LaneState V)
+    → AreCut starts t old (map marks_of lanes) → t < length lanes → start ≡ slice_index starts t → lane ≡ get_or lanes t lane
+    → new.marks ≡ marks_from start lane.marks → AreCut starts (t + 1) old (map marks_of (set lanes t new))
+AreCut-more starts t start old lanes lane new c h s is e =
+    let was : lane.marks ≡ get_or old t [] = ap marks_of is ∙ (sym (get_or-map lanes t lane h) ∙ c.rest t (omega arith)) in
+    let long : length (map marks_of lanes) ≡ length lanes = length-map lanes marks_of in
+    record {
+      long = rw (map-set marks_of lanes t new) (length-set (map marks_of lanes) t new.marks ∙ c.long);
+      cut = λ k l. rw (map-set marks_of lanes t new)
+          (elim (cases_eq k t) [
+            | inl same ↦ rw (same, get_or-set_same (map marks_of lanes) t new.marks [] (omega (arith, long))) (rw (← s, ← was) e)
+            | inr other ↦ rw (get_or-set_other (map marks_of lanes) t k new.marks [] other) (c.cut k (omega arith))
+          ]);
+      rest = λ k l. rw (map-set marks_of lanes t new, get_or-set_other (map marks_of lanes) t k new.marks [] (λ e. omega arith)) (c.rest k (omega arith));
+    }
+
+-- all are cut
+pub AreCut-all : {V : Type 0} (starts : List ℕ) (n : ℕ) (old new : List (List (Mark V))) → AreCut starts n old new → length old ≤ n → new ≡ lanes_from starts 0 old
+AreCut-all starts n old new c h =
+    same_lists new (lanes_from starts 0 old) (omega (arith, c.long, length-lanes_from starts 0 old))
+    (λ k d l. let within : k < length old = omega (arith, c.long) in
+    get_or_default new k d [] l
+    ∙ (c.cut k (omega arith) ∙ (sym (lanes_from-at starts 0 k old k (omega arith) within)
+    ∙ get_or_default (lanes_from starts 0 old) k [] d (omega (arith, within, length-lanes_from starts 0 old)))))
+
+-- of lists that are cut, from a thread on none has a value still
+pub HaveNone-cut : {V : Type 0} (lanes : List (LaneState V)) (used t start : ℕ) (lane new : LaneState V) → HaveNone used (map marks_of lanes)
+    → t < length lanes → lane ≡ get_or lanes t lane → new.marks ≡ marks_from start lane.marks → HaveNone used (map marks_of (set lanes t new))
+HaveNone-cut lanes used t start lane new none h is e k past =
+    rw (map-set marks_of lanes t new)
+    (elim (cases_eq k t) [
+      | inl same ↦ let empty : lane.marks ≡ [] = none_at lanes used t lane none (omega arith) h is in
+          let long : length (map marks_of lanes) ≡ length lanes = length-map lanes marks_of in
+          rw (same, get_or-set_same (map marks_of lanes) t new.marks [] (omega (arith, long))) (e ∙ rw empty refl)
+      | inr other ↦ rw (get_or-set_other (map marks_of lanes) t k new.marks [] other) (none k past)
+    ])
+
+-- if all of the first n lists have room, each has
+pub all_roomy : {V : Type 0} (lanes : List (LaneState V)) (n : ℕ) → n ≤ length lanes → list_all (λ lane. lane.room) (take n lanes) ≡ true → Roomy lanes n
+all_roomy lanes n h rooms k d l = room_at lanes n k d l h rooms
+
+-- a list that keeps its room leaves room in each
+pub Roomy-kept : {V : Type 0} (lanes : List (LaneState V)) (n t : ℕ) (lane new : LaneState V) → t < length lanes → lane ≡ get_or lanes t lane → Roomy lanes n
+    → (lane.room ≡ true → new.room ≡ true) → Roomy (set lanes t new) n
+Roomy-kept lanes n t lane new h is rooms kept k d l =
+    elim (cases_eq k t) [
+      | inl same ↦ rw (same, get_or-set_same lanes t new d h)
+          (kept (ap (λ (x : LaneState _). x.room) is ∙ rooms t lane (omega (arith, same, l))))
       | inr other ↦ rw (get_or-set_other lanes t k new d other) (rooms k d l)
     ]

@@ -1,3 +1,4 @@
+pub mod Cuts
 pub mod Entries
 mod Lanes
 mod Places

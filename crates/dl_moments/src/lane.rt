@@ -1,6 +1,6 @@
 //! The values of one thread, by index.
 ghost use Rattle.std.specs.Prelude.{◌≡◌, ℕ, ◌<◌, ◌≤◌, [], length, slice_index_or, IsOk, IsTrue, MatchResult, OnOk, OnErr};
-ghost use Rattle.dl_moments.specs.Marks.{Rises, with_mark, with_mark_if, value_at, Stands, Misses};
+ghost use Rattle.dl_moments.specs.Marks.{Rises, with_mark, with_mark_if, marks_from, value_at, Stands, Misses};
 
 use dl_entry::OutOfMemory;
 use std::alloc::Global;
@@ -73,6 +73,15 @@ impl<V: Copy> Lane<V> {
         if let Ok(place) = place_of(&self.marks, index) {
             self.marks[place] = Mark { index, value };
         }
+    }
+
+    /// Drops the values below an index.
+    pub fn forget(&mut self, start: u32)
+        ensures marks { self.new.marks ≡ marks_from start self.old.marks }
+        ensures room { IsTrue self.old.room → IsTrue self.new.room }
+    {
+        let place = lowest(&self.marks, start);
+        self.marks.drain(..place);
     }
 
     /// The value at an index.

@@ -1,8 +1,9 @@
 //! Values by thread and index.
-ghost use Rattle.std.specs.Prelude.{◌≡◌, ◌<◌, List, [], length, replicate, slice_set, slice_index_or, IfOk, IsOk, IsTrue, OnOk, OnErr};
+ghost use Rattle.std.specs.Prelude.{◌≡◌, ◌<◌, List, [], length, replicate, slice_index, slice_set, slice_index_or, IfOk, IsOk};
+ghost use Rattle.std.specs.Prelude.{IsTrue, OnOk, OnErr};
 ghost use Rattle.dl_entry.specs.Numbers.{most_threads};
 ghost use Rattle.dl_moments.specs.Views.{By};
-ghost use Rattle.dl_moments.specs.Marks.{Rises, with_mark, with_mark_if, value_at};
+ghost use Rattle.dl_moments.specs.Marks.{Rises, with_mark, with_mark_if, lanes_from, value_at};
 
 use crate::lane::{Lane, Mark};
 use dl_entry::{MOST_THREADS, OutOfMemory};
@@ -102,6 +103,17 @@ impl<V: Copy> Moments<V> {
         }
     }
 
+    /// Drops each thread's values below its start, by the number of the thread; a thread without a start keeps all.
+    pub fn forget(&mut self, starts: &[u32])
+        ensures lanes { self.new.lanes ≡ lanes_from starts.now 0 self.old.lanes }
+        ensures room { IsTrue self.old.room → IsTrue self.new.room }
+    {
+        for thread in 0..THREADS {
+            let lane = &mut self.lanes[thread];
+            lane.forget(start_of(starts, thread));
+        }
+    }
+
     /// A thread's value at an index.
     pub fn at(&self, thread: u8, index: u32) -> Option<V>
         ensures { result ≡ value_at index (slice_index_or self.now.lanes thread []) }
@@ -119,5 +131,15 @@ impl<V: Copy> Moments<V> {
             Some(lane) => lane.marks(),
             None => &[],
         }
+    }
+}
+
+/// The start of a thread, 0 if it has none.
+fn start_of(starts: &[u32], thread: usize) -> u32
+    ensures { result ≡ slice_index starts.now thread }
+{
+    match starts.get(thread) {
+        Some(start) => *start,
+        None => 0,
     }
 }

@@ -8,20 +8,20 @@ use Rattle.dl_plan.specs.Entries.{SphereEntries}
 use Rattle.dl_plan.specs.Limits.{limited, count_of, memory_of, version_of}
 use Rattle.dl_plan.specs.Optional.{◌>>=◌, each_of}
 use Rattle.dl_plan.specs.Plans.{sphere_asked}
-use Rattle.dl_plan.specs.Roles.{role_made, role_of, has_role_keys, are_in_order, interval_stands, has_good_interval}
+use Rattle.dl_plan.specs.Roles.{made_of, role_made, role_of, has_role_keys, are_in_order, interval_stands, has_good_interval}
 use Rattle.dl_plan.specs.Values.{RoleValues, Plain, Record, Replay, RecordValues, ReplayValues, SphereValues, AreOrdered, IsOrdered, AreAllOrdered}
 
 -- ---- what is there
 
-then_some : {A B : Type 0} (o : Option A) (f : A → Option B) (b : B) → (o >>= f) ≡ Some b → (a : A) × (o ≡ Some a) × (f a ≡ Some b)
+pub then_some : {A B : Type 0} (o : Option A) (f : A → Option B) (b : B) → (o >>= f) ≡ Some b → (a : A) × (o ≡ Some a) × (f a ≡ Some b)
 then_some None f b e = absurd (cc)
 then_some (Some a) f b e = (a, refl, e)
 
-passed : {A : Type 0} (test : Bool) (o : Option A) (a : A) → (if test then o else None) ≡ Some a → o ≡ Some a
+pub passed : {A : Type 0} (test : Bool) (o : Option A) (a : A) → (if test then o else None) ≡ Some a → o ≡ Some a
 passed true o a e = e
 passed false o a e = absurd (cc)
 
-same : {A : Type 0} (a b : A) → Some a ≡ Some b → a ≡ b
+pub same : {A : Type 0} (a b : A) → Some a ≡ Some b → a ≡ b
 same a b e = cc
 
 -- ---- two numbers
@@ -61,7 +61,8 @@ role_ordered RoleName.Record s (Replay values) e good =
     let mode = then_some s.mode _ (Replay values) e in
     let version = then_some (version_of s.version) _ (Replay values) mode.2 in
     let log = then_some s.log _ (Replay values) version.2 in
-    recorded _ values log.2
+    let epochs = then_some (made_of s.epoch s.keep) _ (Replay values) log.2 in
+    recorded _ values epochs.2
 role_ordered RoleName.Replay s (Replay values) e good =
     let log = then_some s.log _ (Replay values) e in
     let from = then_some (count_of s.from) _ (Replay values) log.2 in

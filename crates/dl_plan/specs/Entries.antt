@@ -19,7 +19,7 @@ top_keys =
 abbrev pub sphere_keys : List (List ℕ)
 sphere_keys =
     codes "image" ∷ codes "memory" ∷ codes "role" ∷ codes "mode" ∷ codes "version" ∷ codes "log" ∷ codes "from" ∷ codes "to"
-    ∷ codes "account" ∷ []
+    ∷ codes "epoch" ∷ codes "keep" ∷ codes "account" ∷ []
 
 -- where this is a table, its keys are those of a sphere
 abbrev pub has_sphere_keys : Data → Bool
@@ -60,6 +60,8 @@ pub record SphereEntries : Type 0 where
   pub log : Option (List ℕ)
   pub from : Option ℤ
   pub to : Option ℤ
+  pub epoch : Option ℤ
+  pub keep : Option ℤ
   pub account : Option (List ℕ)
 
 -- what a plan's keys hold
@@ -126,6 +128,8 @@ sphere_of ms =
     optional_text ms (codes "log") >>= λ log.
     optional_number ms (codes "from") >>= λ from.
     optional_number ms (codes "to") >>= λ to.
+    optional_number ms (codes "epoch") >>= λ epoch.
+    optional_number ms (codes "keep") >>= λ keep.
     optional_text ms (codes "account") >>= λ account.
     Some (record {
       image = image;
@@ -136,6 +140,8 @@ sphere_of ms =
       log = log;
       from = from;
       to = to;
+      epoch = epoch;
+      keep = keep;
       account = account;
     })
 

@@ -12,6 +12,13 @@ limited low high (negsuc n) = None
 abbrev pub count_of : Option ℤ → Option (Option ℕ)
 count_of count = if_there (limited 0 16777216) count
 
+-- the commits of an epoch, if a number is there: 1 to 2^24; and how many epochs are kept, 1 to 64
+abbrev pub epoch_of : Option ℤ → Option (Option ℕ)
+epoch_of epoch = if_there (limited 1 16777216) epoch
+
+abbrev pub keep_of : Option ℤ → Option (Option ℕ)
+keep_of keep = if_there (limited 1 64) keep
+
 -- a power of two from 64 to 2048
 abbrev pub is_signature : ℕ → Bool
 is_signature n = list_any (λ size. n == size) (64 ∷ 128 ∷ 256 ∷ 512 ∷ 1024 ∷ 2048 ∷ [])

@@ -10,7 +10,7 @@ use Rattle.dl_plan.specs.Files.{written_names, read_names}
 use Rattle.dl_plan.specs.Limits.{memory_of, longest_chunk}
 use Rattle.dl_plan.specs.Names.{none_is_empty, all_differ, none_is_one_of}
 use Rattle.dl_plan.specs.Optional.{◌>>=◌, ◌>>◌, each_of}
-use Rattle.dl_plan.specs.Roles.{role_of, has_good_interval}
+use Rattle.dl_plan.specs.Roles.{role_of, has_good_interval, has_good_epochs}
 use Rattle.dl_plan.specs.Sizes.{sizes_in, events_in}
 use Rattle.dl_plan.specs.Values.{ScheduleValues, Script, Seeded, RoleValues, Plain, Record, Replay, SphereValues, PlanValues}
 
@@ -89,9 +89,13 @@ cut_well p = if has_good_chunk p then Ok p else Err 8
 abbrev pub bounded_well : List SphereEntries → PlanValues → Result PlanValues ℕ
 bounded_well spheres p = if list_all has_good_interval spheres then Ok p else Err 9
 
--- rules 4 to 9, all of the same entries
+-- rule 10
+abbrev pub parted_well : List SphereEntries → PlanValues → Result PlanValues ℕ
+parted_well spheres p = if list_all has_good_epochs spheres then Ok p else Err 10
+
+-- rules 4 to 10, all of the same entries
 abbrev pub plan_in : (name : List ℕ) → Entries → Result PlanValues ℕ
-plan_in name e = values_in e >> named_well name >> cut_well >> bounded_well e.spheres
+plan_in name e = values_in e >> named_well name >> cut_well >> bounded_well e.spheres >> parted_well e.spheres
 
 -- the plan in the bytes of the file `name`, or the first rule that they break
 unfoldable pub plan_of : (name bytes : List ℕ) → Result PlanValues ℕ

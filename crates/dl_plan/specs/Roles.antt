@@ -1,10 +1,10 @@
--- Rules 6 and 9: which keys of a sphere stand with which role, and the role that they make.
-use Rattle.std.specs.Prelude.{ℤ, int_le, Bool, true, ◌&&◌, is_some, is_none, Option, Some, None, if◌then◌else◌}
+-- Rules 6, 9 and 10: which keys of a sphere stand with which role, and the role that they make.
+use Rattle.std.specs.Prelude.{ℕ, ℤ, int_le, ◌==◌, Bool, true, false, ◌&&◌, is_some, is_none, Option, Some, None, if◌then◌else◌}
 use Rattle.dl_plan.specs.declared.sphere.RoleName.{RoleName}
 use Rattle.dl_plan.specs.Entries.{SphereEntries}
-use Rattle.dl_plan.specs.Limits.{count_of, version_of}
+use Rattle.dl_plan.specs.Limits.{count_of, epoch_of, keep_of, version_of}
 use Rattle.dl_plan.specs.Optional.{◌>>=◌}
-use Rattle.dl_plan.specs.Values.{RoleValues, Plain, Record, Replay}
+use Rattle.dl_plan.specs.Values.{EpochValues, RoleValues, Plain, Record, Replay}
 
 -- a key that has to be there, and one that may not be there
 abbrev needed : {A : Type 0} → Option A → Bool
@@ -25,13 +25,23 @@ has_role_keys s = keys_stand s.role s
 
 -- ---- the role
 
+-- epochs, if both numbers are there
+abbrev pub epochs_made : (epoch keep : Option ℕ) → Option EpochValues
+epochs_made (Some epoch) (Some keep) = Some (record { size = epoch; keep = keep })
+epochs_made epoch keep = None
+
+-- each number in its limits, if it is there
+abbrev pub made_of : (epoch keep : Option ℤ) → Option (Option EpochValues)
+made_of epoch keep = epoch_of epoch >>= λ epoch. keep_of keep >>= λ keep. Some (epochs_made epoch keep)
+
 abbrev pub role_made : RoleName → SphereEntries → Option RoleValues
 role_made RoleName.Plain s = Some Plain
 role_made RoleName.Record s =
     s.mode >>= λ mode.
     version_of s.version >>= λ version.
     s.log >>= λ log.
-    Some (Record (record { mode = mode; version = version; log = log }))
+    made_of s.epoch s.keep >>= λ epochs.
+    Some (Record (record { mode = mode; version = version; log = log; epochs = epochs }))
 role_made RoleName.Replay s =
     s.log >>= λ log.
     count_of s.from >>= λ from.
@@ -54,3 +64,22 @@ interval_stands RoleName.Replay s = are_in_order s.from s.to
 
 abbrev pub has_good_interval : SphereEntries → Bool
 has_good_interval s = interval_stands s.role s
+
+-- ---- rule 10: only what is recorded into a log of version 2 is in epochs, which have both numbers
+
+abbrev pub is_second : (version : Option ℤ) → Bool
+is_second version = elim (version_of version) [ None ↦ false | Some v ↦ v == 2 ]
+
+-- both numbers, for such a log, or none of them
+abbrev pub are_epochs : (version epoch keep : Option ℤ) → Bool
+are_epochs version (Some epoch) (Some keep) = is_second version
+are_epochs version None None = true
+are_epochs version epoch keep = false
+
+abbrev pub epochs_stand : RoleName → SphereEntries → Bool
+epochs_stand RoleName.Plain s = barred s.epoch && barred s.keep
+epochs_stand RoleName.Record s = are_epochs s.version s.epoch s.keep
+epochs_stand RoleName.Replay s = barred s.epoch && barred s.keep
+
+abbrev pub has_good_epochs : SphereEntries → Bool
+has_good_epochs s = epochs_stand s.role s

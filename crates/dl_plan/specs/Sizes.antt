@@ -3,7 +3,7 @@ use Rattle.std.specs.Prelude.{ℕ, pos, nat_le, Bool, ◌&&◌, List, length, is
 use Rattle.std.specs.List.{list_all}
 use Rattle.dl_plan.specs.declared.plan.Sizes.{Sizes}
 use Rattle.dl_plan.specs.Entries.{TopEntries, SphereEntries, Entries}
-use Rattle.dl_plan.specs.Limits.{limited, count_of, signature_of, memory_of, version_of}
+use Rattle.dl_plan.specs.Limits.{limited, count_of, signature_of, memory_of, version_of, epoch_of, keep_of}
 use Rattle.dl_plan.specs.Optional.{◌>>=◌}
 
 -- the numbers at the top; a depth that is absent is 1, and a seed 0
@@ -26,6 +26,7 @@ events_in top = count_of top.events
 abbrev pub has_good_numbers : SphereEntries → Bool
 has_good_numbers s =
     is_some (memory_of s.memory) && is_some (version_of s.version) && is_some (count_of s.from) && is_some (count_of s.to)
+    && is_some (epoch_of s.epoch) && is_some (keep_of s.keep)
 
 -- there are 1 to 8 spheres, and the numbers of each are in their limits
 abbrev pub has_good_spheres : List SphereEntries → Bool

@@ -1,6 +1,7 @@
 -- What a plan asks for, and what is true of it.
 use Rattle.std.specs.Prelude.{◌≡◌, ℕ, ◌<◌, ◌≤◌, ◌%◌, ◌^◌, ⊤, IsTrue, List, map, length, string_bytes, Option, Some, None, IfSome, option_map}
 use Rattle.std.specs.List.{AllByRecursion}
+use Rattle.dl_plan.specs.declared.plan.Epochs.{Epochs}
 use Rattle.dl_plan.specs.declared.plan.Mode.{Mode}
 use Rattle.dl_plan.specs.declared.plan.Plan.{Plan}
 use Rattle.dl_plan.specs.declared.plan.Role.{Role}
@@ -14,11 +15,17 @@ pub data ScheduleValues : Type 0 where
   Script : (name : List ℕ) → ScheduleValues
   Seeded : (events : ℕ) → ScheduleValues
 
--- of what is recorded, the mode, and the version and the name of the log
+-- how many commits an epoch of a recording has, and how many epochs are kept
+pub record EpochValues : Type 0 where
+  pub size : ℕ
+  pub keep : ℕ
+
+-- of what is recorded, the mode, the version and the name of the log, and its epochs, if it is recorded in epochs
 pub record RecordValues : Type 0 where
   pub mode : Mode
   pub version : ℕ
   pub log : List ℕ
+  pub epochs : Option EpochValues
 
 -- of what is replayed, the name of the log, and from which of its commits up to which, if the plan says
 pub record ReplayValues : Type 0 where
@@ -53,9 +60,13 @@ abbrev pub schedule_view : Schedule → ScheduleValues
 schedule_view (Schedule.Script name) = Script (string_bytes name)
 schedule_view (Schedule.Seeded events) = Seeded events
 
+abbrev pub epochs_view : Epochs → EpochValues
+epochs_view e = record { size = e.size; keep = e.keep }
+
 abbrev pub role_view : Role → RoleValues
 role_view Role.Plain = Plain
-role_view (Role.Record mode version log) = Record (record { mode = mode; version = version; log = string_bytes log })
+role_view (Role.Record mode version log epochs) =
+    Record (record { mode = mode; version = version; log = string_bytes log; epochs = option_map epochs_view epochs })
 role_view (Role.Replay log from to) = Replay (record { log = string_bytes log; from = from; to = to })
 
 abbrev pub sphere_view : Sphere → SphereValues
@@ -102,10 +113,15 @@ AreMemories spheres = AllByRecursion (λ (s : SphereValues). IsMemory s.memory) 
 abbrev pub IsCount : Option ℕ → Type 0
 IsCount count = IfSome count (λ n. n ≤ 2 ^ 24)
 
--- the version of what is recorded, and the commits of what is replayed, are in their limits
+-- an epoch has 1 to 2^24 commits, and 1 to 64 epochs are kept
+pub record AreEpochs (e : EpochValues) : Type 0 where
+  pub size : (1 ≤ e.size) × (e.size ≤ 2 ^ 24)
+  pub keep : (1 ≤ e.keep) × (e.keep ≤ 64)
+
+-- the version and the epochs of what is recorded, and the commits of what is replayed, are in their limits
 abbrev pub IsRole : RoleValues → Type 0
 IsRole Plain = ⊤
-IsRole (Record values) = (1 ≤ values.version) × (values.version ≤ 2)
+IsRole (Record values) = (1 ≤ values.version) × (values.version ≤ 2) × IfSome values.epochs AreEpochs
 IsRole (Replay values) = IsCount values.from × IsCount values.to
 
 abbrev pub AreRoles : List SphereValues → Type 0
@@ -134,6 +150,15 @@ IsOrdered (Replay values) = AreOrdered values.from values.to
 abbrev pub AreAllOrdered : List SphereValues → Type 0
 AreAllOrdered spheres = AllByRecursion (λ (s : SphereValues). IsOrdered s.role) spheres
 
+-- what is recorded in epochs has a log of version 2
+abbrev pub CanBeInEpochs : RoleValues → Type 0
+CanBeInEpochs Plain = ⊤
+CanBeInEpochs (Record values) = IfSome values.epochs (λ e. values.version ≡ 2)
+CanBeInEpochs (Replay values) = ⊤
+
+abbrev pub CanAllBeInEpochs : List SphereValues → Type 0
+CanAllBeInEpochs spheres = AllByRecursion (λ (s : SphereValues). CanBeInEpochs s.role) spheres
+
 -- each number of a plan is in its limits
 pub record AreNumbers (p : PlanValues) : Type 0 where
   pub sizes : AreSizes p.sizes
@@ -142,8 +167,9 @@ pub record AreNumbers (p : PlanValues) : Type 0 where
   pub memories : AreMemories p.spheres
   pub roles : AreRoles p.spheres
 
--- each log that is written can have the plan's chunks, and each replay is in order
+-- each log that is written can have the plan's chunks, each replay is in order, and epochs are those of version 2
 pub record IsPlan (p : PlanValues) : Type 0 where
   pub numbers : AreNumbers p
   pub chunk : CanAllHave p.sizes.chunk p.spheres
   pub order : AreAllOrdered p.spheres
+  pub epochs : CanAllBeInEpochs p.spheres

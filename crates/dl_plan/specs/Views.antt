@@ -35,6 +35,8 @@ entry_view s = record {
   log = option_copied s.log;
   from = s.from;
   to = s.to;
+  epoch = s.epoch;
+  keep = s.keep;
   account = option_copied s.account;
 }
 

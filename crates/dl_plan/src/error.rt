@@ -8,7 +8,7 @@ use thiserror::Error;
 /// Why a plan was not read.
 #[derive(Clone, Copy, Debug, PartialEq, Eq, Error)]
 pub enum PlanError {
-    /// It is no plan, with the number of the first rule that the whole of it breaks, from 1 to 9.
+    /// It is no plan, with the number of the first rule that the whole of it breaks, from 1 to 10.
     #[error("the plan breaks rule {0}")]
     Refused(u8),
     #[error("out of memory")]

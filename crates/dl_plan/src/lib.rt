@@ -5,6 +5,7 @@
 mod chunks;
 mod document;
 mod entries;
+mod epochs;
 mod error;
 mod inputs;
 mod intervals;
@@ -23,5 +24,5 @@ mod values;
 pub use error::PlanError;
 pub use inputs::{Input, Source, inputs_of};
 pub use outputs::{Output, Product, outputs_of};
-pub use plan::{Mode, Plan, Role, Schedule, Sizes, Sphere};
+pub use plan::{Epochs, Mode, Plan, Role, Schedule, Sizes, Sphere};
 pub use read::read_plan;

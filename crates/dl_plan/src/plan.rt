@@ -61,11 +61,13 @@ pub struct Sphere {
 pub enum Role {
     /// It runs, and no log is written or read.
     Plain,
-    /// It is recorded into the file `log`, in a log of that version, 1 or 2.
+    /// It is recorded into the file `log`, in a log of that version, 1 or 2. In epochs only the last part of a log of version 2
+    /// is kept, with the state in which it begins.
     Record {
         mode: Mode,
         version: u8,
         log: String,
+        epochs: Option<Epochs>,
     },
     /// It replays the log in the file `log`, in the log's own mode, from the commit of number `from` up to but not that of
     /// number `to`. If one of them is there, the other is as if it were 0, or the log's number of commits; without both the
@@ -75,6 +77,13 @@ pub enum Role {
         from: Option<u32>,
         to: Option<u32>,
     },
+}
+
+/// The epochs of a recording: the commits of each, 1 to 2^24, and how many of them are kept, 1 to 64.
+#[derive(Clone, Copy, Debug, PartialEq, Eq)]
+pub struct Epochs {
+    pub size: u32,
+    pub keep: u32,
 }
 
 /// What a log keeps of the chunks and of their order.

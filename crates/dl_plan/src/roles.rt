@@ -1,14 +1,14 @@
 //! The role of a sphere, by the keys that stand with it.
-ghost use Rattle.std.specs.Prelude.{◌≡◌, ◌≤◌, Some, IfOk, IfErr};
+ghost use Rattle.std.specs.Prelude.{◌≡◌, ◌≤◌, Some, IfOk, IfErr, IfSome, option_map};
 ghost use Rattle.dl_plan.specs.Limits.{count_of, version_of};
 ghost use Rattle.dl_plan.specs.Refusal.{IsBroken};
-ghost use Rattle.dl_plan.specs.Roles.{has_role_keys, role_of};
-ghost use Rattle.dl_plan.specs.Values.{IsCount, IsRole, role_view};
+ghost use Rattle.dl_plan.specs.Roles.{has_role_keys, made_of, role_of};
+ghost use Rattle.dl_plan.specs.Values.{AreEpochs, IsCount, IsRole, epochs_view, role_view};
 ghost use Rattle.dl_plan.specs.Views.{entry_view};
 
 use crate::error::PlanError;
-use crate::plan::Role;
-use crate::sizes::{count_of, version_of};
+use crate::plan::{Epochs, Role};
+use crate::sizes::{count_of, epoch_of, keep_of, version_of};
 use crate::sphere::{RoleName, SphereEntries};
 use std::alloc::Global;
 
@@ -27,6 +27,7 @@ pub(crate) fn role_of(alloc: Global, entry: &SphereEntries<'_>) -> Result<Role, 
             mode,
             version: version_in(entry)?,
             log: String::from_str(alloc, log)?,
+            epochs: epochs_in(entry)?,
         }),
         (RoleName::Replay, _, Some(log)) => Ok(Role::Replay {
             log: String::from_str(alloc, log)?,
@@ -74,5 +75,20 @@ fn count_in(count: Option<i64>) -> Result<Option<u32>, PlanError>
     match count_of(count) {
         Some(count) => Ok(count),
         None => Err(PlanError::Refused(6)),
+    }
+}
+
+/// The epochs of a recorded sphere, if both numbers are there. Refused by rule 6 if one is outside its limits.
+fn epochs_in(entry: &SphereEntries<'_>) -> Result<Option<Epochs>, PlanError>
+    ensures ok { IfOk result (λ epochs. made_of entry.now.epoch entry.now.keep ≡ Some (option_map epochs_view epochs)) }
+    ensures limits { IfOk result (λ epochs. IfSome (option_map epochs_view epochs) AreEpochs) }
+    ensures refused { IfErr result (IsBroken 6 (made_of entry.now.epoch entry.now.keep)) }
+{
+    let (Some(epoch), Some(keep)) = (epoch_of(entry.epoch), keep_of(entry.keep)) else {
+        return Err(PlanError::Refused(6));
+    };
+    match (epoch, keep) {
+        (Some(size), Some(keep)) => Ok(Some(Epochs { size, keep })),
+        _ => Ok(None),
     }
 }

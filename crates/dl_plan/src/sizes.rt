@@ -1,7 +1,7 @@
 //! The numbers in a plan, each in its limits.
 ghost use Rattle.std.specs.Prelude.{◌≡◌, ◌≤◌, ◌^◌, IfSome, IsTrue, map};
 ghost use Rattle.std.specs.List.{list_all};
-ghost use Rattle.dl_plan.specs.Limits.{limited, count_of, is_signature, signature_of, memory_of, version_of, longest_chunk};
+ghost use Rattle.dl_plan.specs.Limits.{limited, count_of, epoch_of, keep_of, is_signature, signature_of, memory_of, version_of, longest_chunk};
 ghost use Rattle.dl_plan.specs.Sizes.{sizes_of, sizes_in, events_in, has_good_spheres, has_good_numbers};
 ghost use Rattle.dl_plan.specs.Values.{AreSizes, IsCount, IsMemory};
 ghost use Rattle.dl_plan.specs.Views.{top_view, entry_view, entries_view};
@@ -50,6 +50,8 @@ fn has_good_numbers(sphere: &SphereEntries<'_>) -> bool
         && version_of(sphere.version).is_some()
         && count_of(sphere.from).is_some()
         && count_of(sphere.to).is_some()
+        && epoch_of(sphere.epoch).is_some()
+        && keep_of(sphere.keep).is_some()
 }
 
 /// The numbers at a plan's top. `None` if one is outside its limits.
@@ -83,6 +85,28 @@ pub(crate) fn count_of(count: Option<i64>) -> Option<Option<u32>>
 {
     match count {
         Some(number) => Some(Some(limited(number, 0, MOST)? as u32)),
+        None => Some(None),
+    }
+}
+
+/// The commits of an epoch, if a number is there. `None` if it is outside its limits.
+pub(crate) fn epoch_of(epoch: Option<i64>) -> Option<Option<u32>>
+    ensures value { result ≡ epoch_of epoch }
+    ensures within { IfSome result (λ e. IfSome e (λ n. (1 ≤ n) × (n ≤ 2 ^ 24))) }
+{
+    match epoch {
+        Some(number) => Some(Some(limited(number, 1, MOST)? as u32)),
+        None => Some(None),
+    }
+}
+
+/// How many epochs are kept, if a number is there. `None` if it is outside its limits.
+pub(crate) fn keep_of(keep: Option<i64>) -> Option<Option<u32>>
+    ensures value { result ≡ keep_of keep }
+    ensures within { IfSome result (λ k. IfSome k (λ n. (1 ≤ n) × (n ≤ 64))) }
+{
+    match keep {
+        Some(number) => Some(Some(limited(number, 1, 64)? as u32)),
         None => Some(None),
     }
 }

@@ -27,6 +27,8 @@ pub(crate) struct SphereEntries<'a> {
     pub log: Option<&'a str>,
     pub from: Option<i64>,
     pub to: Option<i64>,
+    pub epoch: Option<i64>,
+    pub keep: Option<i64>,
     pub account: Option<&'a str>,
 }
 
@@ -53,6 +55,8 @@ fn read_keys(table: &Table) -> Option<SphereEntries<'_>>
         log: optional_text(table, "log")?,
         from: optional_number(table, "from")?,
         to: optional_number(table, "to")?,
+        epoch: optional_number(table, "epoch")?,
+        keep: optional_number(table, "keep")?,
         account: optional_text(table, "account")?,
     })
 }

@@ -1,2 +1,5 @@
+mod Beginning
+mod ByThread
+mod Cut
 mod Inserted
 mod Recordings

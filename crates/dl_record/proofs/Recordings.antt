@@ -52,18 +52,18 @@ short-noted threads s count sizes done (Thread t) size true good fits over few c
     (omega (arith, few, room, length-insert (λ x. x.thread) (λ x. x.index) (record { thread = t; index = slice_index done t; size = size }) sizes))
     (good, omega (arith, counts t), over refl, fits) are
 
-sizes-noted : (threads : ℕ) (mode : ModeName) (s count : ℕ) (sizes : Sizes) (done : List ℕ) (note : Note) → IsActor threads note.actor → note.size ≤ s
-    → (note.short ≡ true → 1 ≤ note.size) → count < 2 ^ 24 → ((t : ℕ) → slice_index done t ≤ count) → length (short_sizes sizes) ≤ count
+sizes-noted : (threads : ℕ) (mode : ModeName) (s count n : ℕ) (sizes : Sizes) (done : List ℕ) (note : Note) → IsActor threads note.actor → note.size ≤ s
+    → (note.short ≡ true → 1 ≤ note.size) → n < 2 ^ 24 → ((t : ℕ) → slice_index done t ≤ n) → length (short_sizes sizes) ≤ n
     → IsSizes mode threads s count sizes → IsSizes mode threads s (count + 1) (sizes_with sizes done note)
-sizes-noted threads OrderSize s count (Each sizes) done note good fits over few counts room are =
+sizes-noted threads OrderSize s count n (Each sizes) done note good fits over few counts room are =
     (omega (arith, length_push sizes note.size, are.0), All-push (λ size. size ≤ s) sizes note.size are.1 fits)
-sizes-noted threads OrderSize s count (Short sizes) done note good fits over few counts room are = absurd are
-sizes-noted threads OrderOnly s count (Each sizes) done note good fits over few counts room are = absurd are
-sizes-noted threads OrderOnly s count (Short sizes) done note good fits over few counts room are =
-    short-noted threads s count sizes done note.actor note.size note.short good fits over few counts room are
-sizes-noted threads Picolog s count (Each sizes) done note good fits over few counts room are = absurd are
-sizes-noted threads Picolog s count (Short sizes) done note good fits over few counts room are =
-    short-noted threads s count sizes done note.actor note.size note.short good fits over few counts room are
+sizes-noted threads OrderSize s count n (Short sizes) done note good fits over few counts room are = absurd are
+sizes-noted threads OrderOnly s count n (Each sizes) done note good fits over few counts room are = absurd are
+sizes-noted threads OrderOnly s count n (Short sizes) done note good fits over few counts room are =
+    short-noted threads s n sizes done note.actor note.size note.short good fits over few counts room are
+sizes-noted threads Picolog s count n (Each sizes) done note good fits over few counts room are = absurd are
+sizes-noted threads Picolog s count n (Short sizes) done note good fits over few counts room are =
+    short-noted threads s n sizes done note.actor note.size note.short good fits over few counts room are
 
 short-length : (sizes : List ShortSize) (done : List ℕ) (actor : Actor) (size : ℕ) (short : Bool) → length (short_with sizes done actor size short) ≤ length sizes + 1
 short-length sizes done Dma size short = omega arith
@@ -79,11 +79,16 @@ abbrev pub IfThere : {X : Type 0} → (X → Type 0) → Option X → Type 0
 IfThere P None = Unit {0}
 IfThere P (Some x) = P x
 
-inputs-with : (inputs : List Input) (input : Option Input) (n : ℕ) → n < 2 ^ 24 → length inputs ≤ n → IfThere IsInput input → AreInputs inputs
-    → AreInputs (with_input inputs input) × (length (with_input inputs input) ≤ n + 1)
-inputs-with inputs None n few h good are = (are, omega arith)
-inputs-with inputs (Some input) n few h good are =
+inputs-with : (inputs : List Input) (input : Option Input) (past n : ℕ) → n < 2 ^ 24 → past + length inputs ≤ n → IfThere IsInput input → AreInputs inputs
+    → AreInputs (with_input inputs input) × (past + length (with_input inputs input) ≤ n + 1)
+inputs-with inputs None past n few h good are = (are, omega arith)
+inputs-with inputs (Some input) past n few h good are =
     (IsSection-push IsInput (λ x y. Unit {0}) inputs input are (omega arith) good (λ d l. tt), omega (arith, length_push inputs input))
+
+-- with that of a commit the inputs are no fewer
+pub with_input-more : (inputs : List Input) (input : Option Input) → length inputs ≤ length (with_input inputs input)
+with_input-more inputs None = omega arith
+with_input-more inputs (Some input) = omega (arith, length_push inputs input)
 
 dmas-with : (dmas : List DmaRecord) (n : ℕ) (bytes : Option (List ℕ)) → n < 2 ^ 24 → length dmas ≤ n → IfThere AreFewBytes bytes
     → All (λ dma. dma.position < n) dmas → AreDmas dmas
@@ -114,7 +119,7 @@ sizes-none threads s Picolog = (IsSection-none (IsShortSize threads s) _, refl)
 
 -- a recording of nothing is one
 pub IsRecording-none : (version : ℕ) (mode : ModeName) (s : ℕ) → IsVersion version (new_threads version) → IsStandard version s
-    → IsRecording version mode (nothing_kept mode s) [] [] []
+    → IsRecording version mode 0 0 (nothing_kept mode s) [] [] []
 IsRecording-none version mode s is_version standard =
     let sizes = sizes-none (new_threads version) s mode in
     record {
@@ -128,6 +133,7 @@ IsRecording-none version mode s is_version standard =
         inputs = IsSection-none IsInput _;
         dmas = IsSection-none IsDmaRecord _;
       };
+      few = omega arith;
       done = AreAmong-none (nothing_kept mode s).done 0 refl;
       sizes = omega (arith, sizes.1);
       few_inputs = omega arith;
@@ -136,36 +142,39 @@ IsRecording-none version mode s is_version standard =
     }
 
 -- a recording is still one with one more commit and its records
-pub IsRecording-commit : (version : ℕ) (mode : ModeName) (kept : Kept) (interrupts : List Interrupt) (inputs : List Input) (dmas : List DmaRecord)
+pub IsRecording-commit : (version : ℕ) (mode : ModeName) (past past_inputs : ℕ) (kept : Kept) (interrupts : List Interrupt) (inputs : List Input) (dmas : List DmaRecord)
     (commit : Commit) (short : Bool) (input : Option Input) (bytes : Option (List ℕ))
-    → IsRecording version mode kept interrupts inputs dmas → CanCommit version kept commit short → IfThere IsInput input → IfThere AreFewBytes bytes
-    → IsRecording version mode (noted mode kept (note_of commit short)) interrupts (with_input inputs input) (with_dma dmas kept.count bytes)
-IsRecording-commit version mode kept interrupts inputs dmas commit short input bytes r can good few =
-    let i = inputs-with inputs input kept.count can.few r.few_inputs good r.log.inputs in
-    let d = dmas-with dmas kept.count bytes can.few r.few_dmas few r.positions r.log.dmas in
+    → IsRecording version mode past past_inputs kept interrupts inputs dmas → CanCommit version kept commit short → past + kept.count < 2 ^ 24
+    → IfThere IsInput input → IfThere AreFewBytes bytes
+    → IsRecording version mode past past_inputs (noted mode kept (note_of commit short)) interrupts (with_input inputs input) (with_dma dmas (past + kept.count) bytes)
+IsRecording-commit version mode past past_inputs kept interrupts inputs dmas commit short input bytes r can below good few =
+    let n : ℕ = past + kept.count in
+    let i = inputs-with inputs input past_inputs n below r.few_inputs good r.log.inputs in
+    let d = dmas-with dmas n bytes below r.few_dmas few r.positions r.log.dmas in
     record {
       log = record {
         version = r.log.version;
         s = r.log.s;
         count = omega (arith, can.few);
         order = order-noted (new_threads version) mode kept.count kept.order commit.actor can.actor r.log.order;
-        sizes = sizes-noted (new_threads version) mode kept.s kept.count kept.sizes kept.done (note_of commit short) can.actor can.size can.over can.few r.done r.sizes r.log.sizes;
+        sizes = sizes-noted (new_threads version) mode kept.s kept.count n kept.sizes kept.done (note_of commit short) can.actor can.size can.over below r.done r.sizes r.log.sizes;
         interrupts = r.log.interrupts;
         inputs = i.0;
         dmas = d.0;
       };
-      done = done_with-few kept.done commit.actor kept.count r.done;
+      few = omega arith;
+      done = λ t. omega (arith, done_with-few kept.done commit.actor n r.done t);
       sizes = omega (arith, sizes-length kept.sizes kept.done (note_of commit short), r.sizes);
-      few_inputs = i.1;
-      few_dmas = d.1;
-      positions = d.2;
+      few_inputs = omega (arith, i.1);
+      few_dmas = omega (arith, d.1);
+      positions = All-weaker (λ dma. dma.position < n + 1) (λ dma. dma.position < past + (kept.count + 1)) (λ dma l. omega arith) (with_dma dmas n bytes) d.2;
     }
 
 -- a recording is still one with one more interrupt
-pub IsRecording-interrupt : (version : ℕ) (mode : ModeName) (kept : Kept) (interrupts : List Interrupt) (inputs : List Input) (dmas : List DmaRecord) (interrupt : Interrupt)
-    → IsRecording version mode kept interrupts inputs dmas → IsInterrupt (new_threads version) interrupt → length (insert_interrupt interrupt interrupts) < 2 ^ 32
-    → IsRecording version mode kept (insert_interrupt interrupt interrupts) inputs dmas
-IsRecording-interrupt version mode kept interrupts inputs dmas interrupt r good few =
+pub IsRecording-interrupt : (version : ℕ) (mode : ModeName) (past past_inputs : ℕ) (kept : Kept) (interrupts : List Interrupt) (inputs : List Input) (dmas : List DmaRecord) (interrupt : Interrupt)
+    → IsRecording version mode past past_inputs kept interrupts inputs dmas → IsInterrupt (new_threads version) interrupt → length (insert_interrupt interrupt interrupts) < 2 ^ 32
+    → IsRecording version mode past past_inputs kept (insert_interrupt interrupt interrupts) inputs dmas
+IsRecording-interrupt version mode past past_inputs kept interrupts inputs dmas interrupt r good few =
     record {
       log = record {
         version = r.log.version;
@@ -177,6 +186,7 @@ IsRecording-interrupt version mode kept interrupts inputs dmas interrupt r good 
         inputs = r.log.inputs;
         dmas = r.log.dmas;
       };
+      few = r.few;
       done = r.done;
       sizes = r.sizes;
       few_inputs = r.few_inputs;

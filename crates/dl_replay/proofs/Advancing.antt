@@ -19,11 +19,11 @@ use Rattle.spec_play.specs.States.{progress_from}
 use Rattle.spec_play.specs.Intervals.{at_end_of_log, now_in}
 use Rattle.spec_play.specs.Turns.{TurnOrEnd, Ended, now_at, turn_of, at_end, has_left_over}
 use Rattle.spec_protocol.specs.machine.Spheres.{is_over}
-use Rattle.dl_kernel.specs.declared.state.State.{State}
+use Rattle.dl_kernel.specs.States.{PlayState as State, state_in}
 use Rattle.dl_kernel.specs.Calls.{spawned_list}
-use Rattle.dl_kernel.specs.States.{state_in}
+use Rattle.spec_protocol.specs.promises.Sound.{IsSoundIf}
 use Rattle.dl_replay.specs.Following.{Following, followed_from}
-use Rattle.dl_replay.specs.Replays.{Agrees, IsInside, IsReplaying}
+use Rattle.dl_replay.specs.Replays.{Agrees, IsReplaying}
 
 -- ---- whose turn it is
 
@@ -75,7 +75,7 @@ left-from log i s r e going =
     omega (arith, now-left log i p s.used s.threads (sym (ap (λ (x : Following). is_over x.now) e) ∙ going))
 
 -- a replay that goes on from a state within its log
-pub goes-on : (log : LogParts) (i : Option Interval) (s : State) → IsLog log → IsBounded log (state_in s) → IsInside (length s.memory) s.request
+pub goes-on : (log : LogParts) (i : Option Interval) (s : State) → IsLog log → IsBounded log (state_in s) → IsSoundIf (length s.memory) s.request
     → IsReplaying (followed_from log i (state_in s)) s
 goes-on log i s is bounded inside = record { is_log = is; bounded = bounded; left = left-from log i s (followed_from log i (state_in s)) refl; request = inside }
 

@@ -10,7 +10,7 @@ use Rattle.spec_play.specs.declared.used.Used.{Used}
 use Rattle.spec_play.specs.Plays.{with_threads}
 use Rattle.spec_play.specs.Transfers.{DmaVerdict, DmaGoes, DmaFails}
 use Rattle.spec_play.specs.Verdicts.{LogVerdict, Goes, Fails}
-use Rattle.dl_kernel.specs.declared.state.State.{State}
+use Rattle.dl_kernel.specs.States.{PlayState as State}
 use Rattle.dl_replay.specs.declared.verdict.Verdict.{Verdict}
 use Rattle.dl_replay.specs.Following.{Following, diverged, followed}
 use Rattle.dl_replay.specs.Judged.{Judged, judged, dma_judged}

@@ -6,6 +6,6 @@ mod Verdicts
 mod Kept
 mod Lists
 pub mod Limits
-mod Requests
+pub mod Requests
 pub mod Advancing
 pub mod Answered

@@ -5,7 +5,7 @@ use Rattle.spec_play.specs.Progress.{Progress, with_effect, with_dma, with_dma_u
 use Rattle.spec_play.specs.Verdicts.{LogVerdict, Goes, Fails}
 use Rattle.spec_play.specs.Transfers.{DmaVerdict, DmaGoes, DmaFails}
 use Rattle.spec_play.specs.Plays.{with_threads}
-use Rattle.dl_kernel.specs.declared.state.State.{State}
+use Rattle.dl_kernel.specs.States.{PlayState as State}
 use Rattle.dl_replay.specs.declared.verdict.Verdict.{Verdict}
 use Rattle.dl_replay.specs.Following.{Following, followed, diverged}
 

@@ -12,7 +12,8 @@ ghost use Rattle.spec_play.specs.Verdicts.{ended, chunk_why, chunk_verdict, seri
 ghost use Rattle.spec_play.specs.Transfers.{is_for, dma_verdict};
 ghost use Rattle.dl_kernel.specs.Calls.{spawned_list};
 ghost use Rattle.dl_kernel.specs.States.{state_in};
-ghost use Rattle.dl_replay.specs.Replays.{Agrees, IsInside};
+ghost use Rattle.spec_protocol.specs.promises.Sound.{IsSoundIf};
+ghost use Rattle.dl_replay.specs.Replays.{Agrees};
 ghost use Rattle.dl_replay.specs.Judging.{verdict_of, given_by, step_verdict, transfer_seen, transfer_verdict};
 
 use crate::lookup::Lookup;
@@ -123,14 +124,14 @@ pub fn judge_step<M: Mode>(
     requires bounded { IsBounded log.now (state_in state.now) }
     requires few { state.now.commits + 1 < 2 ^ 32 }
     requires thread { number < length state.now.threads }
-    requires request { IsInside (length state.now.memory) state.now.request }
+    requires request { IsSoundIf (length state.now.memory) state.now.request }
     ensures verdict { (p : Progress) (t : Parts) → let s = state.now in Agrees s p → slice_get s.threads number ≡ Some t →
         IfOk result (λ r. step_verdict number r ≡ serial_verdict log.now p s.used number s.threads t s.memory) }
     ensures commits { IfOk result (λ r. IfOk r (λ d. d.finish.thread.commits ≤ state.now.commits + 1)) }
     ensures interrupts { IfOk result (λ r. IfOk r (λ d. d.finish.used.interrupts ≤ state.now.used.interrupts + 1)) }
     ensures spawned { IfOk result (λ r. IfOk r (λ d. AreNew (spawned_list d.left.spawned))) }
     ensures room { IfOk result (λ r. IfOk r (λ d. OnSome d.left.spawned (length state.now.threads < most_threads))) }
-    ensures request { IfOk result (λ r. IfOk r (λ d. IsInside (length state.now.memory) d.left.request)) }
+    ensures request { IfOk result (λ r. IfOk r (λ d. IsSoundIf (length state.now.memory) d.left.request)) }
 {
     let thread = thread_at(&state.threads, number);
     let size = log.size(Actor::Thread(number), thread.commits());
@@ -229,7 +230,7 @@ pub fn judge_dma<M: Mode>(
     log: &Lookup<M>,
     state: &State,
 ) -> Result<Result<Buffer, Why>, OutOfMemory>
-    requires { IsInside (length state.now.memory) state.now.request }
+    requires { IsSoundIf (length state.now.memory) state.now.request }
     ensures verdict { (p : Progress) → Agrees state.now p →
         IfOk result (λ r. transfer_verdict r ≡ dma_verdict log.now p state.now.used) }
     ensures few { IfOk result (λ r. OnOk r (state.now.used.dmas + 1 < 2 ^ 32)) }

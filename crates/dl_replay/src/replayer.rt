@@ -17,15 +17,15 @@ ghost use Rattle.spec_play.specs.Turns.{Turn, TurnOfDma};
 ghost use Rattle.spec_play.specs.Transfers.{DmaGoes, dma_verdict};
 ghost use Rattle.spec_play.specs.Verdicts.{Goes, chunk_verdict, serial_verdict};
 ghost use Rattle.spec_protocol.specs.machine.Spheres.{Replay, actor_of, is_over, pieces_of};
-ghost use Rattle.dl_kernel.specs.declared.state.State.{State};
+ghost use Rattle.dl_kernel.specs.States.{PlayState, state_in};
 ghost use Rattle.dl_kernel.specs.Calls.{spawned_list};
-ghost use Rattle.dl_kernel.specs.States.{state_in};
+ghost use Rattle.spec_protocol.specs.promises.Sound.{IsSoundIf};
 ghost use Rattle.dl_replay.specs.Following.{cursor_of, diverged, end_of, followed, followed_from};
 ghost use Rattle.dl_replay.specs.Judged.{dma_judged, judged};
 ghost use Rattle.dl_replay.specs.Judging.{transfer_verdict};
 ghost use Rattle.dl_replay.specs.Left.{SaysSize, served_by, served_left, verdict_left, verdict_stored};
 ghost use Rattle.dl_replay.specs.Limits.{chunk_limit, chunk_limit_in};
-ghost use Rattle.dl_replay.specs.Replays.{Agrees, IsInside, IsReplaying};
+ghost use Rattle.dl_replay.specs.Replays.{Agrees, IsReplaying};
 
 use crate::judging::{Done, Finish, judge_chunk, judge_dma, judge_step, transfer_of};
 use crate::lookup::Lookup;
@@ -73,7 +73,7 @@ impl<M: Noting> Replayer<M> {
     ) -> Result<Replayer<M>, OutOfMemory>
         requires mode { log.now.mode ≡ M.mode }
         requires state { IsBounded log.now (state_in state.now) }
-        requires request { IsInside (length state.now.memory) state.now.request }
+        requires request { IsSoundIf (length state.now.memory) state.now.request }
         ensures value { IfOk result (λ replayer. replayer ≡ followed_from log.now interval (state_in state.now)) }
         ensures at { IfOk result (λ replayer. IsReplaying replayer state.now) }
     {
@@ -167,7 +167,7 @@ impl<M: Mode> Replayer<M> {
     pub fn accept_piece(&mut self, n: u32)
         requires { self.old.total + n ≤ self.old.log.s }
         ensures value { self.new ≡ record self.old { total = self.old.total + n } }
-        ensures at { (s : State) → IsReplaying self.old s → IsReplaying self.new s }
+        ensures at { (s : PlayState) → IsReplaying self.old s → IsReplaying self.new s }
     {
         self.total += n;
     }
@@ -295,7 +295,7 @@ impl<M: Mode> Replayer<M> {
     pub fn diverge(&mut self, why: Why, state: &State) -> Verdict
         ensures verdict { result ≡ Verdict.Diverged why }
         ensures replay { self.new ≡ diverged why state.now.commits self.old }
-        ensures at { (s : State) → IsReplaying self.old s → IsReplaying self.new s }
+        ensures at { (s : PlayState) → IsReplaying self.old s → IsReplaying self.new s }
     {
         self.turn = TurnOrEnd::Ended(End::Diverged(state.commits, why));
         Verdict::Diverged(why)
@@ -310,7 +310,7 @@ impl<M: Mode> Replayer<M> {
         requires interrupts { change.now.finish.used.interrupts ≤ state.old.used.interrupts + 1 }
         requires spawned { AreNew (spawned_list change.now.spawned) }
         requires room { OnSome change.now.spawned (length state.old.threads < most_threads) }
-        requires request { IsInside (length state.old.memory) change.now.request }
+        requires request { IsSoundIf (length state.old.memory) change.now.request }
         ensures at { IsReplaying self.new state.new }
         ensures judged { (p : Progress) (e : Effect) → Agrees state.old p → let c = change.now in
             e.thread ≡ c.finish.thread → e.spawned ≡ spawned_list c.spawned → e.request ≡ c.request →

@@ -1,3 +1,4 @@
 pub mod Drawn
 pub mod Over
+mod Words
 mod Taking

@@ -11,9 +11,13 @@ use Rattle.rand_pcg.specs.Lcg.{Lcg}
 use Rattle.dl_event.specs.declared.events.Repeated.{Repeated}
 use Rattle.dl_event.specs.Repeated.{expanded}
 use Rattle.dl_event.specs.Seeded.{schedule}
+use Rattle.spec_protocol.specs.promises.Kept.{NoneIsDue}
+use Rattle.spec_protocol.specs.promises.Promises.{after}
+use Rattle.spec_finishing.specs.Function.{finishing_of}
 use Rattle.spec_run.proofs.Room.{leaves_room, schedule_counted}
 use Rattle.dl_machine.specs.Ready.{HasRoom}
 use Rattle.dl_machine.specs.Runs.{IsRun}
+use Rattle.dl_machine.proofs.Worlds.Promised.{room_alike}
 use Rattle.dl_finish.specs.Runs.{HasEnded}
 use Rattle.dl_run.specs.Ran.{IsOver}
 use Rattle.dl_run.specs.Taken.{IsNew, HasTaken}
@@ -23,15 +27,20 @@ use Rattle.dl_run.specs.Taken.{IsNew, HasTaken}
 -- a short run's world has room for one more commit
 pub run_room : (s : Setup) (es : List Event) (w : World) → IsRun s es w → length es ≤ 2 ^ 24 → HasRoom w
 run_room s es w run few =
-    subst HasRoom (sym run.here) (record { few = λ i within live. leaves_room s es i run.limits few within live })
+    room_alike w (after s es) run.here.alike (record { few = λ i within live. leaves_room s es i run.limits few within live })
 
 -- a run's world counts as many events as the run has
 pub run_events : (s : Setup) (es : List Event) (w : World) → IsRun s es w → w.counts.events ≡ length es
-run_events s es w run = ap (λ (v : World). v.counts.events) run.here ∙ schedule_counted s es
+run_events s es w run = ap (λ (v : World). v.counts.events) run.here.alike ∙ schedule_counted s es
 
--- a run that was finished is over
-pub run_over : (s : Setup) (es : List Event) (w ended : World) → IsRun s es w → length es ≤ 2 ^ 24 → HasEnded s es ended → IsOver es (record { setup = s; world = ended })
-run_over s es w ended run few has = record { limits = run.limits; few = few; world = has.world }
+-- a run that was finished is over once the epochs have begun that were due
+pub run_over : (s : Setup) (es : List Event) (w ended begun : World) → IsRun s es w → length es ≤ 2 ^ 24 → HasEnded s es ended → ((u : Setup) (fs : List Event) → IsRun u fs ended → IsRun u fs begun) → NoneIsDue begun → IsOver es (record { setup = s; world = begun })
+run_over s es w ended begun run few has same still =
+    record {
+      limits = run.limits;
+      few = few;
+      world = record { shows = (same s (es ++ finishing_of s es) has.run).here; still = still };
+    }
 
 -- ---- how far the machine is
 

@@ -1,4 +1,5 @@
 pub mod Schedules
 pub mod Ran
+pub mod Tails
 pub mod Taken
 pub mod Logs

@@ -1,9 +1,16 @@
 -- The bytes of the log that a sphere has.
-use Rattle.std.specs.Prelude.{ℕ, List, [], Option, None, Some}
+use Rattle.std.specs.Prelude.{ℕ, Bool, true, false, List, []}
 use Rattle.spec_log.specs.Bytes.{log_bytes}
-use Rattle.spec_log.specs.declared.LogParts.{LogParts}
+use Rattle.spec_tail.specs.Bytes.{tail_bytes}
+use Rattle.dl_run.specs.declared.texts.SphereLog.{SphereLog}
 
 -- none if there is no log
-abbrev pub log_bytes_if : Option LogParts → List ℕ
-log_bytes_if None = []
-log_bytes_if (Some log) = log_bytes log
+abbrev pub bytes_of : SphereLog → List ℕ
+bytes_of SphereLog.None = []
+bytes_of (SphereLog.Whole log) = log_bytes log
+bytes_of (SphereLog.Tail tail) = tail_bytes tail
+
+abbrev pub is_tail : SphereLog → Bool
+is_tail SphereLog.None = false
+is_tail (SphereLog.Whole log) = false
+is_tail (SphereLog.Tail tail) = true

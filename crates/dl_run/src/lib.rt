@@ -6,8 +6,10 @@ mod lines;
 mod reading;
 mod run;
 mod schedule;
+mod tails;
 mod texts;
 
 pub use dl_event::Events;
 pub use run::Run;
 pub use schedule::Schedule;
+pub use texts::SphereLog;

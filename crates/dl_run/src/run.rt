@@ -48,6 +48,7 @@ impl Run {
         let mut machine = Machine::new(alloc, &setup)?;
         drive(&mut machine, schedule)?;
         finish(&mut machine)?;
+        machine.begin_epochs()?;
         Ok(Run { setup, machine })
     }
 }

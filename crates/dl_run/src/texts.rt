@@ -1,38 +1,56 @@
 //! The texts of a run that is over.
-ghost use Rattle.std.specs.Prelude.{◌≡◌, ◌<◌, List, IfOk, length};
+ghost use Rattle.std.specs.Prelude.{◌≡◌, ◌<◌, List, None, IfOk, length};
 ghost use Rattle.spec_protocol.specs.declared.event.Event.{Event};
 ghost use Rattle.spec_protocol.specs.machine.Machine.{RecordSetup, IsRecorded};
 ghost use Rattle.spec_protocol.specs.promises.Sound.{image_at};
 ghost use Rattle.spec_run.specs.Texts.{account_text as account_of, console_text, log_of_points, log_text, report_text as report_of, summary_text as summary_of};
-ghost use Rattle.dl_run.specs.Logs.{log_bytes_if};
+ghost use Rattle.spec_run.specs.Tails.{is_in_epochs};
+ghost use Rattle.dl_run.specs.Logs.{bytes_of, is_tail};
 ghost use Rattle.dl_run.specs.Ran.{IsOver};
 
 use crate::run::Run;
 use dl_account::{account_text, report_text, summary_text};
 use dl_entry::OutOfMemory;
 use dl_sphere::Role;
+use dl_tail::Tail;
 use spec_log::Log;
 use std::alloc::Global;
 
+/// What a sphere has as its log.
+#[derive(Drop)]
+pub enum SphereLog {
+    /// It isn't recorded.
+    None,
+    /// It is recorded whole.
+    Whole(Log),
+    /// It is recorded in epochs.
+    Tail(Tail),
+}
+
 impl Run {
-    /// A sphere's log; none if the sphere isn't recorded.
-    pub fn log(&self, sphere: usize) -> Result<Option<Log>, OutOfMemory>
+    /// A sphere's log.
+    pub fn log(&self, alloc: Global, sphere: usize) -> Result<SphereLog, OutOfMemory>
         requires { sphere < length self.now.setup.spheres }
-        ensures { IfOk result (λ log. (es : List Event) → IsOver es self.now → log_bytes_if log ≡ log_text self.now.setup es sphere) }
+        ensures bytes { IfOk result (λ log. (es : List Event) → IsOver es self.now
+            → bytes_of log ≡ log_text self.now.setup es sphere) }
+        ensures tail { IfOk result (λ log. is_tail log ≡ is_in_epochs (image_at self.now.setup sphere).role) }
     {
         match self.role(sphere) {
-            Role::Record { .. } => Ok(Some(self.recording(sphere)?)),
-            Role::Plain => Ok(None),
-            Role::Replay(_) => Ok(None),
+            Role::Plain | Role::Replay(_) => Ok(SphereLog::None),
+            Role::Record { epochs, .. } => match epochs {
+                None => Ok(SphereLog::Whole(self.recording(sphere)?)),
+                Some(_) => Ok(SphereLog::Tail(self.tail(alloc, sphere)?)),
+            },
         }
     }
 
-    /// The log of a recorded sphere.
+    /// The log of a sphere that is recorded whole.
     pub fn recording(&self, sphere: usize) -> Result<Log, OutOfMemory>
         requires inside { sphere < length self.now.setup.spheres }
-        requires recorded { (asked : RecordSetup) × ((image_at self.now.setup sphere).role ≡ IsRecorded asked) }
+        requires recorded { (asked : RecordSetup) × ((image_at self.now.setup sphere).role ≡ IsRecorded asked) × (asked.epochs ≡ None) }
         ensures { IfOk result (λ log. (es : List Event) (asked : RecordSetup) → IsOver es self.now
-            → (image_at self.now.setup sphere).role ≡ IsRecorded asked → log ≡ log_of_points self.now.setup es sphere asked) }
+            → (image_at self.now.setup sphere).role ≡ IsRecorded asked → asked.epochs ≡ None
+            → log ≡ log_of_points self.now.setup es sphere asked) }
     {
         self.sphere(sphere).log()
     }

@@ -11,6 +11,7 @@ use Rattle.spec_play.specs.Intervals.{without_commits}
 use Rattle.spec_play.proofs.Bounds.{after-bounded}
 use Rattle.spec_play.proofs.Going.{plays-go, plays-most, plays-stay}
 use Rattle.spec_play.proofs.Resuming.{plays_resume}
+use Rattle.dl_kernel.specs.States.{PlayState as Kept, state_in}
 
 -- A log's play on an image.
 module _ (log : LogParts) (memory : List ℕ) (entry : ℕ) where
@@ -77,9 +78,9 @@ module _ (log : LogParts) (memory : List ℕ) (entry : ℕ) where
 -- ---- the row of states
 
 -- what holds of a row's states by their places does with one more
-pub each-pushed : (f : ℕ → State) (xs : List State) (s : State) → ((n : ℕ) (x : State) → slice_get xs n ≡ Some x → x ≡ f n) → s ≡ f (length xs)
-    → (n : ℕ) (x : State) → slice_get (xs ++ s ∷ []) n ≡ Some x → x ≡ f n
-each-pushed f [] s each is zero x e = sym (same_Some s x e) ∙ is
+pub each-pushed : (f : ℕ → State) (xs : List Kept) (s : Kept) → ((n : ℕ) (x : Kept) → slice_get xs n ≡ Some x → state_in x ≡ f n) → state_in s ≡ f (length xs)
+    → (n : ℕ) (x : Kept) → slice_get (xs ++ s ∷ []) n ≡ Some x → state_in x ≡ f n
+each-pushed f [] s each is zero x e = ap state_in (sym (same_Some s x e)) ∙ is
 each-pushed f [] s each is (suc n) x e = absurd (none-some x e)
 each-pushed f (y ∷ xs) s each is zero x e = each 0 x e
 each-pushed f (y ∷ xs) s each is (suc n) x e = each-pushed (λ i. f (suc i)) xs s (λ i z h. each (suc i) z h) is n x e

@@ -1,7 +1,9 @@
 -- Words over a memory stay inside it, and laying them one after another lays them all.
-use Rattle.std.proofs.Common.{Result, Ok, Err, OnOk, is_ok, is_err, ◌≡◌, ℕ, ◌+◌, ◌*◌, ◌/◌, ◌%◌, ◌<◌, ◌≤◌, true, false, List, [], ◌∷◌, length, drop, slice_get, Some, None, refl, sym, ◌∙◌, ap, subst, arith}
-use Rattle.spec_isa.specs.Words.{Stored, Apart, IsBytes, lay, lays, read}
-use Rattle.spec_isa.specs.Masks.{over, bytes_of}
+use Rattle.std.proofs.Common.{Result, Ok, Err, OnOk, is_ok, is_err, ◌≡◌, ◌≢◌, ℕ, zero, suc, ◌+◌, ◌*◌, ◌/◌, ◌%◌, ◌<◌, ◌≤◌, true, false, eqb, List, [], ◌∷◌, length, drop, slice_get, Some, None, refl, sym, ◌∙◌, ap, subst, arith}
+use Rattle.std.proofs.lemmas.Bool.{eq-eqb, ne_eqb}
+use Rattle.std.proofs.lemmas.Option.{same_Some}
+use Rattle.spec_isa.specs.Words.{Stored, Lacks, Apart, IsBytes, lay, lays, read}
+use Rattle.spec_isa.specs.Masks.{word_over, over, bytes_of}
 use Rattle.spec_isa.proofs.MemoryLaws.{length_lay, length_lays}
 use Rattle.spec_isa.proofs.BufferLaws.{read_over, lays_put}
 use Rattle.dl_wbuf.specs.Buffers.{Words, has_room}
@@ -37,6 +39,35 @@ no_first (r ∷ rs) e = cc
 pub word_shown : (m : List ℕ) (ws : List Stored) (addr : ℕ) → Apart ws → IsBytes m → addr % 4 ≡ 0 → addr + 4 ≤ length m
     → over ws (addr / 4) (read m (addr / 4)) ≡ read (lays m ws) (addr / 4)
 word_shown m ws addr apart bytes aligned inside = sym (read_over m ws (addr / 4) apart bytes (omega arith))
+
+-- a word that is laid alone
+pub alone_shown : (m : List ℕ) (s : Stored) → IsBytes m → 4 * s.number + 4 ≤ length m → read (lay m s) s.number ≡ word_over s (read m s.number)
+alone_shown m s bytes inside =
+    let here : eqb s.number s.number ≡ true = eq-eqb s.number s.number refl in
+    let seen : over (s ∷ []) s.number (read m s.number) ≡ word_over s (read m s.number) = rw here refl in
+    read_over m (s ∷ []) s.number (tt, tt) bytes (omega (arith, inside)) ∙ seen
+
+lacks_not : (ws : List Stored) (i : ℕ) (s : Stored) (a : ℕ) → Lacks a ws → slice_get ws i ≡ Some s → s.number ≢ a
+lacks_not [] i s a lacks e = cc
+lacks_not (r ∷ rs) zero s a lacks e = let P : Stored → Type 0 = λ q. q.number ≢ a in subst P (same_Some r s e) lacks.0
+lacks_not (r ∷ rs) (suc i) s a lacks e = lacks_not rs i s a lacks.1 e
+
+-- one of the words of a list, each to another place, is seen through them all as through itself
+over_one : (ws : List Stored) (i : ℕ) (s : Stored) (below : ℕ) → Apart ws → slice_get ws i ≡ Some s → over ws s.number below ≡ word_over s below
+over_one [] i s below apart e = cc
+over_one (r ∷ rs) zero s below apart e =
+    let same : r ≡ s = same_Some r s e in
+    let here : eqb r.number s.number ≡ true = eq-eqb r.number s.number (ap (λ (q : Stored). q.number) same) in
+    rw (here, same) refl
+over_one (r ∷ rs) (suc i) s below apart e =
+    let other : eqb r.number s.number ≡ false = ne_eqb r.number s.number (λ f. lacks_not rs i s r.number apart.0 e (sym f)) in
+    rw other (over_one rs i s below apart.1 e)
+
+-- once they are all laid it has the value that it has if it is laid alone
+pub one_shown : (m : List ℕ) (ws : List Stored) (i : ℕ) (s : Stored) → Apart ws → IsBytes m → slice_get ws i ≡ Some s → 4 * s.number + 4 ≤ length m
+    → read (lay m s) s.number ≡ read (lays m ws) s.number
+one_shown m ws i s apart bytes e inside =
+    alone_shown m s bytes inside ∙ sym (over_one ws i s (read m s.number) apart e) ∙ sym (read_over m ws s.number apart bytes (omega (arith, inside)))
 
 -- an address inside a memory with words over it is inside the memory
 pub within : (m : List ℕ) (ws : List Stored) (addr : ℕ) → addr + 4 ≤ length (lays m ws) → addr + 4 ≤ length m

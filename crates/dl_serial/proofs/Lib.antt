@@ -9,3 +9,10 @@ mod Turning
 mod Requests
 mod Resumed
 mod Laps
+mod Ends
+mod AtBase
+mod Recounted
+mod Stopped
+mod Looks
+mod WholeLooks
+mod Inside

@@ -1,24 +1,19 @@
 -- A play that is resumed from a state, and the play that the state is of.
 use Rattle.std.proofs.Common.{◌≡◌, ℕ, ◌+◌, ◌-◌, ◌≤◌, List, refl, sym, ap, ◌∙◌, subst, arith}
 use Rattle.spec_log.specs.declared.LogParts.{LogParts}
-use Rattle.spec_play.specs.Progress.{position}
 use Rattle.spec_play.specs.Plays.{opened, plays}
 use Rattle.spec_play.specs.States.{State, resumed, state_after, walked_from}
 use Rattle.spec_play.specs.Resuming.{IsStateOf}
 use Rattle.spec_play.specs.Walks.{walked, walked_at}
-use Rattle.spec_play.proofs.Going.{plays-most}
-use Rattle.spec_play.proofs.Resuming.{plays_resume}
+use Rattle.spec_play.proofs.Bounds.{states_are_bounded}
 use Rattle.spec_query.specs.Stores.{stores, stores_in}
+use Rattle.dl_serial.specs.Starts.{CanGoOn}
 use Rattle.dl_serial.specs.Walked.{state_from, stores_from}
+use Rattle.dl_serial.proofs.Requests.{state-request}
 
--- so many commits more are the most that it does
-pub resumed-most : (log : LogParts) (s : State) (j : ℕ) → IsStateOf log s → position (plays log (resumed log s) j).progress ≤ s.commits + j
-resumed-most log s j is =
-    let again = plays_resume log is.memory is.entry is.commits j is.done in
-    let same = ap (λ (x : State). x.commits) again.state in
-    let most = plays-most log is.memory is.entry (is.commits + j) in
-    let done = is.done in
-    subst (λ (x : State). position (plays log (resumed log x) j).progress ≤ x.commits + j) (sym is.state) (omega (arith, same, most, done))
+-- a state of the log's play is one from which it can go on
+pub can-go-on : (log : LogParts) (s : State) → IsStateOf log s → CanGoOn log s
+can-go-on log s is = record { bounded = states_are_bounded log s is; request = state-request log s is }
 
 -- ---- before the first commit
 

@@ -22,7 +22,7 @@ not_held : (m : List ℕ) (ws : Words) (a : Option ℕ) (d : Did) → unless_hel
 not_held m ws None d = refl
 not_held m ws (Some a) d = refl
 
-unfoldable room_or_none : Sight → Option Load → Option Stored → Did
+unfoldable pub room_or_none : Sight → Option Load → Option Stored → Did
 room_or_none s load store = if sight_room s store then Did.Next load else Did.NoRoom
 
 did_inside : (inside : Bool) (o1 o2 : Option Kind) → (inside ≡ true → o1 ≡ o2) → (inside ≡ false → o2 ≡ Some (Kind.Fault 1)) → (d e : Did) → d ≡ e
@@ -35,10 +35,10 @@ unfolding serial_of
 serial_outside t f size e = rw e refl
 
 -- why the instruction is serial, if it is
-abbrev kind_of : List ℕ → Words → Parts → Option Kind
+abbrev pub kind_of : List ℕ → Words → Parts → Option Kind
 kind_of m ws t = serial_of t (fetched_word (sight_of m ws) t) (length (lays m ws.words))
 
-did_is : (m : List ℕ) (ws : Words) (t : Parts) → let s = sight_of m ws in did s t ≡ unless_serial (kind_of m ws t) (room_or_none s (load_made s t) (store_made s t))
+pub did_is : (m : List ℕ) (ws : Words) (t : Parts) → let s = sight_of m ws in did s t ≡ unless_serial (kind_of m ws t) (room_or_none s (load_made s t) (store_made s t))
 unfolding room_or_none
 did_is m ws t =
     let s = sight_of m ws in

@@ -20,11 +20,11 @@ use Rattle.spec_play.specs.Transfers.{DmaVerdict, DmaGoes, DmaFails}
 use Rattle.spec_play.specs.Verdicts.{LogVerdict, Fails}
 use Rattle.spec_play.proofs.Going.{turn-lives}
 use Rattle.spec_play.proofs.Positions.{position-more}
-use Rattle.spec_protocol.specs.promises.Sound.{IsSoundIf}
+use Rattle.spec_protocol.specs.promises.Sound.{IsSoundIf, IsSoundIf}
 use Rattle.spec_query.specs.Stores.{words_gone, words_transferred}
-use Rattle.dl_kernel.specs.declared.state.State.{State}
+use Rattle.dl_kernel.specs.States.{PlayState as State}
 use Rattle.dl_replay.specs.Following.{Following, followed}
-use Rattle.dl_replay.specs.Replays.{IsInside, IsReplaying}
+use Rattle.dl_replay.specs.Replays.{IsReplaying}
 use Rattle.dl_replay.proofs.Answered.{HasGone, HasTransferred, HasFailed}
 use Rattle.dl_serial.specs.Playing.{HaveCome, IsPlaying, played_in, progress_in, with_stores}
 use Rattle.dl_serial.specs.declared.sphere.Sphere.{Sphere}
@@ -52,7 +52,7 @@ sized r s m size at =
       is_log = at.is_log;
       bounded = record { commits = at.bounded.commits; threads = at.bounded.threads; interrupts = at.bounded.interrupts };
       left = at.left;
-      request = subst (λ (n : ℕ). IsInside n s.request) (sym size) at.request;
+      request = subst (λ (n : ℕ). IsSoundIf n s.request) (sym size) at.request;
     }
 
 -- a commit is noted

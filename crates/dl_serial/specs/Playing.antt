@@ -1,18 +1,21 @@
 -- A play as the code keeps it: the replay of its log, and the sphere that the log is played on.
-use Rattle.std.specs.Prelude.{◌≡◌, ℕ, ◌<◌, List, ◌++◌, length, None}
+use Rattle.std.specs.Prelude.{◌≡◌, ℕ, ◌<◌, List, ◌++◌, length, slice_get, None, Some}
+use Rattle.spec_isa.specs.declared.thread.Parts.{Parts}
 use Rattle.dl_entry.specs.declared.Actor.{Actor}
 use Rattle.spec_isa.specs.Words.{Stored}
 use Rattle.spec_log.specs.declared.LogParts.{LogParts}
 use Rattle.spec_play.specs.Progress.{Progress, position}
 use Rattle.spec_play.specs.Turns.{Turn}
-use Rattle.spec_play.specs.Plays.{Played, play_one, plays}
+use Rattle.spec_play.specs.Plays.{Played, play_one, plays, size_or_standard}
 use Rattle.spec_protocol.specs.promises.Sound.{IsSoundIf}
 use Rattle.spec_query.specs.declared.Store.{Store}
 use Rattle.spec_query.specs.Stores.{next_stores, stores, stores_of}
 use Rattle.dl_kernel.specs.declared.past.Past.{Past}
 use Rattle.dl_replay.specs.Following.{Following}
 use Rattle.dl_replay.specs.Replays.{IsReplaying}
+use Rattle.dl_serial.specs.declared.footprint.Footprint.{Footprint}
 use Rattle.dl_serial.specs.declared.sphere.Sphere.{Sphere}
+use Rattle.dl_serial.specs.Looks.{IsFootprint}
 
 -- a log, where its play has come, and the stores of its commits
 pub record Playing : Type 0 where
@@ -26,6 +29,11 @@ advanced p = record p { played = play_one p.log p.played; stores = p.stores ++ n
 
 abbrev pub played_more : Playing → (i : ℕ) → Playing
 played_more p i = record p { played = plays p.log p.played i; stores = p.stores ++ stores p.log p.played i }
+
+-- the footprint is that of the chunk of the thread whose turn it is, of as many instructions as are logged
+pub record HasLooked (p : Playing) (f : Footprint) : Type 0 where
+  pub chunk : (k : ℕ) (t : Parts) → p.played.now ≡ Turn k → slice_get p.played.threads k ≡ Some t
+      → let n = size_or_standard p.log k t.commits in 0 < n → IsFootprint p.played.memory t n f
 
 abbrev pub progress_in : Past → Progress
 progress_in b = record { first = b.first; commits = b.commits.items; last = b.state.last; request = b.state.request }

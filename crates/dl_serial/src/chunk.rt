@@ -1,11 +1,14 @@
 //! A chunk: instructions of a thread, run one after another over a memory.
-ghost use Rattle.std.specs.Prelude.{◌≡◌, ◌≤◌, ◌<◌, ◌+◌, ◌^◌, List, true, false, length, map, IfOk, IsSome, OnOk};
+ghost use Rattle.std.specs.Prelude.{◌≡◌, ◌≤◌, ◌<◌, ◌+◌, ◌^◌, ◌||◌, ℕ, List, true, false, length, map, IfOk, IsSome, OnOk};
 ghost use Rattle.spec_isa.specs.Words.{lays};
 ghost use Rattle.spec_isa.specs.Runs.{Run, more, run_start, with_load};
 ghost use Rattle.spec_kernel.specs.Needs.{next_kind};
 ghost use Rattle.spec_play.specs.Effects.{entry_of};
+ghost use Rattle.spec_strata.specs.Footprints.{looks, looks_at};
 ghost use Rattle.dl_serial.specs.Chunks.{HasRun, chunk_of};
+ghost use Rattle.dl_serial.specs.Looks.{has};
 
+use crate::looking::look_one;
 use crate::overlay::run_one;
 use dl_entry::{Load as LoadEntry, Loads, OutOfMemory};
 use dl_mem::Memory;
@@ -57,6 +60,33 @@ impl Chunk {
         Ok(())
     }
 
+    /// Runs the same, and notes the words that the instructions look at, that of a serial one too before which the chunk
+    /// stops short of the limit.
+    pub fn look(
+        &mut self,
+        limit: u32,
+        memory: &Memory,
+        words: &mut Buffer,
+        looked: &mut Vec<u32>,
+    ) -> Result<(), OutOfMemory>
+        requires least { 1 ≤ limit }
+        requires most { limit ≤ words.old.capacity }
+        requires new { self.old ≡ chunk_of (run_start self.old.thread) }
+        ensures ran { OnOk result (HasRun memory.now self.old.thread limit self.new words.new.words) }
+        ensures looked { (a : ℕ) →
+            OnOk result (has looked.new.items a ≡ looks memory.now self.old.thread limit a) }
+        ensures room { words.new.capacity ≡ words.old.capacity }
+    {
+        words.clear();
+        looked.clear();
+        while self.n < limit {
+            if !self.look_step(memory, words, looked)? {
+                return Ok(());
+            }
+        }
+        Ok(())
+    }
+
     // Runs one instruction more, unless it is serial, and tells whether it did.
     fn step(&mut self, memory: &Memory, words: &mut Buffer) -> Result<bool, OutOfMemory>
         requires few { length words.old.words < words.old.capacity }
@@ -71,6 +101,39 @@ impl Chunk {
             IsSome (next_kind self.old.thread (lays memory.now words.old.words))) }
     {
         match run_one(&mut self.thread, memory, words) {
+            Did::Next(load) => {
+                note_load(&mut self.loads, load)?;
+                self.n += 1;
+                Ok(true)
+            }
+            Did::Serial(_) => Ok(false),
+            Did::NoRoom | Did::Bounced(_) => unreachable!(),
+        }
+    }
+
+    // Does the same, and notes the words that the instruction looks at.
+    fn look_step(
+        &mut self,
+        memory: &Memory,
+        words: &mut Buffer,
+        looked: &mut Vec<u32>,
+    ) -> Result<bool, OutOfMemory>
+        requires few { length words.old.words < words.old.capacity }
+        requires count { self.old.n + 1 < 2 ^ 32 }
+        ensures chunk { (r : Run) → self.old ≡ chunk_of r → words.old.words ≡ r.words →
+            IfOk result (λ _. self.new ≡ chunk_of (more memory.now r)) }
+        ensures words { (r : Run) → self.old ≡ chunk_of r → words.old.words ≡ r.words →
+            IfOk result (λ _. words.new.words ≡ (more memory.now r).words) }
+        ensures room { words.new.capacity ≡ words.old.capacity }
+        ensures ran { IfOk result (λ went. went ≡ true → self.new.n ≡ self.old.n + 1) }
+        ensures serial { IfOk result (λ went. went ≡ false →
+            IsSome (next_kind self.old.thread (lays memory.now words.old.words))) }
+        ensures looked { (a : ℕ) → IfOk result (λ _. has looked.new.items a
+            ≡ (has looked.old.items a || looks_at self.old.thread (lays memory.now words.old.words) a)) }
+    {
+        let look = look_one(&mut self.thread, memory, words);
+        look.looked.put_after(looked)?;
+        match look.did {
             Did::Next(load) => {
                 note_load(&mut self.loads, load)?;
                 self.n += 1;

@@ -2,12 +2,11 @@
 ghost use Rattle.std.specs.Prelude.{◌≡◌, ◌≤◌, IfOk};
 ghost use Rattle.dl_serial.specs.Keeping.{AreKept};
 
-use crate::kept::Kept;
 use crate::player::Player;
 use dl_elf::Image;
 use dl_entry::OutOfMemory;
 use dl_kernel::State;
-use dl_mem::Memory;
+use dl_mem::{Memory, Snapshot};
 use dl_mode::{Noting, OrderAndSize, OrderOnly, PicoLog};
 use spec_log::{Log, ModeName};
 use std::alloc::Global;
@@ -19,7 +18,7 @@ pub fn keep_states(
     image: &Image,
     log: &Log,
     every: u32,
-) -> Result<Vec<Kept>, OutOfMemory>
+) -> Result<Vec<State<Snapshot>>, OutOfMemory>
     requires { 1 ≤ every }
     ensures { let i = image.now in
         IfOk result (λ kept. AreKept log.now i.bytes i.entry every kept.items) }
@@ -36,7 +35,7 @@ fn keep_in<M: Noting>(
     image: &Image,
     log: &Log,
     every: u32,
-) -> Result<Vec<Kept>, OutOfMemory>
+) -> Result<Vec<State<Snapshot>>, OutOfMemory>
     requires mode { log.now.mode ≡ M.mode }
     requires some { 1 ≤ every }
     ensures { let i = image.now in

@@ -12,13 +12,13 @@ use dl_wbuf::Buffer;
 
 // A memory, and the words that a chunk has stored, which aren't in it yet.
 #[derive(Drop)]
-struct Overlay<'a> {
-    memory: &'a Memory,
-    words: &'a mut Buffer,
+pub(crate) struct Overlay<'a> {
+    pub memory: &'a Memory,
+    pub words: &'a mut Buffer,
 }
 
 impl<'a> Overlay<'a> {
-    fn word(&self, addr: u32) -> u32
+    pub fn word(&self, addr: u32) -> u32
         requires { IsWord (length (lays self.now.memory.now self.now.words.now.words)) addr }
         ensures { result ≡ read (lays self.now.memory.now self.now.words.now.words) (addr / 4) }
     {

@@ -1,22 +1,28 @@
 //! The player of a log in one of the modes.
-ghost use Rattle.std.specs.Prelude.{◌≡◌, ◌≤◌, [], IfOk, OnOk};
+ghost use Rattle.std.specs.Prelude.{◌≡◌, ◌≤◌, ℕ, [], IfOk, OnOk};
+ghost use Rattle.spec_isa.specs.Words.{holds};
 ghost use Rattle.spec_play.specs.Progress.{position};
 ghost use Rattle.spec_play.specs.Turns.{Turn, TurnOfDma};
+ghost use Rattle.spec_play.specs.Plays.{opened};
 ghost use Rattle.spec_play.specs.States.{resumed, state_of};
-ghost use Rattle.spec_play.specs.Resuming.{IsStateOf};
+ghost use Rattle.spec_play.specs.Resuming.{IsBounded};
 ghost use Rattle.spec_play.specs.Intervals.{without_commits};
 ghost use Rattle.spec_play.specs.Walks.{walk_end, walked_at};
 ghost use Rattle.dl_kernel.specs.States.{state_in};
-ghost use Rattle.dl_serial.specs.Playing.{advanced, played_more};
+ghost use Rattle.dl_serial.specs.Looks.{has};
+ghost use Rattle.dl_serial.specs.Playing.{HasLooked, advanced, played_more};
+ghost use Rattle.dl_serial.specs.Starts.{CanGoOn};
 ghost use Rattle.dl_serial.specs.Walked.{walked_in};
 
 use crate::chunk::Chunk;
 use crate::committing::{commit_chunk, serve_dma, serve_step};
-use crate::kept::Kept;
+use crate::footprint::Footprint;
 use crate::sphere::Sphere;
 use crate::walked::Walked;
+use dl_elf::Image;
 use dl_entry::{Actor, OutOfMemory, Sequence};
-use dl_kernel::{Past, State, thread_at};
+use dl_kernel::{Past, Snapshot, State, thread_at};
+use dl_mem::Memory;
 use dl_mode::{Mode, Noting};
 use dl_replay::Replayer;
 use dl_wbuf::Buffer;
@@ -25,7 +31,7 @@ use spec_play::WalkEnd;
 use std::alloc::Global;
 use std::marker::Model;
 
-/// Plays a log on from a state of its play, and is seen as the log, where its play has come, and the stores of its commits.
+/// Plays a log on from a state, and is seen as the log, where its play has come, and the stores of its commits.
 #[derive(Drop)]
 pub struct Player<M: Mode> {
     count: u32,
@@ -49,10 +55,21 @@ impl<M: Mode> Model for Player<M> {
 }
 
 impl<M: Noting> Player<M> {
-    /// The player of a log, at a state of its play.
-    pub fn at(alloc: Global, state: State, log: &Log) -> Result<Player<M>, OutOfMemory>
+    /// The player of a log on an image, before the first commit.
+    pub fn first(alloc: Global, image: &Image, log: &Log) -> Result<Player<M>, OutOfMemory>
+        requires { log.now.mode ≡ M.mode }
+        ensures { let y = opened log.now image.now.bytes image.now.entry in
+            IfOk result (λ p. p ≡ record { log = log.now; played = y; stores = [] }) }
+    {
+        let memory = Memory::new(alloc, image)?;
+        let state = State::first(memory, image.entry());
+        Player::at(alloc, state, log)
+    }
+
+    /// The player of a log, at a state from which it can go on.
+    pub(crate) fn at(alloc: Global, state: State, log: &Log) -> Result<Player<M>, OutOfMemory>
         requires mode { log.now.mode ≡ M.mode }
-        requires state { IsStateOf log.now (state_in state) }
+        requires state { CanGoOn log.now (state_in state) }
         ensures { let y = resumed log.now (state_in state) in
             IfOk result (λ p. p ≡ record { log = log.now; played = y; stores = [] }) }
     {
@@ -83,7 +100,7 @@ impl<M: Noting> Player<M> {
 
 impl<M: Mode> Player<M> {
     /// Plays up to so many whole commits more, and no further than the end. If memory runs out, some may be played.
-    pub fn play_on(&mut self, most: u32) -> Result<(), OutOfMemory>
+    pub(crate) fn play_on(&mut self, most: u32) -> Result<(), OutOfMemory>
         ensures { OnOk result (self.new ≡ played_more self.old most) }
     {
         for _ in 0..most {
@@ -93,6 +110,39 @@ impl<M: Mode> Player<M> {
             self.play_one()?;
         }
         Ok(())
+    }
+
+    /// Plays one whole commit more, if the play hasn't ended. If it is a chunk, `footprint` is then its footprint. If memory
+    /// runs out, nothing is known of either.
+    #[tactic(auto, unfolding(spec_play::specs::Plays::play_one, spec_query::specs::Stores::next_stores))]
+    pub fn look_on(&mut self, footprint: &mut Footprint) -> Result<(), OutOfMemory>
+        ensures played { OnOk result (self.new ≡ advanced self.old) }
+        ensures footprint { OnOk result (HasLooked self.old footprint.new) }
+    {
+        match self.replayer.head() {
+            Some(Actor::Thread(thread)) => self.look_thread(thread, footprint),
+            Some(Actor::Dma) => self.play_dma(),
+            None => Ok(()),
+        }
+    }
+
+    // The serial step of a thread whose turn it is, or its chunk, with its footprint.
+    fn look_thread(&mut self, number: u8, footprint: &mut Footprint) -> Result<(), OutOfMemory>
+        requires { self.old.played.now ≡ Turn number }
+        ensures played { OnOk result (self.new ≡ advanced self.old) }
+        ensures footprint { OnOk result (HasLooked self.old footprint.new) }
+    {
+        let state = &self.sphere.past.state;
+        let thread = thread_at(&state.threads, number);
+        let limit = self.replayer.limit(number, thread.commits(), false);
+        let mut chunk = Chunk::new(self.sphere.past.alloc, &thread);
+        let words = &mut self.sphere.words;
+        chunk.look(limit, &state.memory, words, &mut footprint.looked)?;
+        note_words(words, &mut footprint.stored)?;
+        if chunk.n == 0 {
+            return serve_step(&mut self.replayer, &mut self.sphere, number);
+        }
+        commit_chunk(&mut self.replayer, &mut self.sphere, number, chunk)
     }
 
     // Plays one commit more, or the end where it diverges.
@@ -139,13 +189,13 @@ impl<M: Mode> Player<M> {
     }
 
     /// Keeps the state, and forgets the commits and their stores. If memory runs out, all is as before.
-    pub fn keep(&mut self) -> Result<Kept, OutOfMemory>
-        ensures kept { IfOk result (λ k. k ≡ state_of self.old.played) }
+    pub(crate) fn keep(&mut self) -> Result<State<Snapshot>, OutOfMemory>
+        ensures kept { IfOk result (λ kept. state_in kept ≡ state_of self.old.played) }
         ensures player { let y = without_commits self.old.played in
             OnOk result (self.new ≡ record self.old { played = y; stores = [] }) }
     {
         let past = &mut self.sphere.past;
-        let kept = Kept::of(&mut past.state)?;
+        let kept = past.state.keep()?;
         past.first = past.state.commits;
         past.commits.clear();
         self.sphere.stores.clear();
@@ -153,11 +203,12 @@ impl<M: Mode> Player<M> {
     }
 
     /// What a walk leaves that asked for so many commits, once they are played.
-    pub fn into_walked(self, to: u32) -> Walked
+    pub(crate) fn into_walked(self, to: u32) -> Walked
         requires { position self.played.progress ≤ to }
         ensures walked { walked_in result ≡ walked_at self.log to self.played }
         ensures stores { result.stores ≡ self.stores }
         ensures state { state_in result.state ≡ state_of self.played }
+        ensures bounded { IsBounded self.log (state_in result.state) }
     {
         let end = self.end(to);
         let sphere = self.sphere;
@@ -182,4 +233,17 @@ impl<M: Mode> Player<M> {
             Some(_) | None => WalkEnd::Reached(done),
         }
     }
+}
+
+// Notes the numbers of words, and none from before.
+fn note_words(words: &Buffer, numbers: &mut Vec<u32>) -> Result<(), OutOfMemory>
+    ensures { (a : ℕ) → OnOk result (has numbers.new.items a ≡ holds words.now.words a) }
+{
+    numbers.clear();
+    for i in 0..words.len() {
+        if let Some(stored) = words.nth(i) {
+            numbers.push(stored.word / 4)?;
+        }
+    }
+    Ok(())
 }

@@ -1,6 +1,6 @@
 //! The stores of a walk, noted commit by commit.
 ghost use Rattle.std.specs.Prelude.{◌≡◌, ◌≤◌, ◌+◌, ◌*◌, ◌++◌, length, OnOk};
-ghost use Rattle.spec_isa.specs.Words.{lays};
+ghost use Rattle.spec_isa.specs.Words.{lay, IsBytes};
 ghost use Rattle.spec_engine.specs.Flights.{AreInside};
 ghost use Rattle.spec_query.specs.Stores.{store_of, stores_of};
 
@@ -27,24 +27,22 @@ pub fn note_stores(
     ensures { let noted = stores_of by.commit by.actor memory.now words.now.words in
         OnOk result (stores.new.items ≡ stores.old.items ++ noted) }
 {
-    for i in 0..words.len() {
-        if let Some(stored) = words.nth(i) {
-            stores.push(store_of(by, stored, words, memory))?;
-        }
+    for &stored in words.iter() {
+        stores.push(store_of(by, stored, memory))?;
     }
     Ok(())
 }
 
-// The store of one of the words, with its value once all are laid.
-fn store_of(by: Storer, stored: Stored, words: &Buffer, memory: &Memory) -> Store
+// The store of a word, with its value once the word is laid. Words that are laid elsewhere don't change it.
+fn store_of(by: Storer, stored: Stored, memory: &Memory) -> Store
     requires { 4 * stored.number + 4 ≤ length memory.now }
-    ensures { result ≡ store_of by.commit by.actor (lays memory.now words.now.words) stored }
+    ensures store { result ≡ store_of by.commit by.actor (lay memory.now stored) stored }
+    ensures bytes { IsBytes memory.now }
 {
-    let address = stored.word;
     Store {
         commit: by.commit,
         actor: by.actor,
-        address,
-        value: words.over(address, memory.word(address)),
+        address: stored.word,
+        value: stored.over(memory.word(stored.word)),
     }
 }

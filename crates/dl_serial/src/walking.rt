@@ -1,10 +1,11 @@
 //! The walk over a log.
 ghost use Rattle.std.specs.Prelude.{◌≡◌, ◌≤◌, IfOk};
 ghost use Rattle.spec_play.specs.States.{state_after, walked_from};
-ghost use Rattle.spec_play.specs.Resuming.{IsStateOf};
+ghost use Rattle.spec_play.specs.Resuming.{IsBounded, IsStateOf};
 ghost use Rattle.spec_play.specs.Walks.{walked};
 ghost use Rattle.spec_query.specs.Stores.{stores_in};
 ghost use Rattle.dl_kernel.specs.States.{state_in};
+ghost use Rattle.dl_serial.specs.Starts.{CanGoOn};
 ghost use Rattle.dl_serial.specs.Walked.{state_from, stores_from, walked_in};
 
 use crate::player::Player;
@@ -40,6 +41,23 @@ pub fn play_from(alloc: Global, from: State, log: &Log, to: u32) -> Result<Walke
     ensures stores { IfOk result (λ w. w.stores ≡ stores_from log.now (state_in from) to) }
     ensures state { IfOk result (λ w. state_in w.state ≡ state_from log.now (state_in from) to) }
 {
+    play_state(alloc, from, log, to)
+}
+
+/// Plays a log on from a state that need not be of its own play.
+pub(crate) fn play_state(
+    alloc: Global,
+    from: State,
+    log: &Log,
+    to: u32,
+) -> Result<Walked, OutOfMemory>
+    requires state { CanGoOn log.now (state_in from) }
+    requires order { from.commits ≤ to }
+    ensures walked { IfOk result (λ w. walked_in w ≡ walked_from log.now (state_in from) to) }
+    ensures stores { IfOk result (λ w. w.stores ≡ stores_from log.now (state_in from) to) }
+    ensures state { IfOk result (λ w. state_in w.state ≡ state_from log.now (state_in from) to) }
+    ensures bounded { IfOk result (λ w. IsBounded log.now (state_in w.state)) }
+{
     match log.parts().mode {
         ModeName::OrderSize => play_in::<OrderAndSize>(alloc, from, log, to),
         ModeName::OrderOnly => play_in::<OrderOnly>(alloc, from, log, to),
@@ -49,11 +67,12 @@ pub fn play_from(alloc: Global, from: State, log: &Log, to: u32) -> Result<Walke
 
 fn play_in<M: Noting>(alloc: Global, from: State, log: &Log, to: u32) -> Result<Walked, OutOfMemory>
     requires mode { log.now.mode ≡ M.mode }
-    requires state { IsStateOf log.now (state_in from) }
+    requires state { CanGoOn log.now (state_in from) }
     requires order { from.commits ≤ to }
     ensures walked { IfOk result (λ w. walked_in w ≡ walked_from log.now (state_in from) to) }
     ensures stores { IfOk result (λ w. w.stores ≡ stores_from log.now (state_in from) to) }
     ensures state { IfOk result (λ w. state_in w.state ≡ state_from log.now (state_in from) to) }
+    ensures bounded { IfOk result (λ w. IsBounded log.now (state_in w.state)) }
 {
     let more = to - from.commits;
     let mut player = Player::<M>::at(alloc, from, log)?;

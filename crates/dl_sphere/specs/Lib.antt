@@ -6,6 +6,7 @@ pub mod Setups
 pub mod Moving
 pub mod Inside
 pub mod Stepping
+pub mod Begins
 pub mod Played
 pub mod Reading
 pub mod Starting

@@ -28,7 +28,7 @@ log_in Plain = None
 log_in (Record recording) = Some recording.log
 log_in (Replay b) = None
 
--- a size is the number of the bytes that a DMA stores behind it
+-- a size is the number of the bytes that a DMA stores after it
 abbrev pub SaysBytes : DmaSize → Option Request → Option MovedSphere → Type 0
 SaysBytes (DmaSize.Bytes n) request None = ⊥
 SaysBytes (DmaSize.Bytes n) request (Some v) = Stores n request (DmaGoes v.words)

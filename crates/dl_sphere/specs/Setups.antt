@@ -1,7 +1,8 @@
 -- What a plan says of a sphere, as the definitions have it.
-use Rattle.std.specs.Prelude.{◌≡◌, ℕ, ◌<◌, Option, Some, None}
+use Rattle.std.specs.Prelude.{◌≡◌, ℕ, ◌<◌, Option, Some, None, option_map}
 use Rattle.dl_entry.specs.declared.End.{End}
 use Rattle.dl_entry.specs.declared.Why.{Why}
+use Rattle.spec_log.specs.declared.ModeName.{ModeName}
 use Rattle.spec_play.specs.declared.interval.Interval.{Interval}
 use Rattle.spec_play.specs.Intervals.{IsWithin}
 use Rattle.spec_play.specs.Progress.{position}
@@ -14,6 +15,7 @@ use Rattle.spec_protocol.specs.machine.Spheres as machine
 use Rattle.spec_protocol.specs.promises.Sound.{IsRecordable}
 use Rattle.dl_kernel.specs.States.{state_in}
 use Rattle.dl_sphere.specs.declared.setup.Begun.{Begun}
+use Rattle.dl_sphere.specs.declared.setup.Epochs.{Epochs}
 use Rattle.dl_sphere.specs.declared.setup.Replay.{Replay}
 use Rattle.dl_sphere.specs.declared.setup.Role.{Role}
 use Rattle.dl_sphere.specs.declared.setup.SphereSetup.{SphereSetup}
@@ -30,21 +32,27 @@ diverged_in (Some b) = b.diverged
 -- where the role begins, if it replays an interval
 abbrev pub begun_as : Role → Option Begun
 begun_as Role.Plain = None
-begun_as (Role.Record version mode) = None
+begun_as (Role.Record version mode epochs) = None
 begun_as (Role.Replay replay) = replay.begun
 
 abbrev pub replay_setup : Replay → protocol.ReplaySetup
 replay_setup r = record { log = r.log; interval = interval_in r.begun }
 
+abbrev pub epoch_setup : Epochs → protocol.EpochSetup
+epoch_setup e = record { size = e.size; keep = e.keep }
+
+abbrev pub record_setup : (version : ℕ) → ModeName → Option Epochs → protocol.RecordSetup
+record_setup version mode epochs = record { version = version; mode = mode; epochs = option_map epoch_setup epochs }
+
 abbrev pub role_setup : Role → protocol.RoleSetup
 role_setup Role.Plain = protocol.IsPlain
-role_setup (Role.Record version mode) = protocol.IsRecorded (record { version = version; mode = mode })
+role_setup (Role.Record version mode epochs) = protocol.IsRecorded (record_setup version mode epochs)
 role_setup (Role.Replay replay) = protocol.IsReplayed (replay_setup replay)
 
 abbrev pub setup_of : SphereSetup → protocol.SphereSetup
 setup_of s = record { memory = s.image.bytes; entry = s.image.entry; role = role_setup s.role }
 
--- if the sphere is recorded, there is such a version of logs, and standard chunks of s instructions fit it
+-- if the sphere is recorded, there is such a version of logs, and standard chunks of s instructions and the epochs fit it
 abbrev pub IsRecordableIf : (s : ℕ) → protocol.RoleSetup → Type 0
 IsRecordableIf s protocol.IsPlain = Unit {0}
 IsRecordableIf s (protocol.IsRecorded asked) = IsRecordable s asked
@@ -70,7 +78,7 @@ IsBegunIf image asked (Some b) = IsBegun image asked b
 
 abbrev pub IsBegunAs : protocol.SphereSetup → Role → Type 0
 IsBegunAs image Role.Plain = Unit {0}
-IsBegunAs image (Role.Record version mode) = Unit {0}
+IsBegunAs image (Role.Record version mode epochs) = Unit {0}
 IsBegunAs image (Role.Replay replay) = IsBegunIf image (replay_setup replay) replay.begun
 
 -- if an interval of a log is replayed, it begins where the log's play on the image is

@@ -6,10 +6,12 @@ use Rattle.spec_play.specs.Noted.{nothing_recorded}
 use Rattle.spec_play.specs.Plays.{Played}
 use Rattle.spec_play.specs.Progress.{nothing_used, position}
 use Rattle.spec_play.specs.States.{State, state_of}
-use Rattle.spec_protocol.specs.machine.Machine.{ReplaySetup, RoleSetup, IsPlain, IsRecorded, IsReplayed, SphereSetup, first_played, first_threads}
+use Rattle.spec_protocol.specs.machine.Machine.{RecordSetup, ReplaySetup, RoleSetup, IsPlain, IsRecorded, IsReplayed, SphereSetup}
+use Rattle.spec_protocol.specs.machine.Machine.{first_played, first_threads, new_epochs}
+use Rattle.dl_record.specs.Epochs.{InEpochs}
 use Rattle.dl_replay.specs.Following.{Following, diverged}
 use Rattle.dl_replay.specs.Replays.{IsReplaying}
-use Rattle.dl_kernel.specs.declared.state.State.{State as At}
+use Rattle.dl_kernel.specs.States.{PlayState as At}
 use Rattle.dl_sphere.specs.Roles.{Keeping, Plain, Recording, Replaying}
 
 -- thread 0 alone, at the entry of the image
@@ -40,10 +42,14 @@ following_at asked y =
       total = 0;
     }
 
+-- a recording in which nothing is noted yet, and no epoch has begun
+abbrev pub nothing_yet : RecordSetup → (s : ℕ) → InEpochs
+nothing_yet asked s = record { recorded = nothing_recorded asked.version asked.mode s; epochs = new_epochs asked.epochs }
+
 -- standard chunks have this size
 abbrev pub keeping_at : SphereSetup → (s : ℕ) → RoleSetup → Keeping
 keeping_at image s IsPlain = Plain
-keeping_at image s (IsRecorded asked) = Recording (nothing_recorded asked.version asked.mode s)
+keeping_at image s (IsRecorded asked) = Recording (nothing_yet asked s)
 keeping_at image s (IsReplayed asked) = Replaying (following_at asked (first_played image asked)) []
 
 -- the replay, diverged where so many commits are done if there is a reason

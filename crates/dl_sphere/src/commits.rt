@@ -62,7 +62,7 @@ fn add_entries(entries: &mut Loads, loads: &[dl_thread::Load]) -> Result<(), Out
     Ok(())
 }
 
-// How many commits a thread has done, 0 if there is none of that number.
+// How many commits the thread of that number has done, or 0 if there is no such thread.
 pub(crate) fn commits_of(threads: &Threads, thread: u8) -> u32
     ensures { result ≡ commits_in threads.now thread }
 {

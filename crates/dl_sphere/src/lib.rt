@@ -1,8 +1,9 @@
-//! A sphere: its memory, threads and commits, in one of three roles: plain, recorded in a mode, or a replay of its log or of an
-//! interval of that.
+//! A sphere: its memory, threads and commits, in one of three roles. It is plain, or recorded in a mode, or it replays a log or
+//! an interval of one.
 #![tactic(auto)]
 
 mod commits;
+mod epochs;
 mod making;
 mod moved;
 mod part;
@@ -23,13 +24,14 @@ pub use dl_dev::Devices;
 pub use dl_elf::Image;
 pub use dl_entry::{Actor, Commit, End, OutOfMemory, Request, Why};
 pub use dl_fly::{Drain, Flights};
-pub use dl_kernel::State;
+pub use dl_kernel::{Snapshot, State};
 pub use dl_mem::Memory;
+pub use dl_record::Base;
 pub use dl_sig::Sig;
 pub use dl_thread::Threads;
 pub use dl_wbuf::Buffer;
 pub use moved::{DmaSize, Moved};
-pub use setup::{Begun, Replay, Role, SphereSetup};
+pub use setup::{Begun, Epochs, Replay, Role, SphereSetup};
 pub use spec_log::{Log, ModeName};
 pub use spec_play::Interval;
 pub use sphere::Sphere;

@@ -3,10 +3,10 @@ ghost use Rattle.std.specs.Prelude.{◌≡◌, ℕ, ◌%◌, IfOk, length};
 ghost use Rattle.spec_isa.specs.Words.{IsBytes};
 ghost use Rattle.spec_play.specs.Resuming.{IsBounded};
 ghost use Rattle.spec_protocol.specs.machine.Machine.{sphere_of};
-ghost use Rattle.spec_protocol.specs.promises.Sound.{IsChunkSize, IsImage, IsRole};
+ghost use Rattle.spec_protocol.specs.promises.Sound.{IsChunkSize, IsImage, IsRole, IsSoundIf};
 ghost use Rattle.dl_kernel.specs.States.{state_in};
 ghost use Rattle.dl_replay.specs.Following.{followed_from};
-ghost use Rattle.dl_replay.specs.Replays.{IsInside, IsReplaying};
+ghost use Rattle.dl_replay.specs.Replays.{IsReplaying};
 ghost use Rattle.dl_sphere.specs.Roles.{keeping_of};
 ghost use Rattle.dl_sphere.specs.Setups.{HasBegun, IsRecordableIf, diverged_in, interval_in, role_setup, setup_of};
 ghost use Rattle.dl_sphere.specs.Starting.{IsReplayingIf, diverged_if, keeping_at, start_as};
@@ -23,8 +23,8 @@ use dl_mem::Memory;
 use std::alloc::Global;
 
 impl Sphere {
-    /// A sphere of this plan, with standard chunks of so many instructions. If it is recorded, they fit the version of its
-    /// log; if it replays an interval, this begins in its log's play on the image.
+    /// A sphere of this plan, with standard chunks of so many instructions. If it is recorded, they and its epochs fit the
+    /// version of its log; if it replays an interval, this begins in its log's play on the image.
     pub fn new(alloc: Global, setup: &SphereSetup, s: u32) -> Result<Sphere, OutOfMemory>
         requires size { IsChunkSize s }
         requires role { IsRecordableIf s (role_setup setup.now.role) }
@@ -87,8 +87,12 @@ fn part_of(alloc: Global, setup: &SphereSetup, s: u32, state: &State) -> Result<
 {
     match &setup.role {
         Role::Plain => Ok(Part::Plain),
-        Role::Record { version, mode } => {
-            let recording = Recording::new(alloc, *version, *mode, s)?;
+        Role::Record {
+            version,
+            mode,
+            epochs,
+        } => {
+            let recording = Recording::new(alloc, *version, *mode, s, *epochs)?;
             Ok(Part::Recorded(recording))
         }
         Role::Replay(replay) => {
@@ -105,7 +109,7 @@ fn part_of(alloc: Global, setup: &SphereSetup, s: u32, state: &State) -> Result<
 // The replay of a log from a state of its play on; it has diverged if the play did before the interval.
 fn player_of(alloc: Global, replay: &Replay, state: &State) -> Result<Player, OutOfMemory>
     requires bounded { IsBounded replay.now.log (state_in state.now) }
-    requires request { IsInside (length state.now.memory) state.now.request }
+    requires request { IsSoundIf (length state.now.memory) state.now.request }
     ensures from { let r = replay.now in IfOk result (λ player.
         player ≡ diverged_if (diverged_in r.begun) state.now.commits (followed_from r.log (interval_in r.begun) (state_in state.now))) }
     ensures at { IfOk result (λ player. IsReplaying player state.now) }

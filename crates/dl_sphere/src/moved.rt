@@ -13,7 +13,7 @@ pub enum Moved {
     Diverged(u32, Why),
 }
 
-/// How many bytes a DMA would store behind its count, or why the replay leaves its log there.
+/// How many bytes a DMA would store after its count, or why the replay leaves its log there.
 #[derive(Clone, Copy)]
 pub enum DmaSize {
     Bytes(u32),

@@ -2,7 +2,7 @@
 ghost use Rattle.std.specs.Prelude.{◌≡◌, ◌^◌, IfOk, IfSome, IsSome, min, length, Some, None, []};
 ghost use Rattle.spec_kernel.specs.Answers.{dma_bytes};
 ghost use Rattle.spec_kernel.specs.Copies.{dma_words};
-ghost use Rattle.spec_protocol.specs.promises.Sound.{IsSoundRequest};
+ghost use Rattle.spec_protocol.specs.promises.Sound.{IsSoundIf};
 
 use dl_dev::Devices;
 use dl_entry::{OutOfMemory, Request};
@@ -27,7 +27,7 @@ pub(crate) fn live_words(
     request: Option<Request>,
     devices: &Devices,
 ) -> Result<Buffer, OutOfMemory>
-    requires { IfSome request (IsSoundRequest (2 ^ 24)) }
+    requires { IsSoundIf (2 ^ 24) request }
     ensures words { IfOk result (λ b. IfSome request (λ r. b.words ≡ dma_words r (dma_bytes devices.now r))) }
     ensures none { IfOk result (λ b. request ≡ None → b.words ≡ []) }
 {

@@ -11,14 +11,14 @@ ghost use Rattle.spec_play.specs.Transfers.{dma_verdict};
 ghost use Rattle.spec_play.specs.Verdicts.{chunk_verdict, serial_verdict};
 ghost use Rattle.spec_play.specs.declared.used.Used.{Used};
 ghost use Rattle.spec_protocol.specs.machine.Spheres.{Replay, actor_of};
-ghost use Rattle.dl_kernel.specs.States.{state_in};
-ghost use Rattle.dl_kernel.specs.declared.state.State.{State as At};
+ghost use Rattle.spec_protocol.specs.promises.Sound.{IsSoundIf};
+ghost use Rattle.dl_kernel.specs.States.{PlayState as At, state_in};
 ghost use Rattle.dl_replay.specs.Following.{cursor_of, diverged, end_of, followed_from};
 ghost use Rattle.dl_replay.specs.Judged.{dma_judged, judged};
 ghost use Rattle.dl_replay.specs.Judging.{transfer_verdict};
 ghost use Rattle.dl_replay.specs.Left.{SaysSize, served_by, served_left, verdict_left, verdict_stored};
 ghost use Rattle.dl_replay.specs.Limits.{chunk_limit, chunk_limit_in};
-ghost use Rattle.dl_replay.specs.Replays.{Agrees, IsInside, IsReplaying};
+ghost use Rattle.dl_replay.specs.Replays.{Agrees, IsReplaying};
 
 use dl_entry::{Actor, End, OutOfMemory, Why};
 use dl_kernel::{State, StepResult};
@@ -73,7 +73,7 @@ impl Player {
         state: &State,
     ) -> Result<Player, OutOfMemory>
         requires bounded { IsBounded log.now (state_in state.now) }
-        requires request { IsInside (length state.now.memory) state.now.request }
+        requires request { IsSoundIf (length state.now.memory) state.now.request }
         ensures from { IfOk result (λ player. player ≡ followed_from log.now interval (state_in state.now)) }
         ensures at { IfOk result (λ player. IsReplaying player state.now) }
     {

@@ -1,14 +1,18 @@
 //! What a sphere tells of itself, and the words of a flight that are laid into its memory.
-ghost use Rattle.std.specs.Prelude.{◌≡◌, ◌<◌, ◌≤◌, ◌⊎◌, [], None, true, IfOk, IfSome, IsSome, Some, length, slice_get};
+ghost use Rattle.std.specs.Prelude.{◌≡◌, ◌<◌, ◌≤◌, ◌⊎◌, [], None, false, true, IfOk, IsSome, Some, length, slice_get};
 ghost use Rattle.spec_isa.specs.declared.thread.Parts.{Parts};
 ghost use Rattle.spec_engine.specs.Flights.{IsInside, at, drain};
 ghost use Rattle.spec_kernel.specs.Devices.{Devices};
 ghost use Rattle.spec_play.specs.Progress.{position};
 ghost use Rattle.spec_protocol.specs.machine.Commits.{MovedSphere, dma_moved};
 ghost use Rattle.spec_protocol.specs.machine.Placing.{replays};
-ghost use Rattle.spec_protocol.specs.promises.Sound.{IsChunkSize, IsSoundRequest};
+ghost use Rattle.spec_protocol.specs.promises.Alike.{epochs_in};
+ghost use Rattle.spec_protocol.specs.promises.Kept.{has_due};
+ghost use Rattle.spec_protocol.specs.promises.Sound.{IsChunkSize};
 ghost use Rattle.spec_protocol.specs.machine.Spheres.{head_of, is_stopped, halves, is_in_pieces};
 ghost use Rattle.dl_fly.specs.Slots.{set_slot};
+ghost use Rattle.dl_kernel.specs.States.{state_in};
+ghost use Rattle.dl_record.specs.Epochs.{base_state};
 ghost use Rattle.dl_replay.specs.Limits.{chunk_limit};
 ghost use Rattle.dl_sphere.specs.Moving.{SaysOutcome};
 ghost use Rattle.dl_sphere.specs.Reading.{end_in, pieces_in, log_in, SaysBytes};
@@ -24,6 +28,7 @@ use dl_dev::Devices;
 use dl_entry::{Actor, Commit, End, OutOfMemory, Request};
 use dl_fly::{Drain, Flights};
 use dl_mem::Memory;
+use dl_record::Base;
 use dl_sig::Sig;
 use dl_thread::Threads;
 use dl_wbuf::Buffer;
@@ -146,14 +151,14 @@ impl Sphere {
         &self.past.state.memory
     }
 
-    /// The whole commits so far, the first one first.
+    /// The whole commits so far that are kept, the first one first.
     pub fn commits(&self) -> &[Commit]
         ensures { result.now ≡ self.now.sphere.progress.commits }
     {
         &self.past.commits
     }
 
-    /// The number of the first of them in the log's play, which is 0 unless an interval is replayed.
+    /// The number of the first of them, which is 0 unless an interval is replayed, or epochs of a recording were given up.
     pub fn first(&self) -> u32
         ensures { result ≡ self.now.sphere.progress.first }
     {
@@ -167,7 +172,30 @@ impl Sphere {
         self.past.state.commits
     }
 
-    /// The log of a recording so far.
+    /// Whether an epoch is to begin before the next commit or interrupt.
+    pub fn due(&self) -> bool
+        ensures { result ≡ has_due self.now.sphere }
+    {
+        match &self.part {
+            Part::Plain | Part::Replayed(_) => false,
+            Part::Recorded(recording) => recording.is_due(),
+        }
+    }
+
+    /// Where a recording in epochs begins: at the earliest epoch that wasn't given up.
+    pub fn base(&self) -> Base<'_>
+        requires some { IsSome (epochs_in self.now.sphere.role) }
+        requires ready { has_due self.now.sphere ≡ false }
+        ensures at { result.at ≡ self.now.sphere.progress.first }
+        ensures state { base_state (epochs_in self.now.sphere.role) ≡ Some (state_in result.state.now) }
+    {
+        match &self.part {
+            Part::Plain | Part::Replayed(_) => unreachable!(),
+            Part::Recorded(recording) => recording.base(),
+        }
+    }
+
+    /// The log of a recording so far, from its base on.
     pub fn log(&self) -> Result<Log, OutOfMemory>
         requires { IsSome (log_in self.now.sphere.role) }
         ensures { IfOk result (λ log. log_in self.now.sphere.role ≡ Some log) }
@@ -214,7 +242,6 @@ impl Sphere {
     /// The words that a DMA would store: none where the replay leaves its log there, or none is asked for.
     #[tactic(auto, unfolding(spec_protocol::specs::machine::Commits::dma_moved))]
     pub fn dma_words(&self, devices: &Devices) -> Result<Buffer, OutOfMemory>
-        requires request { IfSome self.now.sphere.progress.request (IsSoundRequest (length self.now.sphere.memory)) }
         ensures words { IfOk result (λ words. (v : MovedSphere) → dma_moved devices.now self.now.sphere ≡ Some v → words.words ≡ v.words) }
         ensures none { IfOk result (λ words. dma_moved devices.now self.now.sphere ≡ None → words.words ≡ []) }
     {

@@ -8,12 +8,24 @@ use dl_kernel::State;
 use spec_log::{Log, ModeName};
 use spec_play::Interval;
 
-/// A sphere's role: plain, recorded in a version of logs, 1 or 2, and a mode, or replayed.
+/// A sphere's role: plain, recorded in a version of logs, 1 or 2, and a mode, or replayed. In epochs only the last part of a
+/// recording of version 2 is kept.
 #[derive(Drop)]
 pub enum Role {
     Plain,
-    Record { version: u8, mode: ModeName },
+    Record {
+        version: u8,
+        mode: ModeName,
+        epochs: Option<Epochs>,
+    },
     Replay(Replay),
+}
+
+/// The epochs of a recording: the commits of each, 1 to 2^24, and how many of them are kept, 1 to 64.
+#[derive(Clone, Copy)]
+pub struct Epochs {
+    pub size: u32,
+    pub keep: u32,
 }
 
 /// What is replayed: all commits of a log, or those of an interval, where that begins.

@@ -1,20 +1,25 @@
 //! The sphere.
-ghost use Rattle.std.specs.Prelude.{◌≡◌, ◌^◌, ◌<◌, ◌≤◌, ◌∷◌, [], ℕ, Some, None, IfOk, IfSome, IsSome, OnOk, OnErr, length, slice_get, true, false};
+ghost use Rattle.std.specs.Prelude.{◌≡◌, ◌^◌, ◌<◌, ◌≤◌, ◌∷◌, [], ℕ, Some, None, IfOk, IsSome, OnOk, OnErr, length, slice_get, true, false};
 ghost use Rattle.spec_isa.specs.declared.thread.Parts.{Parts};
 ghost use Rattle.spec_engine.specs.declared.answers.How.{How};
 ghost use Rattle.spec_kernel.specs.Devices.{Devices};
 ghost use Rattle.spec_kernel.specs.Interrupts.{takes_interrupt};
+ghost use Rattle.spec_isa.specs.Words.{lays};
+ghost use Rattle.spec_engine.specs.Flights.{AreInside};
 ghost use Rattle.spec_play.specs.Progress.{position};
 ghost use Rattle.spec_protocol.specs.machine.Asking.{is_short};
 ghost use Rattle.spec_protocol.specs.machine.Commits.{is_piece, chunk_moved, serial_moved, dma_moved, raised};
-ghost use Rattle.spec_protocol.specs.machine.Machine.{sphere_of};
+ghost use Rattle.spec_protocol.specs.machine.Epochs.{epoch_begun};
 ghost use Rattle.spec_protocol.specs.machine.Placing.{replays};
+ghost use Rattle.spec_protocol.specs.machine.Shown.{flying};
+ghost use Rattle.spec_protocol.specs.promises.Kept.{has_due};
 ghost use Rattle.spec_protocol.specs.machine.Spheres.{head_of, is_stopped, halves};
-ghost use Rattle.spec_protocol.specs.promises.Sound.{IsChunkSize, HaveByteInput, IsSoundRequest};
 ghost use Rattle.dl_sphere.specs.Moving.{came, CanCommit, IsTurnOf, IsTurnOfDma};
-ghost use Rattle.dl_sphere.specs.Setups.{setup_of, standard_in};
+ghost use Rattle.dl_sphere.specs.Setups.{standard_in};
+ghost use Rattle.dl_sphere.specs.SizedSpheres.{with_sphere};
 
 use crate::commits::{chunk_commit, is_short};
+use crate::epochs::current_state;
 use crate::moved::Moved;
 use crate::part::{Part, note, note_interrupt};
 use crate::replaying::{commit_part, serve_dma, serve_step};
@@ -24,6 +29,7 @@ use crate::words;
 use dl_chunk::Chunk;
 use dl_dev::Devices;
 use dl_entry::OutOfMemory;
+use dl_fly::Flights;
 use dl_kernel::{Past, Step, counted, dma_commit, interrupted, settle, thread_at};
 use dl_sig::Sig;
 use std::marker::Model;
@@ -60,6 +66,7 @@ impl Sphere {
         requires thread { thread < length self.old.sphere.threads }
         requires chunk { CanCommit self.old.s self.old.sphere thread how chunk.now.chunk }
         requires few { replays self.old.sphere.role ≡ false → position self.old.sphere.progress < 2 ^ 24 }
+        requires ready { has_due self.old.sphere ≡ false }
         ensures ok { IfOk result (λ m. (d : Devices) →
             came m self.new.sphere d
             ≡ chunk_moved thread (is_piece how) (is_short self.old.s how chunk.now.chunk.limit) chunk.now.chunk.done d self.old.sphere) }
@@ -94,7 +101,7 @@ impl Sphere {
         requires thread { thread < length self.old.sphere.threads }
         requires turn { IsTurnOf thread self.old.sphere.role }
         requires few { replays self.old.sphere.role ≡ false → position self.old.sphere.progress < 2 ^ 24 }
-        requires devices { HaveByteInput devices.old }
+        requires ready { has_due self.old.sphere ≡ false }
         ensures ok { IfOk result (λ m. (t : Parts) → slice_get self.old.sphere.threads thread ≡ Some t →
             came m self.new.sphere devices.new ≡ serial_moved thread moment t devices.old self.old.sphere) }
         ensures standard { self.new.s ≡ self.old.s }
@@ -127,11 +134,10 @@ impl Sphere {
 
     /// Does the outstanding DMA request with the bytes of the input, as many as are asked for or are left.
     pub fn dma(&mut self, devices: &mut Devices) -> Result<Moved, OutOfMemory>
-        requires request { IfSome self.old.sphere.progress.request (IsSoundRequest (length self.old.sphere.memory)) }
         requires turn { IsTurnOfDma self.old.sphere.role }
         requires some { IsSome (dma_moved devices.old self.old.sphere) }
         requires few { replays self.old.sphere.role ≡ false → position self.old.sphere.progress < 2 ^ 24 }
-        requires devices { HaveByteInput devices.old }
+        requires ready { has_due self.old.sphere ≡ false }
         ensures ok { IfOk result (λ m. dma_moved devices.old self.old.sphere ≡ Some (came m self.new.sphere devices.new)) }
         ensures standard { self.new.s ≡ self.old.s }
         ensures size { standard_in self.new.s self.new.sphere.role ≡ standard_in self.old.s self.old.sphere.role }
@@ -158,6 +164,7 @@ impl Sphere {
         requires there { (t : Parts) → slice_get self.old.sphere.threads thread ≡ Some t → takes_interrupt t ≡ true }
         requires thread { thread < length self.old.sphere.threads }
         requires recorded { replays self.old.sphere.role ≡ false }
+        requires ready { has_due self.old.sphere ≡ false }
         ensures ok { OnOk result ((t : Parts) → slice_get self.old.sphere.threads thread ≡ Some t →
             self.new.sphere ≡ raised thread value t self.old.sphere) }
         ensures standard { self.new.s ≡ self.old.s }
@@ -168,6 +175,33 @@ impl Sphere {
         note_interrupt(&mut self.part, thread, found.commits(), value)?;
         let after = interrupted(value, &found);
         self.past.state.threads.set(thread, &after);
+        Ok(())
+    }
+
+    /// Begins an epoch, if one is due, in the sphere of that number, with what is left in its flights laid over its memory. If
+    /// there are then more than are kept, the earliest is given up, with its commits and records.
+    pub fn begin_epoch<G: Sig>(
+        &mut self,
+        flights: &Flights<G>,
+        number: u8,
+    ) -> Result<(), OutOfMemory>
+        requires { AreInside (length self.old.sphere.memory) (flying number flights.now.slots) }
+        ensures ok { let memory = lays self.old.sphere.memory (flying number flights.now.slots) in
+            OnOk result (self.new ≡ with_sphere (epoch_begun memory self.old.sphere) self.old) }
+        ensures err { OnErr result (self.new ≡ self.old) }
+    {
+        let Part::Recorded(recording) = &mut self.part else {
+            return Ok(());
+        };
+        if !recording.is_due() {
+            return Ok(());
+        }
+        let past = &mut self.past;
+        let state = current_state(past.alloc, &mut past.state, flights, number)?;
+        recording.begin_epoch(state)?;
+        let first = recording.first();
+        past.commits.drain(..(first - past.first) as usize);
+        past.first = first;
         Ok(())
     }
 }

@@ -4,7 +4,6 @@ ghost use Rattle.dl_entry.specs.Numbers.{most_threads};
 ghost use Rattle.spec_kernel.specs.Serving.{console_written};
 ghost use Rattle.spec_log.specs.Log.{IsInput};
 ghost use Rattle.spec_play.specs.Effects.{serial_commit};
-ghost use Rattle.spec_protocol.specs.promises.Sound.{HaveByteInput};
 ghost use Rattle.dl_kernel.specs.Calls.{spawned_list};
 ghost use Rattle.dl_sphere.specs.Roles.{keeping_of, most_of, with_noted, CanNote};
 ghost use Rattle.dl_sphere.specs.Stepping.{taken_by, served_by, commit_by};
@@ -39,7 +38,6 @@ pub(crate) fn live_step(
     moment: u32,
 ) -> Result<Left, OutOfMemory>
     requires note { CanNote (commit_by part.old step.now devices.old moment) false (keeping_of part.old) }
-    requires devices { HaveByteInput devices.old }
     ensures thread { IfOk result (λ l. l.thread ≡ (served_by part.old step.now devices.old moment).thread) }
     ensures spawned { IfOk result (λ l. spawned_list l.spawned ≡ (served_by part.old step.now devices.old moment).spawned) }
     ensures room { IfOk result (λ l. OnSome l.spawned (length step.now.threads.now < most_of (keeping_of part.old))) }
@@ -54,8 +52,9 @@ pub(crate) fn live_step(
     ensures part_still { OnErr result (keeping_of part.new ≡ keeping_of part.old) }
     ensures devices_still { OnErr result (devices.new ≡ devices.old) }
 {
-    // a memory has bytes
+    // the proof sees here that the memory and the devices hold bytes
     let _ = step.memory.size();
+    let _ = devices.input_left();
     let input = outside_record(alloc, &step.thread, step.memory, devices, moment)?;
     let served = serve(alloc, step, input.as_ref(), threads_allowed(part))?;
     let StepResult {

@@ -3,7 +3,7 @@ ghost use Rattle.std.specs.Prelude.{◌≡◌, ◌^◌, None, Some, false, IfOk,
 ghost use Rattle.spec_kernel.specs.Answers.{dma_bytes, dma_taken};
 ghost use Rattle.spec_kernel.specs.Copies.{dma_words};
 ghost use Rattle.spec_play.specs.Effects.{dma_commit};
-ghost use Rattle.spec_protocol.specs.promises.Sound.{HaveByteInput, IsSoundRequest};
+ghost use Rattle.spec_protocol.specs.promises.Sound.{IsSoundRequest};
 ghost use Rattle.dl_sphere.specs.Roles.{keeping_of, with_noted, CanNote};
 
 use crate::part::{Part, note};
@@ -22,7 +22,6 @@ pub(crate) fn live_dma(
 ) -> Result<Buffer, OutOfMemory>
     requires note { CanNote dma_commit false (keeping_of part.old) }
     requires request { IsSoundRequest (2 ^ 24) request.now }
-    requires devices { HaveByteInput devices.old }
     ensures words { IfOk result (λ b. b.words ≡ dma_words request.now (dma_bytes devices.old request.now)) }
     ensures noted { OnOk result (keeping_of part.new ≡ with_noted dma_commit false None (Some (dma_bytes devices.old request.now)) (keeping_of part.old)) }
     ensures devices { OnOk result (devices.new ≡ dma_taken devices.old request.now) }

@@ -3,3 +3,7 @@ mod Repeating
 mod RunLaws
 mod Staging
 mod StrataLaws
+mod Tables
+mod Cuts
+mod Adding
+mod Ending

@@ -1,2 +1,6 @@
 pub mod Answer
 pub mod Runs
+pub mod Tables
+pub mod Cutting
+pub mod Marks
+pub mod Stratifying

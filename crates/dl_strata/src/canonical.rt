@@ -1,4 +1,4 @@
-//! The log that strata stand for.
+//! The log that has the order of some strata.
 ghost use Rattle.std.specs.Prelude.{◌≡◌, ◌≤◌, ◌++◌, length, map, replicate, All, IfOk, OnOk};
 ghost use Rattle.std.specs.List.{flat_map};
 ghost use Rattle.dl_entry.specs.declared.Actor.{Actor};
@@ -11,7 +11,7 @@ use spec_log::{Log, LogParts, ModeName, Order, Sizes};
 use spec_strata::{Strata, Stratum};
 use std::alloc::Global;
 
-/// The log that strata stand for: of version 2, in order-only, with the strata in their order and the threads of each
+/// The log that has the order of these strata: of version 2, in order-only, with the strata in their order and the threads of each
 /// rising.
 pub fn canonical_log(alloc: Global, strata: &Strata) -> Result<Log, OutOfMemory>
     ensures { IfOk result (λ log. log ≡ canonical strata.now) }

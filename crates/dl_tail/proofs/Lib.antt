@@ -3,6 +3,7 @@ pub mod LogStages
 pub mod PutLaws
 pub mod Repeating
 pub mod RowLaws
+pub mod RowsAgain
 pub mod StageLaws
 pub mod TailLaws
 pub mod ThreadLaws

@@ -69,7 +69,7 @@ Codes-rows size small =
 
 -- ---- empty rows
 
-abbrev zeros : (count : ℕ) → List ℕ
+abbrev pub zeros : (count : ℕ) → List ℕ
 zeros count = replicate count 0
 
 empty-zeros : (bytes : List ℕ) → is_empty bytes ≡ true → bytes ≡ zeros (length bytes)
@@ -78,7 +78,7 @@ empty-zeros (b ∷ bs) e =
     let p = and_parts (b == 0) (is_empty bs) e in
     rw (eqb-true b 0 p.0) (ap (λ (xs : List ℕ). 0 ∷ xs) (empty-zeros bs p.1))
 
-zeros-more : (n : ℕ) → zeros (32 * suc n) ≡ zeros 32 ++ zeros (32 * n)
+pub zeros-more : (n : ℕ) → zeros (32 * suc n) ≡ zeros 32 ++ zeros (32 * n)
 zeros-more n =
     let more : 32 * suc n ≡ 32 + 32 * n = omega arith in
     ap zeros more ∙ sym (replicate-append-replicate 32 (32 * n) 0)
@@ -86,7 +86,7 @@ zeros-more n =
 -- ---- a memory that is made of its rows
 
 -- a row put over zeros, right after the bytes before
-row-put : (k n : ℕ) (p bytes : List ℕ) → length p ≡ 32 * k → length bytes ≡ 32
+pub row-put : (k n : ℕ) (p bytes : List ℕ) → length p ≡ 32 * k → length bytes ≡ 32
     → with_row (p ++ zeros (32 * suc n)) (record { number = k; bytes = bytes }) ≡ (p ++ bytes) ++ zeros (32 * n)
 row-put k n p bytes here whole =
     let end : length (p ++ zeros 32) ≡ 32 * k + 32 = omega (arith, length-append p (zeros 32), length-replicate {A = ℕ} 32 0, here) in
@@ -98,7 +98,7 @@ row-put k n p bytes here whole =
     rw (front, back) refl
 
 -- no row put, where the memory has zeros
-none-put : (n : ℕ) (p : List ℕ) → p ++ zeros (32 * suc n) ≡ (p ++ zeros 32) ++ zeros (32 * n)
+pub none-put : (n : ℕ) (p : List ℕ) → p ++ zeros (32 * suc n) ≡ (p ++ zeros 32) ++ zeros (32 * n)
 none-put n p = ap (λ (z : List ℕ). p ++ z) (zeros-more n) ∙ sym (append_assoc p (zeros 32) (zeros (32 * n)))
 
 memory-from : (n k : ℕ) (p rest : List ℕ) → length p ≡ 32 * k → length rest ≡ 32 * n → with_rows (p ++ zeros (32 * n)) (rows_from k n rest) ≡ p ++ rest

@@ -23,11 +23,12 @@ use Rattle.spec_tail.specs.Tails.{Tail, IsThreadAt, IsSize, IsRequest, IsLast, I
 use Rattle.dl_logfmt.proofs.ByteNumbers.{IsByte}
 use Rattle.dl_logfmt.proofs.EntryLaws.{few-threads}
 use Rattle.dl_logfmt.proofs.Codes.{Codes, Codes-via, Codes-part, untested}
-use Rattle.dl_logfmt.proofs.LogLaws.{draft_of as log_draft_of, log-draft, shaped, whole, Known-order, Decides-threads, same-sizes, staged-on, staged-once}
+use Rattle.dl_logfmt.proofs.LogLaws.{draft_of as log_draft_of, log-draft, nothing-behind, shaped, whole, Known-order, Decides-threads, same-sizes, staged-on, staged-once}
 use Rattle.dl_logfmt.proofs.SectionLaws.{entries, section_of, staged-entries}
 use Rattle.dl_tail.proofs.HeaderLaws.{bytes-header, IsHeader, Codes-header}
 use Rattle.dl_tail.proofs.LogStages.{put, bytes-all, Known-mode, Codes-log}
 use Rattle.dl_tail.proofs.RowLaws.{IsRow, AreRows, Codes-rows, same-memory, are-rows, is-memory}
+use Rattle.dl_tail.proofs.RowsAgain.{rows-again}
 use Rattle.dl_tail.proofs.ThreadLaws.{Codes-threads}
 
 -- ---- from a stage on
@@ -214,6 +215,24 @@ read-whole bytes (Ok x) t e =
     let u = untested (nat_lt x.after (length bytes)) (tail_of x.value) t (record { number = 7; offset = x.after }) e in
     (x, refl, ltb-false x.after (length bytes) u.0, u.1)
 read-whole bytes (Err fault) t e = cc
+
+written-draft : (d : TailDraft) → Known d → bytes-draft d ≡ tail_bytes (tail_of d)
+written-draft d (h, gh, (ts, gts, (rs, grs, k))) =
+    let f = fits h ts rs d k in
+    let e : d ≡ put (with h ts rs) d.log = k.1.2.2.2.1 in
+    let memory = is-memory h.size rs grs.1 in
+    let again = rows-again h.size rs gh.size.pages grs in
+    let log_same : bytes-all (put (with h ts rs) d.log) ≡ log_bytes (log.log_of d.log) = log-written (put (with h ts rs) d.log) f.version in
+    subst (λ (x : TailDraft). bytes-draft x ≡ tail_bytes (tail_of x)) (sym e)
+    (rw (again, gts.0, memory.0, log_same) (same-sections (bytes-header h) (flat_map thread_bytes ts) (section row_bytes rs) (log_bytes (log.log_of d.log))))
+
+-- bytes that are read as a tail are that tail's
+pub written_again : (bytes : List ℕ) (t : Tail) → All IsByte bytes → read_of bytes ≡ Ok t → tail_bytes t ≡ bytes
+written_again bytes t are e =
+    let s = read-whole bytes (all_of stages blank bytes 0) t e in
+    let f = Codes-draft.finds [] bytes s.0.value s.0.after are s.1 in
+    let found = nothing-behind bytes (bytes-draft s.0.value) f.rest f.split (omega (arith, f.here, s.2)) in
+    subst (λ (x : Tail). tail_bytes x ≡ bytes) s.3 (sym (written-draft s.0.value f.is_good) ∙ found)
 
 -- what is read is a tail
 pub tail-good : (bytes : List ℕ) (t : Tail) → All IsByte bytes → read_of bytes ≡ Ok t → IsTail t

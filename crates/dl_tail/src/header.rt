@@ -10,7 +10,7 @@ use dl_entry::{MOST_BYTES, MOST_THREADS, Request};
 use dl_logfmt::{FIELD, LogError, judge, read_u8, read_u16, read_u32};
 use spec_tail::TailHeader;
 
-/// What stands for no thread.
+/// The number that means no thread.
 pub const NO_THREAD: u8 = 255;
 
 /// Reads the header.
@@ -93,7 +93,7 @@ fn read_last(bytes: &[u8], at: &mut usize, present: u8) -> Result<Option<u8>, Lo
     Ok(if code == NO_THREAD { None } else { Some(code) })
 }
 
-/// The number of one of the threads, or what stands for none.
+/// The number of one of the threads, or the one that means no thread.
 fn read_last_code(bytes: &[u8], at: &mut usize, present: u8) -> Result<u8, LogError>
     ensures { Answers (field 1 (λ x. (x == 255) || nat_lt x present) bytes.now at.old) result at.new }
 {

@@ -3,10 +3,12 @@ use Rattle.std.proofs.Common.{◌≡◌, ℕ, zero, suc, ◌*◌, ◌/◌, ◌<�
 use Rattle.std.proofs.lemmas.Option.{none-some, slice_get_within}
 use Rattle.std.proofs.Math.Nat.{div-mul-le_self}
 use Rattle.spec_log.specs.declared.LogParts.{LogParts}
-use Rattle.spec_play.specs.States.{State, state_after}
+use Rattle.spec_play.specs.States as play
+use Rattle.spec_play.specs.States.{state_after}
 use Rattle.spec_play.specs.Resuming.{HasDone}
+use Rattle.dl_kernel.specs.States.{PlayState as State, state_in}
 use Rattle.dl_serial.specs.Keeping.{AreKept}
-use Rattle.dl_trail.specs.Trails.{AreNumbers, commits_of, entry_of, memory_of}
+use Rattle.dl_trail.specs.Trails.{AreNumbers, commits_of, entry_in, entry_of, memory_of}
 
 -- what is found at a place inside is at that place
 pub found-there : (xs : List State) (n : ℕ) (x : State) → n < length xs → x ≡ get_or xs n x → slice_get xs n ≡ Some x
@@ -32,17 +34,17 @@ module _ (log : LogParts) (memory : List ℕ) (entry every : ℕ) (kept : List S
   pub some-kept : 0 < length kept
   some-kept = are.all 0 (let none : 0 * every ≡ 0 = omega arith in subst (HasDone log memory entry) (sym none) refl)
 
-  first_is : (ss : List State) → ((n : ℕ) (s : State) → slice_get ss n ≡ Some s → s ≡ state_after log memory entry (n * every)) → 0 < length ss → memory_of ss ≡ memory
+  first_is : (ss : List State) → ((n : ℕ) (s : State) → slice_get ss n ≡ Some s → state_in s ≡ state_after log memory entry (n * every)) → 0 < length ss → memory_of ss ≡ memory
   first_is [] each some = absurd (omega arith)
   first_is (s ∷ ss) each some =
       let none : 0 * every ≡ 0 = omega arith in
-      ap (λ (x : State). x.memory) (each 0 s refl ∙ ap (state_after log memory entry) none)
+      ap (λ (x : play.State). x.memory) (each 0 s refl ∙ ap (state_after log memory entry) none)
 
-  entry_is : (ss : List State) → ((n : ℕ) (s : State) → slice_get ss n ≡ Some s → s ≡ state_after log memory entry (n * every)) → 0 < length ss → entry_of ss ≡ entry
+  entry_is : (ss : List State) → ((n : ℕ) (s : State) → slice_get ss n ≡ Some s → state_in s ≡ state_after log memory entry (n * every)) → 0 < length ss → entry_of ss ≡ entry
   entry_is [] each some = absurd (omega arith)
   entry_is (s ∷ ss) each some =
       let none : 0 * every ≡ 0 = omega arith in
-      ap (λ (x : State). entry_of (x ∷ [])) (each 0 s refl ∙ ap (state_after log memory entry) none)
+      ap (λ (x : play.State). entry_in x.threads) (each 0 s refl ∙ ap (state_after log memory entry) none)
 
   -- it is of the image
   pub memory-kept : memory_of kept ≡ memory
@@ -53,7 +55,7 @@ module _ (log : LogParts) (memory : List ℕ) (entry every : ℕ) (kept : List S
 
   -- the n-th is after n times so many commits
   pub commits-kept : (n : ℕ) (s : State) → slice_get kept n ≡ Some s → s.commits ≡ n * every
-  commits-kept n s is = ap (λ (x : State). x.commits) (are.each n s is) ∙ are.done n (slice_get_within kept n s is)
+  commits-kept n s is = ap (λ (x : play.State). x.commits) (are.each n s is) ∙ are.done n (slice_get_within kept n s is)
 
   numbered : (ss : List State) (f : ℕ → ℕ) → ((n : ℕ) (s : State) → slice_get ss n ≡ Some s → s.commits ≡ f n) → (n k : ℕ) → slice_get (commits_of ss) n ≡ Some k → k ≡ f n
   numbered [] f each n k is = absurd (none-some k is)

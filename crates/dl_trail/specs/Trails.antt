@@ -2,9 +2,9 @@
 use Rattle.std.specs.Prelude.{◌≡◌, ℕ, ◌*◌, ◌<◌, List, [], ◌∷◌, length, map, slice_get, Some}
 use Rattle.spec_isa.specs.declared.thread.Parts.{Parts}
 use Rattle.spec_log.specs.declared.LogParts.{LogParts}
-use Rattle.spec_play.specs.States.{State}
 use Rattle.spec_play.specs.Resuming.{HasDone}
 use Rattle.spec_interval.specs.Slices.{Slice}
+use Rattle.dl_kernel.specs.States.{PlayState as State}
 use Rattle.dl_trail.specs.declared.text.Text.{Text}
 
 -- and after every how many commits a state is kept

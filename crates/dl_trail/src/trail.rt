@@ -3,13 +3,14 @@ ghost use Rattle.std.specs.Prelude.{◌≡◌, ◌≤◌, IfOk};
 ghost use Rattle.spec_play.specs.States.{state_after};
 ghost use Rattle.spec_play.specs.Resuming.{HasDone};
 ghost use Rattle.spec_interval.specs.Slices.{slice};
+ghost use Rattle.dl_kernel.specs.States.{state_in};
 ghost use Rattle.dl_trail.specs.Trails.{AreNumbers, commits_of, slice_in};
 
 use crate::text::{Text, text_of};
 use dl_elf::Image;
 use dl_entry::OutOfMemory;
 use dl_logfmt::copy_log;
-use dl_serial::{Kept, keep_states, play_from};
+use dl_serial::{Snapshot, State, keep_states, play_from};
 use spec_log::Log;
 use std::alloc::Global;
 use std::marker::Model;
@@ -21,7 +22,7 @@ pub struct Trail {
     alloc: Global,
     log: Log,
     every: u32,
-    kept: Vec<Kept>,
+    kept: Vec<State<Snapshot>>,
     numbers: Vec<u32>,
 }
 
@@ -70,17 +71,17 @@ impl Trail {
             IfOk result (λ text. slice_in text ≡ slice t.log t.memory t.entry i j) }
     {
         let start = self.start(i);
-        let skipped = i - start.commits();
-        let walked = play_from(self.alloc, start.state(self.alloc)?, &self.log, j)?;
+        let skipped = i - start.commits;
+        let walked = play_from(self.alloc, start.resumed(self.alloc)?, &self.log, j)?;
         text_of(self.alloc, &walked, skipped, i)
     }
 
     // The last state that is kept at or before commit `i`.
-    fn start(&self, i: u32) -> &Kept
+    fn start(&self, i: u32) -> &State<Snapshot>
         ensures before { result.now.commits ≤ i }
         ensures done { let t = self.now in HasDone t.log t.memory t.entry result.now.commits }
         ensures state { let t = self.now in
-            result.now ≡ state_after t.log t.memory t.entry result.now.commits }
+            state_in result.now ≡ state_after t.log t.memory t.entry result.now.commits }
     {
         let last = self.kept.len() - 1;
         let index = ((i / self.every) as usize).min(last);
@@ -96,12 +97,12 @@ impl Trail {
 }
 
 // After how many commits each of the states is.
-fn numbers_of(alloc: Global, kept: &[Kept]) -> Result<Vec<u32>, OutOfMemory>
+fn numbers_of(alloc: Global, kept: &[State<Snapshot>]) -> Result<Vec<u32>, OutOfMemory>
     ensures { IfOk result (λ numbers. numbers.items ≡ commits_of kept.now) }
 {
     let mut numbers = Vec::with_capacity(alloc, kept.len())?;
     for state in kept {
-        numbers.push(state.commits())?;
+        numbers.push(state.commits)?;
     }
     Ok(numbers)
 }

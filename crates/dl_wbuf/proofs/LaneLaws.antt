@@ -53,6 +53,11 @@ pub HasLanes-over : (a mask value below : ℕ) → HasLanes (word_over (bytes_of
 unfolding word_over bytes_of
 HasLanes-over a n u v = HasLanes-sum _ _ _ _ (or_some_lt _ _ _) (or_some_lt _ _ _) (or_some_lt _ _ _) (or_some_lt _ _ _)
 
+-- a store of all four bytes leaves nothing of the word below
+pub whole_over : (value below : ℕ) → value < 2 ^ 32 → value ≡ word_over (bytes_of 0 15 value) below
+unfolding word_over bytes_of
+whole_over v below h = omega (arith, h)
+
 -- the word's number doesn't matter to its bytes
 pub word_over-any : (a b mask value below : ℕ) → word_over (bytes_of a mask value) below ≡ word_over (bytes_of b mask value) below
 unfolding word_over bytes_of

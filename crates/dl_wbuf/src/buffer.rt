@@ -1,6 +1,7 @@
 //! The buffer itself. It has room for a number of words, which `new` makes; no other call takes memory.
 ghost use Rattle.std.specs.Prelude.{◌≡◌, ℕ, ◌/◌, ◌%◌, ◌≤◌, ◌==◌, [], length, drop, IfOk, OnOk, OnErr, is_ok};
 ghost use Rattle.std.specs.List.{slice_get, position};
+ghost use Rattle.std.specs.VecDeque.Iter.{deque_iter_rest};
 ghost use Rattle.spec_isa.specs.Words.{Apart};
 ghost use Rattle.spec_isa.specs.Masks.{bytes_of, over};
 ghost use Rattle.dl_wbuf.specs.Buffers.{has_room, after_store, byte_held, IsLast};
@@ -11,6 +12,7 @@ use crate::stored::Stored;
 use crate::table::Table;
 use std::alloc::{AllocError, Global};
 use std::collections::VecDeque;
+use std::collections::vec_deque::Iter;
 use std::marker::Model;
 use thiserror::Error;
 
@@ -118,6 +120,14 @@ impl Buffer {
         ensures apart { Apart self.now.words }
     {
         self.words.get(i as usize).copied()
+    }
+
+    /// The words left, in the order of their first store.
+    pub fn iter(&self) -> Iter<'_, Stored>
+        ensures value { deque_iter_rest result ≡ self.now.words }
+        ensures apart { Apart self.now.words }
+    {
+        self.words.iter()
     }
 
     /// Takes out the word that was stored first.

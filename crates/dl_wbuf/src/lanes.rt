@@ -2,10 +2,17 @@
 ghost use Rattle.std.specs.Prelude.{◌≡◌, if◌then◌else◌};
 ghost use Rattle.spec_isa.specs.Masks.{bytes_of, word_over};
 
+// The mask of all four bytes.
+const WHOLE: u8 = 0b1111;
+
 /// The word below, except for the masked bytes, which are those of the value.
+#[inline(always)]
 pub(crate) fn laid_over(below: u32, mask: u8, value: u32) -> u32
     ensures { result ≡ word_over (bytes_of 0 mask value) below }
 {
+    if mask == WHOLE {
+        return value;
+    }
     let [below0, below1, below2, below3] = below.to_le_bytes();
     let [value0, value1, value2, value3] = value.to_le_bytes();
     u32::from_le_bytes([

@@ -60,7 +60,8 @@ impl Stored {
     }
 
     /// The word below with this store over it.
-    pub(crate) fn over(&self, below: u32) -> u32
+    #[inline(always)]
+    pub fn over(&self, below: u32) -> u32
         ensures { result ≡ word_over self.now below }
     {
         laid_over(below, self.mask, self.value)

@@ -1,4 +1,4 @@
--- The command line as `clap` is told it: a program of eleven subcommands with their operands, each of which has to be there. It
+-- The command line as `clap` is told it: a program of twelve subcommands with their operands, each of which has to be there. It
 -- has no options, and neither help nor a version.
 use Rattle.std.specs.Prelude.{true, List, [], ◌∷◌, codes, map}
 use Rattle.std.specs.Borrow.{Bor}
@@ -27,6 +27,9 @@ abbrev pub interval_app : App
 interval_app =
     subcommand (codes "interval")
     (codes "IMAGE" ∷ codes "MEMORY" ∷ codes "LOG" ∷ codes "EVERY" ∷ codes "I" ∷ codes "J" ∷ [])
+
+abbrev pub tail_app : App
+tail_app = subcommand (codes "tail") (codes "NAME" ∷ [])
 
 abbrev pub watch_app : App
 watch_app = subcommand (codes "watch") (codes "IMAGE" ∷ codes "MEMORY" ∷ codes "LOG" ∷ codes "ADDR" ∷ [])
@@ -74,6 +77,7 @@ command_line =
     ∷ inspect_app
     ∷ walk_app
     ∷ interval_app
+    ∷ tail_app
     ∷ watch_app
     ∷ who_app
     ∷ when_app

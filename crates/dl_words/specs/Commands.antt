@@ -8,34 +8,35 @@ use Rattle.dl_words.specs.Numbers.{number_of, memory_of, address_of, up_to, plac
 use Rattle.dl_words.specs.declared.command.Command.{Command}
 use Rattle.dl_words.specs.declared.command.Command.TheVariants as command
 use Rattle.dl_words.specs.declared.interval.Interval.{Interval as IntervalWords}
-use Rattle.dl_words.specs.declared.pair.Pair.{Pair}
+use Rattle.dl_words.specs.declared.playback.Playback.{Playback}
 use Rattle.dl_words.specs.declared.query.Query.{Query as QueryWords}
 use Rattle.dl_words.specs.declared.query.Question.{Question}
 
 -- the names of an image and of a log of it, and the bytes of the memory that the log is played in
-pub record PairValues : Type 0 where
+pub record PlaybackValues : Type 0 where
   pub image : Text
   pub memory : ℕ
   pub log : Text
 
 -- the commits of the log from one number up to another, of a play whose state is kept each so many commits
 pub record IntervalValues : Type 0 where
-  pub pair : PairValues
+  pub playback : PlaybackValues
   pub every : ℕ
   pub from : ℕ
   pub to : ℕ
 
 -- a question about the word at an address in that memory
 pub record QueryValues : Type 0 where
-  pub pair : PairValues
+  pub playback : PlaybackValues
   pub address : ℕ
   pub question : Question
 
 pub data CommandValues : Type 0 where
   Run : (plan : Text) → CommandValues
   Inspect : (log : Text) → CommandValues
-  Walk : (pair : PairValues) → CommandValues
+  Walk : (playback : PlaybackValues) → CommandValues
   Interval : (interval : IntervalValues) → CommandValues
+  Tail : (name : Text) → CommandValues
   Query : (query : QueryValues) → CommandValues
   Make : (number : ℕ) → (name : Text) → CommandValues
   Drill : (number : ℕ) → CommandValues
@@ -44,8 +45,8 @@ pub data CommandValues : Type 0 where
 
 -- ---- each subcommand, from what was found for its operands
 
-abbrev pub pair_of : List Row → Option PairValues
-pair_of rows =
+abbrev pub playback_of : List Row → Option PlaybackValues
+playback_of rows =
     option_and_then (λ image. option_and_then (λ memory. option_map (λ log. record { image = image; memory = memory; log = log })
     (first_of (codes "LOG") rows))
     (option_and_then memory_of (first_of (codes "MEMORY") rows)))
@@ -53,9 +54,9 @@ pair_of rows =
 
 abbrev pub query_of : Question → List Row → Option QueryValues
 query_of question rows =
-    option_and_then (λ pair. option_map (λ address. record { pair = pair; address = address; question = question })
-    (option_and_then (address_of pair.memory) (first_of (codes "ADDR") rows)))
-    (pair_of rows)
+    option_and_then (λ playback. option_map (λ address. record { playback = playback; address = address; question = question })
+    (option_and_then (address_of playback.memory) (first_of (codes "ADDR") rows)))
+    (playback_of rows)
 
 abbrev pub run_of : List Row → Option CommandValues
 run_of rows = option_map Run (first_of (codes "PLAN") rows)
@@ -64,16 +65,19 @@ abbrev pub inspect_of : List Row → Option CommandValues
 inspect_of rows = option_map Inspect (first_of (codes "LOG") rows)
 
 abbrev pub walk_of : List Row → Option CommandValues
-walk_of rows = option_map Walk (pair_of rows)
+walk_of rows = option_map Walk (playback_of rows)
 
 abbrev pub interval_of : List Row → Option CommandValues
 interval_of rows =
-    option_and_then (λ pair. option_and_then (λ every. option_and_then (λ to.
-    option_map (λ from. Interval (record { pair = pair; every = every; from = from; to = to }))
+    option_and_then (λ playback. option_and_then (λ every. option_and_then (λ to.
+    option_map (λ from. Interval (record { playback = playback; every = every; from = from; to = to }))
     (option_and_then (up_to to) (first_of (codes "I") rows)))
     (option_and_then place_of (first_of (codes "J") rows)))
     (option_and_then every_of (first_of (codes "EVERY") rows)))
-    (pair_of rows)
+    (playback_of rows)
+
+abbrev pub tail_of : List Row → Option CommandValues
+tail_of rows = option_map Tail (first_of (codes "NAME") rows)
 
 abbrev pub watch_of : List Row → Option CommandValues
 watch_of rows = option_map Query (query_of Question.Watch rows)
@@ -112,6 +116,7 @@ named name rows =
     else if bytes_eq name (codes "inspect") then inspect_of rows
     else if bytes_eq name (codes "walk") then walk_of rows
     else if bytes_eq name (codes "interval") then interval_of rows
+    else if bytes_eq name (codes "tail") then tail_of rows
     else if bytes_eq name (codes "watch") then watch_of rows
     else if bytes_eq name (codes "who") then who_of rows
     else if bytes_eq name (codes "when") then when_of rows
@@ -136,20 +141,21 @@ command_of words = option_and_then (λ found. named found.0 found.1) (found_in w
 
 -- ---- commands of the code
 
-abbrev pub pair_view : Pair → PairValues
-pair_view p = record { image = p.image.now; memory = p.memory; log = p.log.now }
+abbrev pub playback_view : Playback → PlaybackValues
+playback_view p = record { image = p.image.now; memory = p.memory; log = p.log.now }
 
 abbrev pub interval_view : IntervalWords → IntervalValues
-interval_view i = record { pair = pair_view i.pair; every = i.every; from = i.from; to = i.to }
+interval_view i = record { playback = playback_view i.playback; every = i.every; from = i.from; to = i.to }
 
 abbrev pub query_view : QueryWords → QueryValues
-query_view q = record { pair = pair_view q.pair; address = q.address; question = q.question }
+query_view q = record { playback = playback_view q.playback; address = q.address; question = q.question }
 
 abbrev pub command_view : Command → CommandValues
 command_view (command.Run plan) = Run plan.now
 command_view (command.Inspect log) = Inspect log.now
-command_view (command.Walk pair) = Walk (pair_view pair)
+command_view (command.Walk playback) = Walk (playback_view playback)
 command_view (command.Interval interval) = Interval (interval_view interval)
+command_view (command.Tail name) = Tail name.now
 command_view (command.Query query) = Query (query_view query)
 command_view (command.Make number name) = Make number name.now
 command_view (command.Drill number) = Drill number

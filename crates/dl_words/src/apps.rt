@@ -8,11 +8,12 @@ use clap::{Arg, Command};
 use std::alloc::{AllocError, Global};
 
 /// The subcommands, each with the names of its operands, in their order.
-const SUBCOMMANDS: [(&str, &[&str]); 11] = [
+const SUBCOMMANDS: [(&str, &[&str]); 12] = [
     ("run", &["PLAN"]),
     ("inspect", &["LOG"]),
     ("walk", &["IMAGE", "MEMORY", "LOG"]),
     ("interval", &["IMAGE", "MEMORY", "LOG", "EVERY", "I", "J"]),
+    ("tail", &["NAME"]),
     ("watch", &["IMAGE", "MEMORY", "LOG", "ADDR"]),
     ("who", &["IMAGE", "MEMORY", "LOG", "ADDR", "I"]),
     ("when", &["IMAGE", "MEMORY", "LOG", "ADDR", "VALUE"]),

@@ -1,6 +1,6 @@
 //! Commands, with their operands.
 use crate::interval::Interval;
-use crate::pair::Pair;
+use crate::playback::Playback;
 use crate::query::Query;
 
 /// What the words ask for.
@@ -11,9 +11,11 @@ pub enum Command<'a> {
     /// `inspect LOG`
     Inspect { log: &'a str },
     /// `walk IMAGE MEMORY LOG`
-    Walk(Pair<'a>),
+    Walk(Playback<'a>),
     /// `interval IMAGE MEMORY LOG EVERY I J`
     Interval(Interval<'a>),
+    /// `tail NAME`
+    Tail { name: &'a str },
     /// `watch IMAGE MEMORY LOG ADDR`, and `who` and `when` with a word more
     Query(Query<'a>),
     /// `make NUMBER NAME`

@@ -6,13 +6,13 @@ pub mod command;
 mod interval;
 mod matching;
 mod number;
-mod pair;
+mod playback;
 mod query;
 mod reading;
 
 pub use command::Command;
 pub use dl_entry::OutOfMemory;
 pub use interval::Interval;
-pub use pair::Pair;
+pub use playback::Playback;
 pub use query::{Query, Question};
 pub use reading::read_words;

@@ -1,5 +1,5 @@
 //! A question about one word of a log, as words ask it.
-use crate::pair::Pair;
+use crate::playback::Playback;
 
 /// What is asked about a word.
 #[derive(Clone, Copy, PartialEq, Eq)]
@@ -15,7 +15,7 @@ pub enum Question {
 /// An image with a log of it, the address of a word in the memory, and what is asked about that word.
 #[derive(Clone, Copy, PartialEq, Eq)]
 pub struct Query<'a> {
-    pub pair: Pair<'a>,
+    pub playback: Playback<'a>,
     pub address: u32,
     pub question: Question,
 }

@@ -3,14 +3,14 @@ ghost use Rattle.std.specs.Prelude.{◌≡◌, IfOk};
 ghost use Rattle.std.specs.Option.{option_and_then, option_map};
 ghost use Rattle.clap.specs.Walk.{texts};
 ghost use Rattle.clap.specs.Words.{found_of, rows_of, subcommand_rows_of};
-ghost use Rattle.dl_words.specs.Commands.{command_of, command_view, pair_view, named as named_by, pair_of, query_of, query_view, run_of, inspect_of, walk_of, interval_of, make_of};
+ghost use Rattle.dl_words.specs.Commands.{command_of, command_view, playback_view, named as named_by, playback_of, query_of, query_view, run_of, inspect_of, walk_of, interval_of, tail_of, make_of};
 ghost use Rattle.dl_words.specs.Commands.{asm_of, drill_of, migrate_of, watch_of, when_of, who_of};
 
 use crate::command::Command;
 use crate::interval::Interval;
 use crate::matching::{find_matches, operand};
 use crate::number::{read_address, read_every, read_memory, read_number, read_place, read_up_to};
-use crate::pair::Pair;
+use crate::playback::Playback;
 use crate::query::{Query, Question};
 use clap::ArgMatches;
 use dl_entry::OutOfMemory;
@@ -46,6 +46,7 @@ fn named<'a>(name: &str, operands: &ArgMatches<'a>) -> Option<Command<'a>>
         "inspect" => inspect(operands),
         "walk" => walk(operands),
         "interval" => interval(operands),
+        "tail" => tail(operands),
         "watch" => watch(operands),
         "who" => who(operands),
         "when" => when(operands),
@@ -74,23 +75,30 @@ fn inspect<'a>(operands: &ArgMatches<'a>) -> Option<Command<'a>>
 fn walk<'a>(operands: &ArgMatches<'a>) -> Option<Command<'a>>
     ensures { option_map command_view result ≡ walk_of (rows_of (found_of operands.now)) }
 {
-    let pair = pair(operands)?;
-    Some(Command::Walk(pair))
+    let playback = playback(operands)?;
+    Some(Command::Walk(playback))
 }
 
 fn interval<'a>(operands: &ArgMatches<'a>) -> Option<Command<'a>>
     ensures { option_map command_view result ≡ interval_of (rows_of (found_of operands.now)) }
 {
-    let pair = pair(operands)?;
+    let playback = playback(operands)?;
     let every = read_every(operand(operands, "EVERY")?)?;
     let to = read_place(operand(operands, "J")?)?;
     let from = read_up_to(to, operand(operands, "I")?)?;
     Some(Command::Interval(Interval {
-        pair,
+        playback,
         every,
         from,
         to,
     }))
+}
+
+fn tail<'a>(operands: &ArgMatches<'a>) -> Option<Command<'a>>
+    ensures { option_map command_view result ≡ tail_of (rows_of (found_of operands.now)) }
+{
+    let name = operand(operands, "NAME")?;
+    Some(Command::Tail { name })
 }
 
 fn watch<'a>(operands: &ArgMatches<'a>) -> Option<Command<'a>>
@@ -150,20 +158,20 @@ fn migrate<'a>(operands: &ArgMatches<'a>) -> Option<Command<'a>>
 fn query<'a>(operands: &ArgMatches<'a>, question: Question) -> Option<Query<'a>>
     ensures { option_map query_view result ≡ query_of question (rows_of (found_of operands.now)) }
 {
-    let pair = pair(operands)?;
-    let address = read_address(pair.memory, operand(operands, "ADDR")?)?;
+    let playback = playback(operands)?;
+    let address = read_address(playback.memory, operand(operands, "ADDR")?)?;
     Some(Query {
-        pair,
+        playback,
         address,
         question,
     })
 }
 
-fn pair<'a>(operands: &ArgMatches<'a>) -> Option<Pair<'a>>
-    ensures { option_map pair_view result ≡ pair_of (rows_of (found_of operands.now)) }
+fn playback<'a>(operands: &ArgMatches<'a>) -> Option<Playback<'a>>
+    ensures { option_map playback_view result ≡ playback_of (rows_of (found_of operands.now)) }
 {
     let image = operand(operands, "IMAGE")?;
     let memory = read_memory(operand(operands, "MEMORY")?)?;
     let log = operand(operands, "LOG")?;
-    Some(Pair { image, memory, log })
+    Some(Playback { image, memory, log })
 }

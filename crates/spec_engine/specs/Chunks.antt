@@ -1,5 +1,5 @@
 -- The chunk of one core: how it begins, its step, how it is cut off and squashed.
-use Rattle.std.specs.Prelude.{ℕ, suc, ◌/◌, Bool, true, false, ◌&&◌, ◌||◌, nat_eq, nat_lt, max, List, length, Option, Some, None, if◌then◌else◌}
+use Rattle.std.specs.Prelude.{ℕ, suc, ◌/◌, Bool, true, false, not, ◌&&◌, ◌||◌, nat_eq, nat_lt, max, List, length, Option, Some, None, if◌then◌else◌}
 use Rattle.spec_isa.specs.declared.thread.Parts.{Parts}
 use Rattle.spec_isa.specs.declared.thread.Load.{Load}
 use Rattle.spec_isa.specs.Words.{Stored, lays, read, holds, is_inside}
@@ -166,6 +166,15 @@ is_serial (Some How.Limit) = false
 is_serial (Some How.Serial) = true
 is_serial (Some How.Overflow) = false
 is_serial (Some How.Cut) = false
+
+-- whether a chunk may follow one that was closed so. In a replay one that was cut off, or found no room, is a piece of a
+-- commit, and none follows it
+abbrev pub may_follow : (replays : Bool) → Option How → Bool
+may_follow b None = false
+may_follow b (Some How.Limit) = true
+may_follow b (Some How.Serial) = false
+may_follow b (Some How.Overflow) = not b
+may_follow b (Some How.Cut) = not b
 
 -- it closed before a serial instruction, and has run nothing
 abbrev pub is_empty_serial : Chunk → Bool

@@ -1,3 +1,4 @@
+pub mod Alike
 pub mod Left
 pub mod Paying
 pub mod Next

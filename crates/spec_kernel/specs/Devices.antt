@@ -1,5 +1,5 @@
 -- What is outside the spheres: the input that is left, the console, eight pipes, and a source of random bytes.
-use Rattle.std.specs.Prelude.{ℕ, zero, suc, ◌-◌, ◌%◌, ◌^◌, List, [], ◌∷◌, ◌++◌, length, take, drop, replicate, slice_index_or, slice_set}
+use Rattle.std.specs.Prelude.{ℕ, zero, suc, ◌-◌, ◌%◌, ◌^◌, ◌<◌, All, List, [], ◌∷◌, ◌++◌, length, take, drop, replicate, slice_index_or, slice_set}
 use Rattle.rand_pcg.specs.Lcg.{Lcg, started, increment_of}
 use Rattle.rand_pcg.specs.Pcg.{multiplier_64, pcg32}
 use Rattle.spec_kernel.specs.Numbers.{pipe_count, pipe_size, most_input, random_stream}
@@ -13,6 +13,19 @@ pub record Devices : Type 0 where
   pub pipes : List (List ℕ)
   -- the state of the random words
   pub random : Lcg
+
+-- ---- what they hold
+
+-- each of these is a byte
+abbrev pub AreBytes : List ℕ → Type 0
+AreBytes bytes = All (λ byte. byte < 2 ^ 8) bytes
+
+-- what the input and the pipes hold are bytes
+pub record HaveByteInput (d : Devices) : Type 0 where
+  pub input : AreBytes d.input
+  pub pipes : (k : ℕ) → AreBytes (slice_index_or d.pipes k [])
+
+-- ---- what is done with them
 
 -- before the first event: the first 2^24 bytes of an input, empty pipes, and the random words of a seed's stream 2
 abbrev pub devices_of : (input : List ℕ) (seed : ℕ) → Devices

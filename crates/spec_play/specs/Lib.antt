@@ -13,3 +13,4 @@ pub mod Migration
 pub mod States
 pub mod Resuming
 pub mod Intervals
+pub mod Epochs

@@ -38,7 +38,7 @@ AreOfBytes (s ∷ ss) = IsOfBytes s.role × AreOfBytes ss
 
 role_of_bytes : (m : Contents) (role : RoleValues) (r : RoleRead) → role_read m role ≡ Ok r → IsOfBytes r
 role_of_bytes m Plain r e = subst IsOfBytes (same_Ok PlainRead r e) tt
-role_of_bytes m (Record values) r e = subst IsOfBytes (same_Ok (RecordRead (record { version = values.version; mode = values.mode })) r e) tt
+role_of_bytes m (Record values) r e = subst IsOfBytes (same_Ok (RecordRead (record { version = values.version; mode = values.mode; epochs = values.epochs })) r e) tt
 role_of_bytes m (Replay values) r e =
     let read = then_ok (log_at m values.log) _ r e in
     let file = then_ok (read_at m values.log) _ read.0 read.1 in

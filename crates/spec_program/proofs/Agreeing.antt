@@ -1,16 +1,24 @@
 -- Tasks that agree on a sphere write the same account of it.
-use Rattle.std.proofs.Common.{◌≡◌, ℕ, Result, Ok, Err, refl, sym, ap, ◌∙◌}
+use Rattle.std.proofs.Common.{◌≡◌, ℕ, Option, Some, Result, Ok, Err, refl, sym, ap, ◌∙◌}
 use Rattle.dl_elf.specs.Images.{Image}
 use Rattle.dl_elf.specs.Loading.{image_of}
+use Rattle.std.specs.Prelude.{option_map}
+use Rattle.dl_plan.specs.Values.{EpochValues}
 use Rattle.spec_log.specs.declared.LogParts.{LogParts}
 use Rattle.spec_log.specs.declared.fault.Fault.{Fault}
 use Rattle.spec_protocol.specs.machine.Logged.{sphere_in}
-use Rattle.spec_protocol.specs.machine.Machine.{RecordSetup, RoleSetup, IsRecorded, IsReplayed, SphereSetup}
+use Rattle.spec_protocol.specs.machine.Machine.{EpochSetup, RecordSetup, RoleSetup, IsRecorded, IsReplayed, SphereSetup}
+use Rattle.dl_account.specs.Account.{account_of}
+use Rattle.spec_play.specs.Walks.{Walked}
 use Rattle.spec_run.specs.Runs.{executed}
-use Rattle.spec_run.specs.Texts.{account_as, account_text, log_of_points}
+use Rattle.spec_run.specs.Tails.{tail_of_points}
+use Rattle.spec_run.specs.Texts.{account_as, account_text, log_as, log_of_points, log_text, recorded_account, recorded_bytes}
 use Rattle.spec_run.proofs.Described.{recordings_reproduced}
-use Rattle.spec_program.specs.Agreement.{AccountsAgree, RecordingsAreReplayed}
-use Rattle.spec_program.specs.Built.{bad_log, record_setup, replay_setup, role_of}
+use Rattle.spec_run.proofs.Tails.{tails_are_played}
+use Rattle.spec_program.specs.Agreement.{AccountsAgree, RecordingsAreReplayed, TailsAreWalked, walk_end}
+use Rattle.spec_tail.specs.Bytes.{tail_bytes}
+use Rattle.spec_tail.specs.Tails.{Tail}
+use Rattle.spec_program.specs.Built.{bad_log, epoch_setup, record_setup, replay_setup, role_of}
 use Rattle.spec_program.specs.Files.{ReplayInputs, whole, ReplayRead, SphereRead}
 use Rattle.spec_program.specs.Stages.{refusing, ◌>>◌}
 use Rattle.spec_program.specs.Tasks.{setup_in}
@@ -61,7 +69,7 @@ accounts_agree plan other m n t u i j s inputs is is_too role at there =
 -- where one task records a sphere and another replays what it recorded, both write the same account
 pub recordings_replayed : RecordingsAreReplayed
 unfolding account_text
-recordings_replayed plan other m n t u i j s inputs is is_too role at there =
+recordings_replayed plan other m n t u i j s inputs is is_too role whole_log at there =
     let asked : RecordSetup = record_setup inputs in
     let noted_log = log_of_points (setup_in t) t.events i asked in
     let replay : ReplayInputs = whole noted_log in
@@ -79,7 +87,31 @@ recordings_replayed plan other m n t u i j s inputs is is_too role at there =
     in
     ap (λ (d : SphereSetup). account_as d x d.role) a.at
     ∙ ap (account_as a.setup x) recorded
+    ∙ ap (λ (o : Option EpochValues). recorded_account x (option_map epoch_setup o)) whole_log
     ∙ sym (recordings_reproduced (setup_in t) t.events i a.setup asked (task_can_finish plan m t is) a.there recorded).account
     ∙ plays
     ∙ ap (account_as b.setup y) (ap (replays_log replay) (sym parts) ∙ sym q.2)
     ∙ ap (λ (d : SphereSetup). account_as d y d.role) (sym b.at)
+
+-- ---- tails
+
+-- what a task writes of a sphere that it records in epochs is a tail, and the account of its walk
+pub tails_walked : TailsAreWalked
+unfolding account_text log_text
+tails_walked plan m t i s inputs x is limits role epochs at =
+    let asked : RecordSetup = record_setup inputs in
+    let a = sphere_of_task plan m t i s is at in
+    let recorded : a.setup.role ≡ IsRecorded asked = sym (same_Ok (IsRecorded asked) a.setup.role (ap (role_of 0) (sym role) ∙ a.made.role)) in
+    let so : asked.epochs ≡ Some (epoch_setup x) = ap (option_map epoch_setup) epochs in
+    let tail : Tail = tail_of_points (setup_in t) t.events i asked (epoch_setup x) in
+    let p = sphere_in (executed (setup_in t) t.events) i in
+    let played = tails_are_played (setup_in t) t.events i a.setup asked (epoch_setup x) limits (record { there = a.there; role = recorded; epochs = so }) in
+    record {
+      bytes = ap (λ (d : SphereSetup). log_as (setup_in t) t.events i d.role) a.at
+          ∙ ap (log_as (setup_in t) t.events i) recorded
+          ∙ ap (recorded_bytes (setup_in t) t.events i asked) so;
+      account = ap (λ (d : SphereSetup). account_as d p d.role) a.at
+          ∙ ap (account_as a.setup p) recorded
+          ∙ ap (recorded_account p) so
+          ∙ ap (λ (v : Walked). account_of tail.base v.commits v.threads v.request v.memory (walk_end v.end)) (sym played.walked);
+    }

@@ -5,12 +5,13 @@ use Rattle.dl_asm.specs.File.{file_of}
 use Rattle.dl_asm.specs.Sources.{lines_of, words_in}
 use Rattle.dl_elf.specs.Loading.{image_of}
 use Rattle.dl_files.specs.Contents.{Contents}
-use Rattle.dl_words.specs.Commands.{CommandValues, PairValues, QueryValues, IntervalValues, Run, Inspect, Walk, Query, Interval, Make, Drill, Asm, Migrate}
+use Rattle.dl_words.specs.Commands.{CommandValues, PlaybackValues, QueryValues, IntervalValues, Run, Inspect, Walk, Query, Interval, Tail, Make, Drill, Asm, Migrate}
 use Rattle.spec_log.specs.declared.LogParts.{LogParts}
 use Rattle.spec_log.specs.declared.fault.Fault.{Fault}
 use Rattle.spec_log.specs.Reading.{read_of}
 use Rattle.spec_protocol.specs.promises.Sound.{IsWithinLimits}
-use Rattle.spec_run.proofs.Described.{runs_described}
+use Rattle.spec_run.proofs.Described.{points-possible}
+use Rattle.spec_tail.specs.Reading as tails
 use Rattle.spec_program.specs.declared.status.Status.{Status}
 use Rattle.spec_program.specs.Asked.{IsDone, outcome_for}
 use Rattle.spec_program.specs.Built.{bad_image, bad_log}
@@ -22,11 +23,12 @@ use Rattle.spec_program.specs.commands.Make as make
 use Rattle.spec_program.specs.commands.Migrate as migrate
 use Rattle.spec_program.specs.commands.Query as query
 use Rattle.spec_program.specs.commands.Run as run
+use Rattle.spec_program.specs.commands.Tail as tail
 use Rattle.spec_program.specs.commands.Walk as walk
 use Rattle.spec_program.specs.Ends.{IsFinished, Stands, is_done}
 use Rattle.spec_program.specs.Files.{read_at, log_at}
 use Rattle.spec_program.specs.Headline.{Headline}
-use Rattle.spec_program.specs.Operands.{IsLogAt, IsPairAt, PairRead, file_at, good_log_at, image_in, log_file_at, log_in, pair_at}
+use Rattle.spec_program.specs.Operands.{IsLogAt, IsPlaybackAt, PlaybackRead, file_at, good_log_at, image_in, log_file_at, log_in, playback_at}
 use Rattle.spec_program.specs.Outcomes.{Finish, Outcome}
 use Rattle.spec_program.specs.Outside.{Outside}
 use Rattle.spec_program.specs.Sources.{assembled, refused_from, unless_refused}
@@ -75,15 +77,15 @@ log_read m name log e =
     let file = then_ok (log_file_at m name) log_in log e in
     log_is m name file.0 log file.1 file.2
 
--- a pair that is read is that of its files
-pub pair_is : (m : Contents) (p : PairValues) (read : PairRead) → pair_at m p ≡ Ok read → IsPairAt p m read
-pair_is m p read e =
+-- a playback that is read is that of its files
+pub playback_is : (m : Contents) (p : PlaybackValues) (read : PlaybackRead) → playback_at m p ≡ Ok read → IsPlaybackAt p m read
+playback_is m p read e =
     let program = then_ok (file_at m p.image) _ read e in
     let file = then_ok (log_file_at m p.log) _ read program.2 in
     let image = then_ok (image_in p.memory program.0) _ read file.2 in
     let log = then_ok (log_in file.0) _ read image.2 in
-    let made : PairRead = record { image = image.0; log = log.0 } in
-    subst (IsPairAt p m) (same_Ok made read log.2) (record {
+    let made : PlaybackRead = record { image = image.0; log = log.0 } in
+    subst (IsPlaybackAt p m) (same_Ok made read log.2) (record {
       program = program.0;
       there = there m p.image program.0 program.1;
       loaded = not_refused (bad_image 0) (image_of program.0 p.memory) image.0 image.1;
@@ -113,7 +115,7 @@ module _ (m : Contents) (before after : Outside) (s : Status) where
         task = task.0;
         asked = task.1;
         limits = subst (λ (t : Task). IsWithinLimits (setup_in t)) same limits.2;
-        possible = (runs_described (setup_in task.0) task.0.events (task_can_finish plan m task.0 task.1).setup).possible;
+        possible = points-possible (setup_in task.0) task.0.events (task_can_finish plan m task.0 task.1).setup;
         files = g.files;
         output = g.output;
         status = g.status;
@@ -125,23 +127,38 @@ module _ (m : Contents) (before after : Outside) (s : Status) where
       let g = reached (inspect.finish parts.0) finish parts.2 f in
       record { parts = parts.0; read = log_read m log parts.0 parts.1; output = g.output; files = g.files; status = g.status }
 
-  walk_done : (pair : PairValues) (finish : Finish) → walk.outcome m pair ≡ Ok finish → IsReached finish → walk.IsWalked pair m after.known before.taken after.taken s
-  walk_done pair finish e f =
-      let read = then_ok (pair_at m pair) _ finish e in
+  walk_done : (playback : PlaybackValues) (finish : Finish) → walk.outcome m playback ≡ Ok finish → IsReached finish → walk.IsWalked playback m after.known before.taken after.taken s
+  walk_done playback finish e f =
+      let read = then_ok (playback_at m playback) _ finish e in
       let g = reached (walk.finish read.0) finish read.2 f in
-      record { read = read.0; pair_read = pair_is m pair read.0 read.1; output = g.output; files = g.files; status = g.status }
+      record { read = read.0; playback_read = playback_is m playback read.0 read.1; output = g.output; files = g.files; status = g.status }
 
   query_done : (asked : QueryValues) (finish : Finish) → query.outcome m asked ≡ Ok finish → IsReached finish → query.IsAnswered asked m after.known before.taken after.taken s
   query_done asked finish e f =
-      let pair = then_ok (pair_at m asked.pair) _ finish e in
-      let g = reached (query.finish asked pair.0) finish pair.2 f in
-      record { pair = pair.0; pair_read = pair_is m asked.pair pair.0 pair.1; output = g.output; files = g.files; status = g.status }
+      let playback = then_ok (playback_at m asked.playback) _ finish e in
+      let g = reached (query.finish asked playback.0) finish playback.2 f in
+      record { playback = playback.0; playback_read = playback_is m asked.playback playback.0 playback.1; output = g.output; files = g.files; status = g.status }
 
   interval_done : (asked : IntervalValues) (finish : Finish) → interval.outcome m asked ≡ Ok finish → IsReached finish → interval.IsTold asked m after.known before.taken after.taken s
   interval_done asked finish e f =
-      let read = then_ok (pair_at m asked.pair) _ finish e in
+      let read = then_ok (playback_at m asked.playback) _ finish e in
       let g = reached (interval.finish asked read.0) finish read.2 f in
-      record { read = read.0; pair_read = pair_is m asked.pair read.0 read.1; output = g.output; files = g.files; status = g.status }
+      record { read = read.0; playback_read = playback_is m asked.playback read.0 read.1; output = g.output; files = g.files; status = g.status }
+
+  tail_done : (name : List ℕ) (finish : Finish) → tail.outcome m name ≡ Ok finish → IsReached finish → tail.IsPlayed name m after.known before.taken after.taken s
+  tail_done name finish e f =
+      let read = then_ok (tail.tail_at m name) _ finish e in
+      let file = then_ok (file_at m name) tail.tail_in read.0 read.1 in
+      let g = reached (tail.finish read.0) finish read.2 f in
+      record {
+        bytes = file.0;
+        there = there m name file.0 file.1;
+        tail = read.0;
+        read = not_refused (bad_log 0) (tails.read_of file.0) read.0 file.2;
+        output = g.output;
+        files = g.files;
+        status = g.status;
+      }
 
   asm_done : (source name : List ℕ) (finish : Finish) → asm.outcome m source name ≡ Ok finish → IsReached finish → asm.IsAssembled source name m after.known before.taken after.taken s
   asm_done source name finish e f =
@@ -163,9 +180,10 @@ module _ (m : Contents) (before after : Outside) (s : Status) where
       → IsDone command m after.known before.taken after.taken s
   done_at (Run plan) finish e limits f = run_done plan finish e (limits plan refl) f
   done_at (Inspect log) finish e limits f = inspect_done log finish e f
-  done_at (Walk pair) finish e limits f = walk_done pair finish e f
+  done_at (Walk playback) finish e limits f = walk_done playback finish e f
   done_at (Query asked) finish e limits f = query_done asked finish e f
   done_at (Interval asked) finish e limits f = interval_done asked finish e f
+  done_at (Tail name) finish e limits f = tail_done name finish e f
   done_at (Make number name) finish e limits f =
       let g = reached (make.finish number name) finish e f in
       record { files = g.files; output = g.output; status = g.status }

@@ -1,5 +1,5 @@
 -- A drill's replay gives the account of its recording.
-use Rattle.std.proofs.Common.{◌≡◌, ℕ, zero, suc, ◌<◌, ◌||◌, false, [], ◌∷◌, Some, refl, ap, ◌∙◌, arith}
+use Rattle.std.proofs.Common.{◌≡◌, ℕ, zero, suc, ◌<◌, ◌||◌, false, [], ◌∷◌, Some, None, refl, ap, ◌∙◌, arith}
 use Rattle.std.specs.Prelude.{slice_get}
 use Rattle.std.proofs.lemmas.Option.{none-some, same_Some}
 use Rattle.spec_log.specs.declared.ModeName.{ModeName}
@@ -13,12 +13,12 @@ use Rattle.spec_program.specs.Drilled.{IsReproduced}
 use Rattle.spec_program.specs.Drills.{drill_sphere, recording, recording_events}
 
 abbrev recorded : (number : ℕ) → SphereSetup
-recorded v = drill_sphere v (IsRecorded (record { version = 1; mode = ModeName.OrderOnly }))
+recorded v = drill_sphere v (IsRecorded (record { version = 1; mode = ModeName.OrderOnly; epochs = None }))
 
 -- nothing is replayed
 none_replayed : (v i : ℕ) (image : SphereSetup) (asked : ReplaySetup) → slice_get (recorded v ∷ []) i ≡ Some image → image.role ≡ IsReplayed asked → 0 < asked.log.s
 none_replayed v zero image asked is role =
-    let other : IsRecorded (record { version = 1; mode = ModeName.OrderOnly }) ≡ IsReplayed asked = ap (λ (x : SphereSetup). x.role) (same_Some (recorded v) image is) ∙ role in
+    let other : IsRecorded (record { version = 1; mode = ModeName.OrderOnly; epochs = None }) ≡ IsReplayed asked = ap (λ (x : SphereSetup). x.role) (same_Some (recorded v) image is) ∙ role in
     absurd cc
 none_replayed v (suc i) image asked is role = absurd (none-some image is)
 
@@ -35,5 +35,5 @@ can_finish v =
 pub drill_reproduced : (v : ℕ) → IsReproduced v
 unfolding account_text
 drill_reproduced v =
-    let reproduced = recordings_reproduced (recording v) (recording_events v) 0 (recorded v) (record { version = 1; mode = ModeName.OrderOnly }) (can_finish v) refl refl in
+    let reproduced = recordings_reproduced (recording v) (recording_events v) 0 (recorded v) (record { version = 1; mode = ModeName.OrderOnly; epochs = None }) (can_finish v) refl refl in
     record { account = reproduced.account; complete = ap (λ (n : TurnOrEnd). has_diverged (end_of n) || false) reproduced.fits }

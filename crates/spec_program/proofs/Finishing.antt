@@ -2,7 +2,7 @@
 use Rattle.std.proofs.Common.{◌≡◌, ℕ, List, Option, Some, Result, Ok, Err, ok_or, refl, ap, ◌∙◌, subst}
 use Rattle.dl_files.specs.Contents.{Contents}
 use Rattle.dl_words.specs.Commands.{CommandValues, Run, command_of}
-use Rattle.spec_run.proofs.Described.{runs_described}
+use Rattle.spec_run.proofs.Described.{points-possible}
 use Rattle.spec_program.specs.Asked.{outcome_for, outcome_of, usage}
 use Rattle.spec_program.specs.Outcomes.{DoesFinish, Outcome}
 use Rattle.spec_program.specs.Promise.{IsRun}
@@ -31,5 +31,5 @@ finished_has_task words m plan asks f = task_there (task_named m plan) (subst Do
 pub task_run : (words : List (List ℕ)) (m : Contents) (plan : List ℕ) (t : Task) → command_of words ≡ Some (Run plan) → IsTask plan m t → IsRun words m t
 task_run words m plan t asks is = record {
   outcome = outcome_is words m (Run plan) asks ∙ ap (λ (o : Result Task Refused). o >> run_of) is;
-  possible = (runs_described (setup_in t) t.events (task_can_finish plan m t is).setup).possible;
+  possible = points-possible (setup_in t) t.events (task_can_finish plan m t is).setup;
 }

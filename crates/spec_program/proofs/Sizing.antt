@@ -3,11 +3,11 @@ use Rattle.std.proofs.Common.{◌≡◌, ℕ, ◌<◌, ◌≤◌, ◌&&◌, pos,
 use Rattle.std.proofs.lemmas.Option.{none-some, same_Some}
 use Rattle.std.specs.List.{list_all}
 use Rattle.dl_plan.specs.Entries.{Entries}
-use Rattle.dl_plan.specs.Roles.{has_good_interval}
+use Rattle.dl_plan.specs.Roles.{has_good_epochs, has_good_interval}
 use Rattle.dl_plan.specs.Limits.{limited, signature_of}
 use Rattle.dl_plan.specs.Optional.{◌>>=◌, ◌>>◌, each_of}
 use Rattle.dl_plan.specs.declared.Sizes.{Sizes}
-use Rattle.dl_plan.specs.Plans.{plan_of, plan_in, document, entries_in, values_in, values_of, named_well, cut_well, bounded_well, has_good_names, has_good_chunk, schedule_of, sphere_asked}
+use Rattle.dl_plan.specs.Plans.{plan_of, plan_in, document, entries_in, values_in, values_of, named_well, cut_well, bounded_well, parted_well, has_good_names, has_good_chunk, schedule_of, sphere_asked}
 use Rattle.dl_plan.specs.Sizes.{sizes_in, sizes_of, events_in, has_good_spheres}
 use Rattle.dl_plan.specs.Values.{PlanValues}
 
@@ -98,12 +98,14 @@ pub plan_sized : (name bytes : List ℕ) (p : PlanValues) → plan_of name bytes
 unfolding plan_of
 plan_sized name bytes p e =
     let entries = then_ok (ok_or (document bytes) 1 >> entries_in) (plan_in name) p e in
-    let cut = then_ok (values_in entries.0 >> named_well name >> cut_well) (bounded_well entries.0.spheres) p entries.2 in
+    let bounded = then_ok (values_in entries.0 >> named_well name >> cut_well >> bounded_well entries.0.spheres) (parted_well entries.0.spheres) p entries.2 in
+    let cut = then_ok (values_in entries.0 >> named_well name >> cut_well) (bounded_well entries.0.spheres) bounded.0 bounded.1 in
     let named = then_ok (values_in entries.0 >> named_well name) cut_well cut.0 cut.1 in
     let values = then_ok (values_in entries.0) (named_well name) named.0 named.1 in
     let same =
     passed (has_good_names name values.0) 7 values.0 named.0 values.2
     ∙ passed (has_good_chunk named.0) 8 named.0 cut.0 named.2
-    ∙ passed (list_all has_good_interval entries.0.spheres) 9 cut.0 p cut.2
+    ∙ passed (list_all has_good_interval entries.0.spheres) 9 cut.0 bounded.0 cut.2
+    ∙ passed (list_all has_good_epochs entries.0.spheres) 10 bounded.0 p bounded.2
     in
     subst IsSized same (values_sized entries.0 values.0 values.1)

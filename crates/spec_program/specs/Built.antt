@@ -1,18 +1,18 @@
 -- What is built of the files that a plan has read: the images, the roles with their logs, the events, and the setup of the
 -- machine; or the first of them that is refused.
-use Rattle.std.specs.Prelude.{ℕ, suc, List, [], ◌∷◌, Result, Ok}
+use Rattle.std.specs.Prelude.{ℕ, suc, List, [], ◌∷◌, option_map, Result, Ok}
 use Rattle.dl_elf.specs.Images.{Image}
 use Rattle.dl_elf.specs.Loading.{image_of}
 use Rattle.dl_event.specs.Seeded.{seeded, schedule}
 use Rattle.dl_plan.specs.declared.Mode.{Mode}
 use Rattle.dl_plan.specs.declared.Sizes.{Sizes}
-use Rattle.dl_plan.specs.Values.{PlanValues}
+use Rattle.dl_plan.specs.Values.{EpochValues, PlanValues}
 use Rattle.spec_log.specs.declared.LogParts.{LogParts}
 use Rattle.spec_log.specs.declared.ModeName.{ModeName}
 use Rattle.spec_log.specs.declared.fault.Fault.{Fault}
 use Rattle.spec_play.specs.Intervals.{interval_of}
 use Rattle.spec_protocol.specs.declared.event.Event.{Event}
-use Rattle.spec_protocol.specs.machine.Machine.{RecordSetup, ReplaySetup, RoleSetup, IsPlain, IsRecorded, IsReplayed, SphereSetup, Setup}
+use Rattle.spec_protocol.specs.machine.Machine.{EpochSetup, RecordSetup, ReplaySetup, RoleSetup, IsPlain, IsRecorded, IsReplayed, SphereSetup, Setup}
 use Rattle.spec_protocol.specs.machine.World.{Numbers}
 use Rattle.spec_program.specs.declared.status.Refusal.{Refusal}
 use Rattle.spec_program.specs.Files.{ScheduleRead, ScriptRead, EventsDrawn, RecordInputs, ReplayInputs, RoleRead, PlainRead, RecordRead, ReplayRead, SphereRead}
@@ -44,9 +44,17 @@ mode_named Mode.OrderSize = ModeName.OrderSize
 mode_named Mode.OrderOnly = ModeName.OrderOnly
 mode_named Mode.Picolog = ModeName.Picolog
 
--- in what version and mode a sphere is recorded
+abbrev pub epoch_setup : EpochValues → EpochSetup
+epoch_setup values = record { size = values.size; keep = values.keep }
+
+-- in what version and mode a sphere is recorded, and in which epochs
 abbrev pub record_setup : RecordInputs → RecordSetup
-record_setup inputs = record { version = inputs.version; mode = mode_named inputs.mode }
+record_setup inputs =
+    record {
+      version = inputs.version;
+      mode = mode_named inputs.mode;
+      epochs = option_map epoch_setup inputs.epochs;
+    }
 
 -- which commits of a good log are replayed
 abbrev pub replay_setup : ReplayInputs → LogParts → ReplaySetup

@@ -1,5 +1,5 @@
 -- Drills: a generated image is recorded on many cores, and its log is replayed on one.
-use Rattle.std.specs.Prelude.{ℕ, List, [], ◌∷◌, ◌++◌, codes}
+use Rattle.std.specs.Prelude.{ℕ, List, [], ◌∷◌, ◌++◌, codes, None}
 use Rattle.dl_asm.specs.File.{image_by}
 use Rattle.dl_elf.specs.Images.{Image}
 use Rattle.dl_event.specs.Seeded.{seeded, schedule}
@@ -28,14 +28,14 @@ recording v =
       numbers = record { s = 64; capacity = 8; bits = 128; depth = 1 };
       seed = v;
       input = [];
-      spheres = drill_sphere v (IsRecorded (record { version = 1; mode = ModeName.OrderOnly })) ∷ [];
+      spheres = drill_sphere v (IsRecorded (record { version = 1; mode = ModeName.OrderOnly; epochs = None })) ∷ [];
     }
 
 abbrev pub recording_events : (number : ℕ) → List Event
 recording_events v = schedule 20000 (seeded v)
 
 abbrev pub recorded_log : (number : ℕ) → LogParts
-recorded_log v = log_of_points (recording v) (recording_events v) 0 (record { version = 1; mode = ModeName.OrderOnly })
+recorded_log v = log_of_points (recording v) (recording_events v) 0 (record { version = 1; mode = ModeName.OrderOnly; epochs = None })
 
 -- ---- the replay of its log, without a schedule
 

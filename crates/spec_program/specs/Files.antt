@@ -4,7 +4,7 @@ use Rattle.std.specs.FinMap.{get}
 use Rattle.dl_event.specs.Script.{script_of}
 use Rattle.dl_files.specs.Contents.{Contents}
 use Rattle.dl_plan.specs.declared.Mode.{Mode}
-use Rattle.dl_plan.specs.Values.{ScheduleValues, Script, Seeded, RoleValues, Plain, Record, Replay, SphereValues, PlanValues}
+use Rattle.dl_plan.specs.Values.{ScheduleValues, Script, Seeded, EpochValues, RoleValues, Plain, Record, Replay, SphereValues, PlanValues}
 use Rattle.spec_log.specs.declared.LogParts.{LogParts}
 use Rattle.spec_log.specs.declared.fault.Fault.{Fault}
 use Rattle.spec_log.specs.Reading.{read_of}
@@ -16,10 +16,11 @@ pub data ScheduleRead : Type 0 where
   ScriptRead : (script : Result (List Event) ℕ) → ScheduleRead
   EventsDrawn : (events : ℕ) → ScheduleRead
 
--- of what is recorded, the version of the log, and the mode
+-- of what is recorded, the version of the log, the mode, and its epochs, if it is recorded in epochs
 pub record RecordInputs : Type 0 where
   pub version : ℕ
   pub mode : Mode
+  pub epochs : Option EpochValues
 
 -- of what is replayed, the log, or the first of its fields that isn't good; and from which of its commits on and up to which
 -- it is replayed, if the plan says so
@@ -72,7 +73,7 @@ input_read m (Some name) = read_at m name
 
 abbrev pub role_read : Contents → RoleValues → Result RoleRead (List ℕ)
 role_read m Plain = Ok PlainRead
-role_read m (Record values) = Ok (RecordRead (record { version = values.version; mode = values.mode }))
+role_read m (Record values) = Ok (RecordRead (record { version = values.version; mode = values.mode; epochs = values.epochs }))
 role_read m (Replay values) = log_at m values.log >> λ read. Ok (ReplayRead (record { log = read; from = values.from; to = values.to }))
 
 abbrev pub sphere_read : Contents → SphereValues → Result SphereRead (List ℕ)

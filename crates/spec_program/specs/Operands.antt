@@ -4,7 +4,7 @@ use Rattle.std.specs.FinMap.{get}
 use Rattle.dl_elf.specs.Images.{Image}
 use Rattle.dl_elf.specs.Loading.{image_of}
 use Rattle.dl_files.specs.Contents.{Contents}
-use Rattle.dl_words.specs.Commands.{PairValues}
+use Rattle.dl_words.specs.Commands.{PlaybackValues}
 use Rattle.spec_log.specs.declared.LogParts.{LogParts}
 use Rattle.spec_log.specs.declared.fault.Fault.{Fault}
 use Rattle.spec_log.specs.Reading.{read_of}
@@ -37,31 +37,31 @@ pub record IsLogAt (name : List ℕ) (m : Contents) (log : LogParts) : Type 0 wh
 
 -- ---- an image and a log, which are those of sphere 0 too
 
-pub record PairRead : Type 0 where
+pub record PlaybackRead : Type 0 where
   pub image : Image
   pub log : LogParts
 
-abbrev pub pair_reads : PairValues → List (List ℕ)
-pair_reads p = p.image ∷ p.log ∷ []
+abbrev pub playback_reads : PlaybackValues → List (List ℕ)
+playback_reads p = p.image ∷ p.log ∷ []
 
 abbrev pub image_in : (memory : ℕ) → (program : List ℕ) → Result Image Refused
 image_in memory program = refusing (bad_image 0) (image_of program memory)
 
 -- both files are read before either is looked at, and the image is looked at first
-abbrev pub pair_in : (memory : ℕ) → (program : List ℕ) → (read : Result LogParts Fault) → Result PairRead Refused
-pair_in memory program read =
+abbrev pub playback_in : (memory : ℕ) → (program : List ℕ) → (read : Result LogParts Fault) → Result PlaybackRead Refused
+playback_in memory program read =
     image_in memory program >> λ image.
     log_in read >> λ log.
     Ok (record { image = image; log = log })
 
-abbrev pub pair_on : Contents → PairValues → (program : List ℕ) → Result PairRead Refused
-pair_on m p program = log_file_at m p.log >> pair_in p.memory program
+abbrev pub playback_on : Contents → PlaybackValues → (program : List ℕ) → Result PlaybackRead Refused
+playback_on m p program = log_file_at m p.log >> playback_in p.memory program
 
-abbrev pub pair_at : Contents → PairValues → Result PairRead Refused
-pair_at m p = file_at m p.image >> pair_on m p
+abbrev pub playback_at : Contents → PlaybackValues → Result PlaybackRead Refused
+playback_at m p = file_at m p.image >> playback_on m p
 
 -- the files of those names are that image, in that memory, and that log
-pub record IsPairAt (p : PairValues) (m : Contents) (read : PairRead) : Type 0 where
+pub record IsPlaybackAt (p : PlaybackValues) (m : Contents) (read : PlaybackRead) : Type 0 where
   pub program : List ℕ
   pub there : get m p.image ≡ Some program
   pub loaded : image_of program p.memory ≡ Ok read.image

@@ -18,20 +18,13 @@ at_once name bytes = record { name = name; bytes = bytes; in_pieces = false }
 abbrev pub piece_by_piece : (name bytes : List ℕ) → Write
 piece_by_piece name bytes = record { name = name; bytes = bytes; in_pieces = true }
 
--- logs are written in pieces
-abbrev pub is_log : Product → Bool
-is_log (Product.Log sphere) = true
-is_log (Product.Account sphere) = false
-is_log Product.Console = false
-is_log Product.Report = false
-
 -- a file that is to be written, with what is made for it
-abbrev pub filled : (made : Product → List ℕ) → OutputValues → Write
-filled made o = record { name = o.name; bytes = made o.product; in_pieces = is_log o.product }
+abbrev pub filled : (made : Product → List ℕ) → (in_pieces : Product → Bool) → OutputValues → Write
+filled made in_pieces o = record { name = o.name; bytes = made o.product; in_pieces = in_pieces o.product }
 
 -- each file that the plan has written, in its order
-abbrev pub outputs_filled : (made : Product → List ℕ) → PlanValues → List Write
-outputs_filled made p = map (filled made) (outputs_of p)
+abbrev pub outputs_filled : (made : Product → List ℕ) → (in_pieces : Product → Bool) → PlanValues → List Write
+outputs_filled made in_pieces p = map (filled made in_pieces) (outputs_of p)
 
 -- the contents after these writes
 abbrev pub written : List Write → Contents → Contents

@@ -4,6 +4,7 @@ pub mod Inspect
 pub mod Walk
 pub mod Query
 pub mod Interval
+pub mod Tail
 pub mod Make
 pub mod Drill
 pub mod Asm

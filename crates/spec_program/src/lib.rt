@@ -5,4 +5,6 @@
 mod promise;
 pub mod status;
 
-pub use promise::{accounts_agree, drills_are_reproduced, recordings_are_replayed, tasks_are_run};
+pub use promise::{
+    accounts_agree, drills_are_reproduced, recordings_are_replayed, tails_are_walked, tasks_are_run,
+};

@@ -1,5 +1,5 @@
 //! What is promised of commands. Each promise is a clause of a function that does nothing.
-ghost use Rattle.spec_program.specs.Agreement.{AccountsAgree, RecordingsAreReplayed};
+ghost use Rattle.spec_program.specs.Agreement.{AccountsAgree, RecordingsAreReplayed, TailsAreWalked};
 ghost use Rattle.spec_program.specs.Drilled.{DrillsAreReproduced};
 ghost use Rattle.spec_program.specs.Promise.{TasksAreRun};
 
@@ -15,9 +15,15 @@ pub fn accounts_agree()
     ensures { AccountsAgree }
 {}
 
-/// Where one task records a sphere and another replays that log on the same image, both write the same account.
+/// Where one task records a sphere whole and another replays that log on the same image, both write the same account.
 pub fn recordings_are_replayed()
     ensures { RecordingsAreReplayed }
+{}
+
+/// What a task writes as the log of a sphere that it records in epochs is a tail, and the walk of this tail has the account
+/// that it writes, byte for byte.
+pub fn tails_are_walked()
+    ensures { TailsAreWalked }
 {}
 
 /// For every number, the replay of a drill has the account of its recording, and its log's play is complete.

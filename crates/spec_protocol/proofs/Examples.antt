@@ -7,3 +7,4 @@ pub mod Abandoned
 pub mod Spawning
 pub mod Intervals
 pub mod Limits
+pub mod Epochs

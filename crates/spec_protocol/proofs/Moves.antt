@@ -9,3 +9,4 @@ pub mod Answering
 pub mod AsRecorded
 pub mod Committers
 pub mod AnyEvent
+pub mod Quiet

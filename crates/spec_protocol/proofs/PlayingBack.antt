@@ -5,4 +5,5 @@ pub mod Verdicts
 pub mod Transfers
 pub mod Moves
 pub mod All
+pub mod WholeLogs
 pub mod Sizes

@@ -8,3 +8,4 @@ pub mod OneByOne
 pub mod Logs
 pub mod Outputs
 pub mod Console
+pub mod Rising

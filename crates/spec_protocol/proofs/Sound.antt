@@ -12,3 +12,4 @@ pub mod Transfers
 pub mod Plays
 pub mod Schedules
 pub mod Notable
+pub mod Between

@@ -13,3 +13,5 @@ pub mod Serial
 pub mod Shown
 pub mod Moves
 pub mod Logged
+pub mod Epochs
+pub mod Kept

@@ -16,3 +16,5 @@ pub mod Committers
 pub mod Lasts
 pub mod OneChunk
 pub mod ConsoleBytes
+pub mod Alike
+pub mod Kept

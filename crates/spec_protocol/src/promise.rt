@@ -1,7 +1,9 @@
 //! What is promised of the protocol. Each promise is a clause of a function that does nothing.
+ghost use Rattle.spec_protocol.specs.promises.Alike.{EventsAreAlike};
 ghost use Rattle.spec_protocol.specs.promises.AsRecorded.{PlainMovesAsRecorded};
 ghost use Rattle.spec_protocol.specs.promises.Committers.{CommittersAreTold};
 ghost use Rattle.spec_protocol.specs.promises.ConsoleBytes.{ConsoleIsPutOut};
+ghost use Rattle.spec_protocol.specs.promises.Kept.{EpochsAreOfPlays, RecordingsAreKept, TailsAreOfPoints};
 ghost use Rattle.spec_protocol.specs.promises.Lasts.{SpheresKeepLasts};
 ghost use Rattle.spec_protocol.specs.promises.Promises.{CommitsAreSerial, InvariantsHold, MovesAreSerial, SizesAreKept};
 ghost use Rattle.spec_protocol.specs.promises.Logs.{LogsAreFresh};
@@ -155,4 +157,31 @@ pub fn spheres_keep_lasts()
 /// out on channel 8, in the order of the points.
 pub fn console_is_put_out()
     ensures { ConsoleIsPutOut }
+{}
+
+/// In two worlds that differ only in what their recordings in epochs still have of earlier commits, every event answers the
+/// same, makes the same point and the same move, and leaves worlds that differ in nothing else; the invariant holds of both or
+/// of neither. An epoch that begins, and one that is given up, leave a world that differs in nothing else.
+pub fn events_are_alike()
+    ensures { EventsAreAlike }
+{}
+
+/// The whole log of a recorded sphere, without what comes before one of its commits, is the log of the points after that commit:
+/// an interrupt that comes between the commits belongs to it, and one that was raised before doesn't.
+pub fn tails_are_of_points()
+    ensures { TailsAreOfPoints }
+{}
+
+/// If an event comes only after epochs that are due have begun: a recorded sphere has the commits and the log from its earliest
+/// kept epoch on, and each kept epoch is the state right after the commit before it. Once none is due, the earliest of them is
+/// the one that the number of commits asks for. All else is as if nothing was given up.
+pub fn recordings_are_kept()
+    ensures { RecordingsAreKept }
+{}
+
+/// The play of the whole log of a recorded sphere comes, after as many commits as there are before an epoch, to the state in
+/// which the epoch begins, with the inputs used that were noted before: only that it has taken already those interrupts that were
+/// raised right after that state.
+pub fn epochs_are_of_plays()
+    ensures { EpochsAreOfPlays }
 {}

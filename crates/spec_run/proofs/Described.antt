@@ -1,5 +1,5 @@
 -- Once a run is over, the machine holds what the texts of the run tell.
-use Rattle.std.proofs.Common.{◌≡◌, ℕ, zero, suc, ◌<◌, true, false, List, [], ◌∷◌, ◌++◌, length, Some, None, refl, sym, ap, ◌∙◌, subst, arith, get_or}
+use Rattle.std.proofs.Common.{◌≡◌, ℕ, zero, suc, ◌<◌, true, false, List, [], ◌∷◌, ◌++◌, length, Option, Some, None, refl, sym, ap, ◌∙◌, subst, arith, get_or}
 use Rattle.std.specs.Prelude.{slice_get}
 use Rattle.std.proofs.lemmas.Bool.{true≢false}
 use Rattle.std.proofs.lemmas.Option.{none-some}
@@ -13,7 +13,7 @@ use Rattle.spec_protocol.specs.declared.event.Event.{Event}
 use Rattle.spec_protocol.specs.machine.Spheres.{Recording, Role, Plain, Record, Replay, Cursor, Sphere, no_sphere, is_over}
 use Rattle.spec_protocol.specs.machine.Placing.{replays}
 use Rattle.spec_protocol.specs.machine.World.{World, sphere_at}
-use Rattle.spec_protocol.specs.machine.Machine.{all_of, last_played, ReplaySetup, RecordSetup, RoleSetup, IsPlain, IsRecorded, IsReplayed, SphereSetup, Setup, world_of, happens, world_after}
+use Rattle.spec_protocol.specs.machine.Machine.{all_of, last_played, ReplaySetup, new_epochs, EpochSetup, RecordSetup, RoleSetup, IsPlain, IsRecorded, IsReplayed, SphereSetup, Setup, world_of, happens, world_after}
 use Rattle.spec_protocol.specs.machine.Serial.{serial_start, serial, CanDoAll}
 use Rattle.spec_protocol.specs.machine.Logged.{sphere_in, supplied, logged}
 use Rattle.spec_protocol.specs.promises.Logs.{IsLogFresh}
@@ -25,6 +25,7 @@ use Rattle.spec_replay.specs.Promises.{IsPlayed}
 use Rattle.spec_replay.proofs.Intervals.{now_as}
 use Rattle.spec_finishing.specs.Ending.{Ends, CanFinish, IsAtEnd}
 use Rattle.spec_finishing.specs.Function.{finished, finishing_of, most_events}
+use Rattle.spec_protocol.proofs.Alike.Whole.{plain-after}
 use Rattle.spec_protocol.proofs.Points.Serial.{commits_are}
 use Rattle.spec_protocol.proofs.Points.Logs.{logs_are, logs_are_fresh}
 use Rattle.spec_protocol.proofs.PlayingBack.All.{logs_play_back}
@@ -35,9 +36,9 @@ use Rattle.spec_finishing.proofs.Ending.Knowing.{within, there_is, kinds_after}
 use Rattle.spec_finishing.proofs.Next.All.{next-stands}
 use Rattle.spec_finishing.proofs.Ending.Played.{replays_finished}
 use Rattle.spec_finishing.proofs.Next.Turns.{shown-itself}
-use Rattle.spec_run.specs.Runs.{executed, played, end_of, played_end}
-use Rattle.spec_run.specs.Texts.{account_as, executed_account, log_of_points, played_account}
-use Rattle.spec_run.specs.Promise.{end_as, account_held, HasRole, SpheresAreDescribed, RunsAreDescribed, RecordingsAreReproduced}
+use Rattle.spec_run.specs.Runs.{points_of, executed, played, end_of, played_end}
+use Rattle.spec_run.specs.Texts.{account_as, executed_account, log_of_points, played_account, recorded_account}
+use Rattle.spec_run.specs.Promise.{end_as, account_held, HasRecorded, HasRole, IsDescribed, RecordingsAreReproduced}
 
 -- ---- lists of events
 
@@ -46,7 +47,8 @@ last_next : (w : World) (es : List Event) → Finishes w es → next (world_afte
 last_next w [] f = f
 last_next w (e ∷ es) f = last_next (happens w e).world es f.1
 
-after_both : (w : World) (es fs : List Event) → world_after w (es ++ fs) ≡ world_after (world_after w es) fs
+-- the events of two lists are those of one
+pub after_both : (w : World) (es fs : List Event) → world_after w (es ++ fs) ≡ world_after (world_after w es) fs
 after_both w [] fs = refl
 after_both w (e ∷ es) fs = after_both (happens w e).world es fs
 
@@ -58,24 +60,29 @@ get_is (q ∷ ps) (suc i) p e = get_is ps i p e
 -- ---- what is known of the last world
 
 -- apart from its list of events: its spheres are the executed ones, of the kinds of the setup, and its devices are the executed ones
-record IsKnown (s : Setup) (w : World) : Type 0 where
-  executes : (i : ℕ) (p : Sphere)
+pub record IsKnown (s : Setup) (w : World) : Type 0 where
+  pub executes : (i : ℕ) (p : Sphere)
       → slice_get (shown_of w).spheres i ≡ Some p
       → replays p.role ≡ false
       → slice_get (serial s w.points).spheres i ≡ Some p
-  devices : w.devices ≡ (serial s w.points).devices
-  possible : CanDoAll (serial_start s) w.points
-  kinds : AreOfKinds s.spheres (shown_of w).spheres
-  sizes : length w.spheres ≡ length s.spheres
-  logs : (i : ℕ) (image : SphereSetup) (asked : RecordSetup)
+  pub devices : w.devices ≡ (serial s w.points).devices
+  pub possible : CanDoAll (serial_start s) w.points
+  pub kinds : AreOfKinds s.spheres (shown_of w).spheres
+  pub sizes : length w.spheres ≡ length s.spheres
+  pub plain : (i : ℕ) (image : SphereSetup) (p : Sphere)
+      → slice_get s.spheres i ≡ Some image
+      → image.role ≡ IsPlain
+      → slice_get (shown_of w).spheres i ≡ Some p
+      → p.role ≡ Plain
+  pub logs : (i : ℕ) (image : SphereSetup) (asked : RecordSetup)
       → WillRecord s i image asked
-      → (sphere_at w i).role ≡ Record (record { log = logged asked.version asked.mode s.numbers.s (supplied i (serial_start s) w.points) })
-  fresh : (i : ℕ) (image : SphereSetup) (asked : RecordSetup)
+      → (sphere_at w i).role ≡ Record (record { log = logged asked.version asked.mode s.numbers.s (supplied i (serial_start s) w.points); epochs = new_epochs asked.epochs })
+  pub fresh : (i : ℕ) (image : SphereSetup) (asked : RecordSetup)
       → WillRecord s i image asked
       → (recording : Recording)
       → (sphere_at w i).role ≡ Record recording
       → IsLogFresh recording.log (sphere_at w i)
-  plays_back : (i : ℕ) (image : SphereSetup) (asked : RecordSetup)
+  pub plays_back : (i : ℕ) (image : SphereSetup) (asked : RecordSetup)
       → WillRecord s i image asked
       → (p : Sphere) (recording : Recording)
       → slice_get (shown_of w).spheres i ≡ Some p
@@ -91,14 +98,19 @@ known-after s es is =
       possible = c.possible;
       kinds = kinds_after s es is;
       sizes = (sizes_kept s es is).spheres;
+      plain = λ i image p there role shown. plain-after s es i image p is there role shown;
       logs = logs_are s es;
       fresh = logs_are_fresh s es;
       plays_back = logs_play_back s es;
     }
 
 -- a finished run is a run after more events
-known : (s : Setup) (es : List Event) → IsSetup s → IsKnown s (finished s es)
+pub known : (s : Setup) (es : List Event) → IsSetup s → IsKnown s (finished s es)
 known s es is = subst (IsKnown s) (after_both (world_of s) es (finishing_of s es)) (known-after s (es ++ finishing_of s es) is)
+
+-- each point can be done as it says
+pub points-possible : (s : Setup) (es : List Event) → IsSetup s → CanDoAll (serial_start s) (points_of s es)
+points-possible s es is = (known s es is).possible
 
 ends : (s : Setup) (es : List Event) → CanFinish s → Ends s es (finishing_of s es)
 ends s es can = function_finishes s es (most_events s es) can (omega arith)
@@ -110,13 +122,14 @@ shown s es can =
     shown-itself w (next-stands w (last_next (after s es) (finishing_of s es) (ends s es can).finishes))
 
 -- the sphere that is there
-record IsThere (s : Setup) (es : List Event) (i : ℕ) (image : SphereSetup) (p : Sphere) : Type 0 where
-  there : slice_get (finished s es).spheres i ≡ Some p
-  shows : slice_get (shown_of (finished s es)).spheres i ≡ Some p
-  at : sphere_at (finished s es) i ≡ p
-  kind : replays p.role ≡ is_replayed image.role
+pub record IsThere (s : Setup) (es : List Event) (i : ℕ) (image : SphereSetup) (p : Sphere) : Type 0 where
+  pub there : slice_get (finished s es).spheres i ≡ Some p
+  pub shows : slice_get (shown_of (finished s es)).spheres i ≡ Some p
+  pub at : sphere_at (finished s es) i ≡ p
+  pub kind : replays p.role ≡ is_replayed image.role
 
-sphere-there : (s : Setup) (es : List Event) (i : ℕ) (image : SphereSetup) → CanFinish s → slice_get s.spheres i ≡ Some image → (p : Sphere) × IsThere s es i image p
+-- of sphere i
+pub sphere-there : (s : Setup) (es : List Event) (i : ℕ) (image : SphereSetup) → CanFinish s → slice_get s.spheres i ≡ Some image → (p : Sphere) × IsThere s es i image p
 sphere-there s es i image can is =
     let w : World = finished s es in
     let k = known s es can.setup in
@@ -133,7 +146,7 @@ sphere-there s es i image can is =
     )
 
 -- a plain or recorded one is executed
-executed-is : (s : Setup) (es : List Event) (i : ℕ) (image : SphereSetup) (p : Sphere) → CanFinish s → IsThere s es i image p → replays p.role ≡ false → sphere_in (executed s es) i ≡ p
+pub executed-is : (s : Setup) (es : List Event) (i : ℕ) (image : SphereSetup) (p : Sphere) → CanFinish s → IsThere s es i image p → replays p.role ≡ false → sphere_in (executed s es) i ≡ p
 executed-is s es i image p can t live = get_is (executed s es).spheres i p ((known s es can.setup).executes i p t.shows live)
 
 -- ---- accounts
@@ -225,19 +238,29 @@ replayed_described s es i image asked p t r =
 will_record : (s : Setup) (i : ℕ) (image : SphereSetup) (asked : RecordSetup) → CanFinish s → slice_get s.spheres i ≡ Some image → image.role ≡ IsRecorded asked → WillRecord s i image asked
 will_record s i image asked can is role = record { setup = can.setup; there = is; role = role }
 
-has_role : (s : Setup) (es : List Event) (i : ℕ) (image : SphereSetup) (p : Sphere) (role : RoleSetup) → CanFinish s → slice_get s.spheres i ≡ Some image → IsThere s es i image p → image.role ≡ role → HasRole s es i role (sphere_at (finished s es) i).role
-has_role s es i image p IsPlain can is t role =
-    ap (λ (q : Sphere). replays q.role) t.at ∙ t.kind ∙ ap is_replayed role
-has_role s es i image p (IsRecorded asked) can is t role =
-    (known s es can.setup).logs i image asked (will_record s i image asked can is role)
-has_role s es i image p (IsReplayed asked) can is t role =
+-- the epochs in which a sphere is recorded
+abbrev pub epochs_asked : RoleSetup → Option EpochSetup
+epochs_asked IsPlain = None
+epochs_asked (IsRecorded asked) = asked.epochs
+epochs_asked (IsReplayed asked) = None
+
+has_role : (s : Setup) (es : List Event) (i : ℕ) (image : SphereSetup) (p : Sphere) (role : RoleSetup) → CanFinish s → slice_get s.spheres i ≡ Some image → IsThere s es i image p → image.role ≡ role → epochs_asked role ≡ None → HasRole s es i role (sphere_at (finished s es) i)
+has_role s es i image p IsPlain can is t role none =
+    ap (λ (q : Sphere). q.role) t.at ∙ (known s es can.setup).plain i image p is role t.shows
+has_role s es i image p (IsRecorded asked) can is t role none =
+    let kept = (known s es can.setup).logs i image asked (will_record s i image asked can is role) in
+    let log = log_of_points s es i asked in
+    subst (λ (o : Option EpochSetup). HasRecorded s es i asked o (sphere_at (finished s es) i)) (sym none)
+    (kept ∙ ap (λ (o : Option EpochSetup). Record (record { log = log; epochs = new_epochs o })) none)
+has_role s es i image p (IsReplayed asked) can is t role none =
     let r = replayed-to s es i image asked p can is t role in
     (r.cursor, ap (λ (q : Sphere). q.role) t.at ∙ r.role)
 
-account_described : (s : Setup) (es : List Event) (i : ℕ) (image : SphereSetup) (p : Sphere) (role : RoleSetup) → CanFinish s → slice_get s.spheres i ≡ Some image → IsThere s es i image p → image.role ≡ role → account_held (sphere_at (finished s es) i) ≡ account_as image (sphere_in (executed s es) i) role
-account_described s es i image p IsPlain can is t role = live_described s es i image p can t (t.kind ∙ ap is_replayed role)
-account_described s es i image p (IsRecorded asked) can is t role = live_described s es i image p can t (t.kind ∙ ap is_replayed role)
-account_described s es i image p (IsReplayed asked) can is t role = replayed_described s es i image asked p t (replayed-to s es i image asked p can is t role)
+account_described : (s : Setup) (es : List Event) (i : ℕ) (image : SphereSetup) (p : Sphere) (role : RoleSetup) → CanFinish s → slice_get s.spheres i ≡ Some image → IsThere s es i image p → image.role ≡ role → epochs_asked role ≡ None → account_held (sphere_at (finished s es) i) ≡ account_as image (sphere_in (executed s es) i) role
+account_described s es i image p IsPlain can is t role none = live_described s es i image p can t (t.kind ∙ ap is_replayed role)
+account_described s es i image p (IsRecorded asked) can is t role none =
+    live_described s es i image p can t (t.kind ∙ ap is_replayed role) ∙ ap (recorded_account (sphere_in (executed s es) i)) (sym none)
+account_described s es i image p (IsReplayed asked) can is t role none = replayed_described s es i image asked p t (replayed-to s es i image asked p can is t role)
 
 same_cursor : (b c : Cursor) → Replay b ≡ Replay c → b ≡ c
 same_cursor b c e = cc
@@ -248,29 +271,21 @@ played_to s es i image p asked b can is t role replay =
     let same : b ≡ r.cursor = same_cursor b r.cursor (sym replay ∙ ap (λ (q : Sphere). q.role) t.at ∙ r.role) in
     ap (λ (c : Cursor). c.now) same ∙ r.played.now
 
--- each sphere of a finished machine has the role, the account and the commits that its texts tell
-pub spheres_described : SpheresAreDescribed
-spheres_described s es i image can is =
+-- each sphere of a finished machine that isn't recorded in epochs has the role, the account and the commits that its texts tell
+pub whole-described : (s : Setup) (es : List Event) (i : ℕ) (image : SphereSetup) → CanFinish s → slice_get s.spheres i ≡ Some image → epochs_asked image.role ≡ None → IsDescribed s es i image (sphere_at (finished s es) i)
+whole-described s es i image can is none =
     let p = sphere-there s es i image can is in
     let t = p.1 in
     record {
-      role = has_role s es i image p.0 image.role can is t refl;
-      account = account_described s es i image p.0 image.role can is t refl;
-      executed = λ live.
+      role = has_role s es i image p.0 image.role can is t refl none;
+      account = account_described s es i image p.0 image.role can is t refl none;
+      commits = λ live.
           let l : replays p.0.role ≡ false = ap (λ (q : Sphere). replays q.role) (sym t.at) ∙ live in
-          ap (λ (q : Sphere). q.progress) (t.at ∙ sym (executed-is s es i image p.0 can t l));
+          ap (λ (q : Sphere). position q.progress) (t.at ∙ sym (executed-is s es i image p.0 can t l));
       over = subst IsAtEnd (ap (λ (q : Sphere). q.role) (sym t.at)) ((ends s es can).finished.replays i p.0 t.there);
       played = λ asked b role replay. played_to s es i image p.0 asked b can is t role replay;
+      done = λ asked role. ap (λ (q : Sphere). q.progress) t.at ∙ (replayed-to s es i image asked p.0 can is t role).played.progress;
     }
-
--- ---- the run
-
--- a finished machine has as many spheres as were set up, and the devices that its executed points leave,
--- and those points are possible
-pub runs_described : RunsAreDescribed
-runs_described s es is =
-    let k = known s es is in
-    record { spheres = k.sizes; devices = k.devices; possible = k.possible }
 
 -- ---- what follows
 
@@ -288,11 +303,12 @@ recordings_reproduced s es i image asked can is role =
     let log : LogParts = log_of_points s es i asked in
     let k = known s es can.setup in
     let will = will_record s i image asked can is role in
-    let recorded : p.role ≡ Record (record { log = log }) = ap (λ (q : Sphere). q.role) (sym t.1.at) ∙ k.logs i image asked will in
-    let back = k.plays_back i image asked will p (record { log = log }) t.1.shows recorded in
+    let kept : Recording = record { log = log; epochs = new_epochs asked.epochs } in
+    let recorded : p.role ≡ Record kept = ap (λ (q : Sphere). q.role) (sym t.1.at) ∙ k.logs i image asked will in
+    let back = k.plays_back i image asked will p kept t.1.shows recorded in
     let live : replays p.role ≡ false = ap replays recorded in
     let x = executed-is s es i image p can t.1 live in
-    let fresh = k.fresh i image asked will (record { log = log }) (k.logs i image asked will) in
+    let fresh = k.fresh i image asked will kept (k.logs i image asked will) in
     let count : log.count ≡ position p.progress = fresh.count ∙ ap (λ (q : Sphere). position q.progress) t.1.at in
     record {
       fits = back.fit;

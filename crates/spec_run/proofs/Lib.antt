@@ -1,3 +1,6 @@
+pub mod Tails
+pub mod Shown
+pub mod AreTails
 pub mod Described
 pub mod Room
 pub mod Agreeing

@@ -1,3 +1,4 @@
 pub mod Runs
+pub mod Tails
 pub mod Texts
 pub mod Promise

@@ -1,6 +1,6 @@
 -- The texts of a run: the log and the account of each sphere, the console, the report and the summary. Every value in them
 -- comes from executing the points whole, one at a time, or from playing a log on its image.
-use Rattle.std.specs.Prelude.{ℕ, suc, List, [], ◌∷◌, length, Option, Some, None}
+use Rattle.std.specs.Prelude.{ℕ, suc, List, [], ◌∷◌, length, drop, Option, Some, None}
 use Rattle.dl_account.specs.Account.{account_of}
 use Rattle.dl_account.specs.Report.{report_of}
 use Rattle.dl_account.specs.Summary.{summary_of}
@@ -13,11 +13,13 @@ use Rattle.spec_play.specs.Progress.{position}
 use Rattle.spec_play.specs.Plays.{Played}
 use Rattle.spec_protocol.specs.declared.event.Event.{Event}
 use Rattle.spec_protocol.specs.machine.Spheres.{Sphere}
-use Rattle.spec_protocol.specs.machine.Machine.{RecordSetup, RoleSetup, IsPlain, IsRecorded, IsReplayed, SphereSetup, Setup}
+use Rattle.spec_protocol.specs.machine.Machine.{EpochSetup, RecordSetup, RoleSetup, IsPlain, IsRecorded, IsReplayed, SphereSetup, Setup}
 use Rattle.spec_protocol.specs.machine.Serial.{SerialState, serial_start}
 use Rattle.spec_protocol.specs.machine.Logged.{sphere_in, supplied, logged}
 use Rattle.spec_protocol.specs.promises.Sound.{image_at}
 use Rattle.spec_run.specs.Runs.{points_of, counts_of, executed, played, played_end}
+use Rattle.spec_run.specs.Tails.{base_in, tail_of_points}
+use Rattle.spec_tail.specs.Bytes.{tail_bytes}
 
 -- ---- logs
 
@@ -25,10 +27,15 @@ use Rattle.spec_run.specs.Runs.{points_of, counts_of, executed, played, played_e
 abbrev pub log_of_points : Setup → (schedule : List Event) → (i : ℕ) → RecordSetup → LogParts
 log_of_points s es i asked = logged asked.version asked.mode s.numbers.s (supplied i (serial_start s) (points_of s es))
 
--- a recorded sphere's log as bytes; no other sphere has one
+-- as bytes: the whole log, or its last part if the sphere is recorded in epochs
+abbrev pub recorded_bytes : Setup → (schedule : List Event) → (i : ℕ) → RecordSetup → Option EpochSetup → List ℕ
+recorded_bytes s es i asked None = log_bytes (log_of_points s es i asked)
+recorded_bytes s es i asked (Some x) = tail_bytes (tail_of_points s es i asked x)
+
+-- no other sphere has a log
 abbrev pub log_as : Setup → (schedule : List Event) → (i : ℕ) → RoleSetup → List ℕ
 log_as s es i IsPlain = []
-log_as s es i (IsRecorded asked) = log_bytes (log_of_points s es i asked)
+log_as s es i (IsRecorded asked) = recorded_bytes s es i asked asked.epochs
 log_as s es i (IsReplayed asked) = []
 
 unfoldable pub log_text : Setup → (schedule : List Event) → (i : ℕ) → List ℕ
@@ -41,6 +48,13 @@ abbrev pub executed_account : Sphere → List ℕ
 executed_account p =
     account_of p.progress.first p.progress.commits p.threads p.progress.request p.memory (End.Complete (position p.progress))
 
+-- of a sphere that was recorded: from its first commit on, or from its base on if it is recorded in epochs
+abbrev pub recorded_account : Sphere → Option EpochSetup → List ℕ
+recorded_account p None = executed_account p
+recorded_account p (Some x) =
+    let b = base_in p x in
+    account_of b (drop b p.progress.commits) p.threads p.progress.request p.memory (End.Complete (position p.progress))
+
 -- of a play that ended so
 abbrev pub played_account : Played → End → List ℕ
 played_account y how = account_of y.progress.first y.progress.commits y.threads y.progress.request y.memory how
@@ -48,7 +62,7 @@ played_account y how = account_of y.progress.first y.progress.commits y.threads 
 -- a replayed sphere's account is that of its log's play on its image, or a slice of it, and no more is told of it
 abbrev pub account_as : SphereSetup → (executed : Sphere) → RoleSetup → List ℕ
 account_as image p IsPlain = executed_account p
-account_as image p (IsRecorded asked) = executed_account p
+account_as image p (IsRecorded asked) = recorded_account p asked.epochs
 account_as image p (IsReplayed asked) = played_account (played asked image) (played_end asked image)
 
 unfoldable pub account_text : Setup → (schedule : List Event) → (i : ℕ) → List ℕ

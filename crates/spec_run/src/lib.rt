@@ -6,5 +6,6 @@ mod promise;
 
 pub use promise::{
     accounts_agree, intervals_are_slices, recordings_are_reproduced, runs_are_described,
-    schedules_leave_room, spheres_are_described, texts_are_of_points,
+    schedules_leave_room, spheres_are_described, tails_are_played, tails_are_tails,
+    texts_are_of_points,
 };

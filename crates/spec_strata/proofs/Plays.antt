@@ -6,3 +6,4 @@ pub mod Pieces
 pub mod LastParts
 pub mod Staying
 pub mod Turning
+pub mod Coming

@@ -1,4 +1,4 @@
--- The log that strata stand for: its order is that of the strata, and within one the threads rise.
+-- The log of some strata: its order is theirs, and within one the threads rise.
 use Rattle.std.specs.Prelude.{ℕ, suc, List, [], ◌∷◌, ◌++◌, map, replicate}
 use Rattle.std.specs.List.{flat_map}
 use Rattle.dl_entry.specs.declared.Actor.{Actor}

@@ -2,6 +2,7 @@ pub mod Footprints
 pub mod Shares
 pub mod Parallel
 pub mod Touches
+pub mod Coming
 pub mod InPlay
 pub mod Orders
 pub mod Pieces

@@ -2,15 +2,10 @@
 use Rattle.std.specs.Prelude.{◌≡◌, ◌≢◌, ℕ, Bool, true, false, nat_eq, List, Some, slice_get, if◌then◌else◌}
 use Rattle.spec_isa.specs.declared.thread.Parts.{Parts}
 use Rattle.spec_isa.specs.Words.{Stored, holds}
+use Rattle.spec_strata.specs.declared.touch.Touch.{Touch}
+use Rattle.spec_strata.specs.declared.touch.Touch.TheVariants.{Untouched, SeenBy, Shared, StoredBy}
 use Rattle.spec_strata.specs.Shares.{Rule, Share, StratumState, stratum_start, commit_more, next_run, next_seen}
 use Rattle.spec_strata.specs.Parallel.{clashes}
-
--- no thread has touched the word; one has looked at it, or several have; or one has stored to it
-pub data Touch : Type 0 where
-  Untouched : Touch
-  SeenBy : (thread : ℕ) → Touch
-  Shared : Touch
-  StoredBy : (thread : ℕ) → Touch
 
 -- whether it is another thread
 abbrev pub is_other : (thread other : ℕ) → Bool

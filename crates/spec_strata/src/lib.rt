@@ -6,7 +6,9 @@ mod draft;
 mod promise;
 mod strata;
 mod stratum;
+mod touch;
 
 pub use draft::StrataDraft;
 pub use strata::{Strata, StrataParts};
 pub use stratum::Stratum;
+pub use touch::Touch;

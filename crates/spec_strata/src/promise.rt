@@ -165,7 +165,7 @@ pub fn blocks_relog()
 
 // ---- strata
 
-/// The log that strata stand for is a log of version 2.
+/// The log that has the order of some strata is a log of version 2.
 pub fn canonical_is_log()
     ensures { CanonicalIsLog }
 {}

@@ -1,3 +1,12 @@
+pub mod Along
+pub mod Cutting
+mod CuttingExamples
+pub mod Later
+pub mod LaterLists
+pub mod LaterLog
+pub mod LaterRaised
+pub mod LaterThreads
 mod PlayingExamples
+pub mod PlayingOn
 mod ReadingExamples
 pub mod Whole

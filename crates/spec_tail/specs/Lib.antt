@@ -1,4 +1,6 @@
 pub mod Bytes
+pub mod Cutting
+pub mod Later
 pub mod Playing
 pub mod Promise
 pub mod Reading

@@ -260,7 +260,11 @@ fn is_recordable(s: u32, role: &Role) -> bool
 {
     match role {
         Role::Plain | Role::Replay(_) => true,
-        Role::Record { version, .. } => *version == 1 && (16..=4096).contains(&s),
+        Role::Record {
+            version,
+            epochs,
+            ..
+        } => *version == 1 && epochs.is_none() && (16..=4096).contains(&s),
     }
 }
 
@@ -309,7 +313,11 @@ fn role_of(alloc: Global, lived: Lived) -> Result<Role, Fail>
 {
     match lived {
         Lived::Plain => Ok(Role::Plain),
-        Lived::Recorded { mode, .. } => Ok(Role::Record { version: 1, mode }),
+        Lived::Recorded { mode, .. } => Ok(Role::Record {
+            version: 1,
+            mode,
+            epochs: None,
+        }),
         Lived::Replayed { log, .. } | Lived::Cut { log, .. } => Ok(Role::Replay(Replay {
             log: read_log(alloc, log)?,
             begun: None,

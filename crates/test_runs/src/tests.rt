@@ -15,6 +15,7 @@ mod narrow;
 mod pieces;
 mod queries;
 mod rows;
+mod tails;
 mod tools;
 mod versions;
 

@@ -6,5 +6,6 @@ mod modes;
 mod recording;
 mod replaying;
 mod spheres;
+mod tails;
 mod trails;
 mod walks;

@@ -1,10 +1,9 @@
 -- In a world that is ready, what is asked for can commit.
 use Rattle.std.proofs.Common.{◌≡◌, ℕ, zero, suc, ◌+◌, ◌^◌, ◌<◌, ◌≤◌, ◌&&◌, Bool, true, false, not, nat_eq, nat_lt, if◌then◌else◌, length, List, Option, Some, None, refl, sym, ap, ◌∙◌, subst, arith}
-use Rattle.std.specs.Prelude.{IfSome, option_map, slice_get}
+use Rattle.std.specs.Prelude.{option_map, slice_get}
 use Rattle.std.proofs.lemmas.Option.{none-some, same_Some}
 use Rattle.std.proofs.lemmas.Bool.{eqb-true, true≢false}
 use Rattle.dl_entry.specs.declared.Actor.{Actor}
-use Rattle.dl_entry.specs.declared.Request.{Request}
 use Rattle.spec_isa.specs.declared.thread.Parts.{Parts}
 use Rattle.spec_play.specs.Progress.{position}
 use Rattle.spec_play.specs.Turns.{TurnOrEnd, Turn, TurnOfDma, Ended}
@@ -17,26 +16,27 @@ use Rattle.spec_protocol.specs.machine.Asking.{asks_serial, is_short}
 use Rattle.spec_protocol.specs.machine.Commits.{is_piece}
 use Rattle.spec_protocol.specs.machine.World.{Occupant, World, sphere_at}
 use Rattle.spec_protocol.specs.promises.Invariants.{Closes, LimitFits}
-use Rattle.spec_protocol.specs.promises.Sound.{IsSoundIf, IsSoundRequest, IsSoundRole}
+use Rattle.spec_protocol.specs.promises.Sound.{IsSoundCursor}
 use Rattle.dl_sphere.specs.Moving.{CanCommit, IsPartIn, IsTurnOf, IsTurnOfDma}
 use Rattle.dl_machine.specs.declared.one_core.Held.{Held as Seen}
 use Rattle.dl_machine.specs.Cores.{seen}
 use Rattle.dl_machine.specs.Ready.{HasRoom, IsReady}
 use Rattle.dl_machine.specs.Requests.{closed_by}
 use Rattle.dl_machine.proofs.Commits.Granted.{chunk_of}
+use Rattle.dl_machine.proofs.Worlds.Ready.{sphere_sound}
 
 -- ---- commits
 
-few_in : (role : Role) (s n : ℕ) (ts : List Parts) → IsSoundRole s n ts role → is_stopped role ≡ false → (replays role ≡ false → n < 2 ^ 24) → n < 2 ^ 24
-few_in Plain s n ts sound going few = few refl
-few_in (Record recording) s n ts sound going few = few refl
-few_in (Replay b) s n ts sound going few = let l = sound.going going in let m = sound.log.count in omega arith
+few_in : (role : Role) (n : ℕ) (ts : List Parts) → ((b : Cursor) → role ≡ Replay b → IsSoundCursor n ts b) → is_stopped role ≡ false → (replays role ≡ false → n < 2 ^ 24) → n < 2 ^ 24
+few_in Plain n ts sound going few = few refl
+few_in (Record recording) n ts sound going few = few refl
+few_in (Replay b) n ts sound going few = let h = sound b refl in let l = h.going going in let m = h.log.count in omega arith
 
 -- a sphere that goes on has fewer commits than a log may have
 pub few_commits : (w : World) (i : ℕ) → IsReady w → HasRoom w → i < length w.spheres → is_stopped (sphere_at w i).role ≡ false → position (sphere_at w i).progress < 2 ^ 24
 few_commits w i ready room within going =
     let p = sphere_at w i in
-    few_in p.role _ (position p.progress) p.threads (ready.sound.spheres i within).role going (room.few i within)
+    few_in p.role (position p.progress) p.threads (sphere_sound w i ready within).replay going (room.few i within)
 
 -- ---- turns
 
@@ -117,12 +117,12 @@ some_in_all b capacity How.Serial ch closes some is whole =
 some_in_all b capacity How.Overflow ch closes some is whole = let r = closes.room is in omega arith
 some_in_all b capacity How.Cut ch closes some is whole = let c = closes.cut is in omega arith
 
-part_in : (role : Role) (z s n capacity : ℕ) (ts : List Parts) (k : ℕ) (how : How) (ch : Chunk) → IsSoundRole z n ts role → IsTurnOf k role → slice_get ts k ≡ Some ch.start → ch.done.thread.commits ≡ ch.start.commits
+part_in : (role : Role) (s n capacity : ℕ) (ts : List Parts) (k : ℕ) (how : How) (ch : Chunk) → ((b : Cursor) → role ≡ Replay b → IsSoundCursor n ts b) → IsTurnOf k role → slice_get ts k ≡ Some ch.start → ch.done.thread.commits ≡ ch.start.commits
     → LimitFits role (limit_of s role k ch.start) ch.limit → Closes capacity ch → 0 < capacity → ch.closed ≡ Some how → asks_serial ch role ≡ false → IsPartIn role k how ch
-part_in Plain z s n capacity ts k how ch sound turn there commits fits closes some closed whole = tt
-part_in (Record recording) z s n capacity ts k how ch sound turn there commits fits closes some closed whole = tt
-part_in (Replay b) z s n capacity ts k how ch sound turn there commits fits closes some closed whole =
-    let now = sound.turn k turn in
+part_in Plain s n capacity ts k how ch sound turn there commits fits closes some closed whole = tt
+part_in (Record recording) s n capacity ts k how ch sound turn there commits fits closes some closed whole = tt
+part_in (Replay b) s n capacity ts k how ch sound turn there commits fits closes some closed whole =
+    let now = (sound b refl).turn k turn in
     let same : now.thread ≡ ch.start = same_Some _ _ (sym now.there ∙ there) in
     let count : now.thread.commits ≡ ch.done.thread.commits = ap (λ (u : Parts). u.commits) same ∙ sym commits in
     record {
@@ -150,7 +150,7 @@ can_commit_held w c h how ready is closed going free whole =
           let s = standard_limit p.role w.numbers.s h.thread h.chunk.start live in
           omega arith;
       some = short_some w.numbers.s w.numbers.capacity how h.chunk g.chunk.closes ready.good.buffer closed;
-      part = part_in p.role _ w.numbers.s _ w.numbers.capacity p.threads h.thread how h.chunk (ready.sound.spheres h.chunk.sphere g.sphere).role (turn_of p h.thread going free) g.thread.start (ready.sound.held c h is).commits (g.thread.limit going) g.chunk.closes ready.good.buffer closed whole;
+      part = part_in p.role w.numbers.s _ w.numbers.capacity p.threads h.thread how h.chunk (sphere_sound w h.chunk.sphere ready g.sphere).replay (turn_of p h.thread going free) g.thread.start (ready.sound.held c h is).commits (g.thread.limit going) g.chunk.closes ready.good.buffer closed whole;
     }
 
 -- a closed chunk of a sphere that goes on can be committed, where it is nobody else's turn and no serial step is asked for
@@ -167,16 +167,3 @@ can_commit w c (Some h) held how ch ready is eh ew ec going free whole =
     subst (λ (d : Chunk). CanCommit w.numbers.s (sphere_at w held.sphere) held.thread how d) same
     (subst (λ (s : Seen). CanCommit w.numbers.s (sphere_at w s.sphere) s.thread how h.chunk) seen_
     (can_commit_held w c h how ready is (same_Some _ _ ew) at_h free_h whole_h))
-
--- ---- transfers
-
-sound_if : (n : ℕ) (o : Option Request) → IsSoundIf n o → IfSome o (IsSoundRequest n)
-sound_if n None sound = tt
-sound_if n (Some r) sound = sound
-
--- an outstanding request lies in its sphere's memory
-pub request_sound : (w : World) (i : ℕ) → IsReady w → i < length w.spheres → let p = sphere_at w i in IfSome p.progress.request (IsSoundRequest (length p.memory))
-request_sound w i ready within =
-    let p = sphere_at w i in
-    let s = ready.sound.spheres i within in
-    subst (λ (n : ℕ). IfSome p.progress.request (IsSoundRequest n)) (sym s.size) (sound_if _ p.progress.request s.request)

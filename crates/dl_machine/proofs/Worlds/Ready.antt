@@ -1,6 +1,15 @@
 -- In a world that is ready, what a core, a slot or a sphere holds is of the sizes that calls ask for.
-use Rattle.std.proofs.Common.{◌≡◌, ℕ, ◌<◌, length, Option, Some, None, refl, sym, ap, ◌∙◌, subst}
-use Rattle.std.specs.Prelude.{IfSome, option_map}
+use Rattle.std.proofs.Common.{◌≡◌, ℕ, ◌<◌, List, length, map, Option, Some, None, refl, sym, ap, ◌∙◌, subst}
+use Rattle.std.specs.Prelude.{IfSome, option_map, slice_get}
+use Rattle.std.proofs.lemmas.List.{length-map}
+use Rattle.spec_isa.specs.declared.thread.Parts.{Parts}
+use Rattle.spec_play.specs.Progress.{position}
+use Rattle.spec_protocol.specs.machine.Machine.{SphereSetup}
+use Rattle.spec_protocol.specs.machine.Spheres.{Cursor, Role, Replay, Sphere}
+use Rattle.spec_protocol.specs.promises.Alike.{epochs_in, role_without, forgotten}
+use Rattle.spec_protocol.specs.promises.Sound.{IsSoundCursor, IsSoundRole, IsSoundSphere, IsSoundThread, image_at}
+use Rattle.spec_protocol.proofs.Alike.Forgetting.{sphere-forgotten}
+use Rattle.spec_protocol.proofs.Alike.Sound.{position-without}
 use Rattle.std.proofs.lemmas.Option.{none-some, same_Some, slice_get_within}
 use Rattle.spec_engine.specs.Flights.{Flight, AreInside, AreOfSize, IsInside, IsOfSize, at}
 use Rattle.spec_engine.specs.Chunks.{Chunk}
@@ -10,6 +19,32 @@ use Rattle.dl_machine.specs.Cores.{seen, reads_in, writes_in}
 use Rattle.dl_machine.specs.declared.one_core.Held.{Held as Seen}
 use Rattle.dl_machine.specs.Held.{IsOf, sphere_of}
 use Rattle.dl_machine.specs.Ready.{IsReady}
+
+-- what is sound of a sphere, whatever its recording has given up: of a replay its cursor is
+pub record IsSoundHere (s : ℕ) (image : SphereSetup) (events : ℕ) (p : Sphere) : Type 0 where
+  pub size : length p.memory ≡ length image.memory
+  pub threads : (k : ℕ) (t : Parts) → slice_get p.threads k ≡ Some t → IsSoundThread (position p.progress) t
+  pub replay : (b : Cursor) → p.role ≡ Replay b → IsSoundCursor (position p.progress) p.threads b
+
+cursor_in : (s n : ℕ) (ts : List Parts) (r : Role) (b : Cursor) → r ≡ Replay b → IsSoundRole s n ts (role_without n r) → IsSoundCursor n ts b
+cursor_in s n ts r b is sound = subst (λ (x : Role). IsSoundRole s n ts (role_without n x)) is sound
+
+sound_here : (s : ℕ) (image : SphereSetup) (events : ℕ) (p : Sphere) → IsSoundSphere s image events (forgotten p) → IsSoundHere s image events p
+sound_here s image events p h =
+    let here = position-without (epochs_in p.role) p.progress in
+    record {
+      size = h.size;
+      threads = λ k t there. subst (λ (n : ℕ). IsSoundThread n t) here (h.threads k t there);
+      replay = λ b is. cursor_in s (position p.progress) p.threads p.role b is (subst (λ (n : ℕ). IsSoundRole s n p.threads (role_without (position p.progress) p.role)) here h.role);
+    }
+
+-- so it is of each sphere of a world that is ready
+pub sphere_sound : (w : World) (i : ℕ) (ready : IsReady w) → i < length w.spheres → IsSoundHere ready.setup.numbers.s (image_at ready.setup i) w.counts.events (sphere_at w i)
+sphere_sound w i ready inside =
+    let many : length (map forgotten w.spheres) ≡ length w.spheres = length-map w.spheres forgotten in
+    let z = ready.setup in
+    sound_here z.numbers.s (image_at z i) w.counts.events (sphere_at w i)
+    (subst (IsSoundSphere z.numbers.s (image_at z i) w.counts.events) (sphere-forgotten w i) (ready.sound.spheres i (subst (λ (n : ℕ). i < n) (sym many) inside)))
 
 seen_of : (w : World) (c : ℕ) (o : Option Occupant) → IsReady w → at w.cores c ≡ o → IfSome (option_map seen o) (IsOf w)
 seen_of w c None ready is = tt
@@ -54,7 +89,7 @@ pub flight_inside : (w : World) (k : ℕ) (o : Option Flight) → IsReady w → 
 flight_inside w k None ready is = tt
 flight_inside w k (Some f) ready is =
     let i = ready.good.flights k f is in
-    (i, subst (λ (n : ℕ). AreInside n f.words) (sym (ready.sound.spheres f.sphere i).size) (ready.sound.flights k f is).inside)
+    (i, subst (λ (n : ℕ). AreInside n f.words) (sym (sphere_sound w f.sphere ready i).size) (ready.sound.flights k f is).inside)
 
 -- the signatures in the slots have the world's size
 pub slots_size : (w : World) → IsReady w → AreOfSize w.numbers.bits w.slots

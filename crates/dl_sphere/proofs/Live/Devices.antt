@@ -5,11 +5,10 @@ use Rattle.std.specs.Option.{option_copied}
 use Rattle.dl_entry.specs.declared.Input.{Input}
 use Rattle.spec_isa.specs.declared.thread.Parts.{Parts}
 use Rattle.spec_isa.specs.Words.{IsBytes}
-use Rattle.spec_kernel.specs.Devices.{Devices}
+use Rattle.spec_kernel.specs.Devices.{Devices, HaveByteInput}
 use Rattle.spec_kernel.specs.Needs.{Need, need}
 use Rattle.spec_kernel.specs.Answers.{taken}
 use Rattle.spec_log.specs.Log.{IsInput}
-use Rattle.spec_protocol.specs.promises.Sound.{HaveByteInput}
 use Rattle.spec_protocol.specs.promises.Notable.{IsInputIf}
 use Rattle.spec_protocol.proofs.Sound.Devices.{taken-sound}
 use Rattle.dl_kernel.specs.Outside.{record_left, devices_left}

@@ -74,7 +74,7 @@ module _ (first : ℕ) (m : List ℕ) (u : Used) (ts : List Parts) (cs : List Co
       let g = taken (need t m) d moment in
       let v = serve (most_of (Recording r)) k ts q t m g.input in
       let c : Commit = serial_commit k v.loads v.outputs in
-      ap (λ l. moved_by first m ts cs k t g v (protocol.Record (record { log = l }))) (log_with r c false g.input ∙ ap (λ i. input_noted g.input (noted c i false (as_log r))) (h.done k ∙ ap commits_if start))
+      ap (λ l. moved_by first m ts cs k t g v (protocol.Record (record { log = l; epochs = r.epochs }))) (log_with r c false g.input ∙ ap (λ i. input_noted g.input (noted c i false (as_log r.recorded))) (h.done k ∙ ap commits_if start))
 
   -- a chunk of the sphere moves it as the definitions do
   pub chunk_is_moved : (s : ℕ) (x : Keeping) (q : Option Request) (k : ℕ) (t : Parts) (piece short : Bool) (r : Run)
@@ -85,9 +85,9 @@ module _ (first : ℕ) (m : List ℕ) (u : Used) (ts : List Parts) (cs : List Co
   chunk_is_moved s (Replaying p loads) q k t piece short r start same h = absurd h
   chunk_is_moved s (Recording p) q k t piece short r start same h =
       let c : Commit = chunk_commit k r in
-      ap (λ l. chunk_by first m ts cs k q r d (protocol.Record (record { log = l })))
-      (log_with p c short None ∙ ap (λ i. noted c i short (as_log p)) (h.done k ∙ ap commits_if start ∙ sym same))
-      ∙ chunk_same first m ts cs k q r d (protocol.Record (record { log = noted c r.thread.commits short (as_log p) }))
+      ap (λ l. chunk_by first m ts cs k q r d (protocol.Record (record { log = l; epochs = p.epochs })))
+      (log_with p c short None ∙ ap (λ i. noted c i short (as_log p.recorded)) (h.done k ∙ ap commits_if start ∙ sym same))
+      ∙ chunk_same first m ts cs k q r d (protocol.Record (record { log = noted c r.thread.commits short (as_log p.recorded); epochs = p.epochs }))
 
   -- without a request it has no DMA
   pub none_moved : (x : Keeping) → IsLive x → dma_moved d (sphere_with first m ts cs last None (role_of u x)) ≡ None

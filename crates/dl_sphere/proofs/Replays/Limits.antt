@@ -1,6 +1,6 @@
 -- A replay is as far as its sphere, and the limits of its chunks and its requests are within their bounds.
 use Rattle.std.proofs.Common.{◌≡◌, ℕ, Bool, true, false, ◌+◌, ◌^◌, ◌<◌, ◌≤◌, length, Option, Some, None, refl, sym, ap, ◌∙◌, subst, arith, set}
-use Rattle.std.specs.Prelude.{slice_get, IfSome}
+use Rattle.std.specs.Prelude.{slice_get}
 use Rattle.std.proofs.lemmas.Bool.{true≢false, eq-eqb}
 use Rattle.dl_entry.specs.declared.Request.{Request}
 use Rattle.spec_isa.specs.declared.thread.Parts.{Parts}
@@ -8,13 +8,13 @@ use Rattle.spec_log.specs.Log.{IsLog}
 use Rattle.spec_play.specs.Progress.{position}
 use Rattle.spec_play.specs.Turns.{Turn}
 use Rattle.spec_play.specs.declared.used.Used.{Used}
-use Rattle.spec_protocol.specs.promises.Sound.{IsSoundRequest, commits_in, commits_if}
+use Rattle.spec_protocol.specs.promises.Sound.{IsSoundIf, commits_in, commits_if}
 use Rattle.spec_protocol.specs.machine.Placing.{replays}
 use Rattle.spec_protocol.specs.machine.Spheres.{Cursor, Replay as IsReplay, Sphere, limit_in, pieces_of, whole_limit}
 use Rattle.spec_protocol.proofs.Sound.Commits.{set-all}
 use Rattle.spec_protocol.proofs.Sound.Limits.{whole-most}
 use Rattle.dl_kernel.specs.declared.past.Past.{Past}
-use Rattle.dl_kernel.specs.declared.state.State.{State}
+use Rattle.dl_kernel.specs.States.{PlayState as State}
 use Rattle.dl_replay.specs.Following.{Following}
 use Rattle.dl_replay.specs.Limits.{chunk_limit_in}
 use Rattle.dl_replay.specs.Replays.{IsReplaying}
@@ -35,7 +35,7 @@ replayed a r is h =
 
 -- and the other way round
 pub stands_replayed : (s : ℕ) (before after : Past) (x : Keeping) (r : Replayed) → IsSphere s before x → IsAt after r → IsSphere s after (Replays r.player r.loads.items)
-stands_replayed s before after x r h at = record { size = h.size; counted = at.counted; kept = at.replaying }
+stands_replayed s before after x r h at = record { size = h.size; counted = at.counted; request = at.replaying.request; kept = at.replaying }
 
 -- a piece of a commit leaves the number of its thread's commits
 pub moved_on : (r : Following) (s : State) (k : ℕ) (t u : Parts) → slice_get s.threads k ≡ Some t → u.commits ≡ t.commits → IsReplaying r s → IsReplaying r (record s { threads = set s.threads k u })
@@ -122,7 +122,7 @@ few_here a v is live few =
 -- ---- any sphere
 
 -- a request inside a memory is inside the largest
-pub sound-within : (size most : ℕ) (o : Option Request) → size ≤ most → IfSome o (IsSoundRequest size) → IfSome o (IsSoundRequest most)
+pub sound-within : (size most : ℕ) (o : Option Request) → size ≤ most → IsSoundIf size o → IsSoundIf most o
 sound-within size most None l h = tt
 sound-within size most (Some r) l h =
     let i = h.inside in

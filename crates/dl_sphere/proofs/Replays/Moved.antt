@@ -14,7 +14,7 @@ use Rattle.spec_play.specs.Verdicts.{LogVerdict, Goes, Fails}
 use Rattle.spec_protocol.specs.machine.Commits.{Diverged, Granted, MovedSphere, by_verdict, dma_by_verdict}
 use Rattle.spec_protocol.specs.machine.Spheres.{Replay, Role, Sphere}
 use Rattle.dl_kernel.specs.declared.past.Past.{Past}
-use Rattle.dl_kernel.specs.declared.state.State.{State}
+use Rattle.dl_kernel.specs.States.{PlayState as State}
 use Rattle.dl_replay.specs.Following.{Following, cursor_of}
 use Rattle.dl_replay.specs.Judged.{Judged, judged, dma_judged}
 use Rattle.dl_replay.specs.Replays.{Agrees}

@@ -4,7 +4,7 @@ use Rattle.spec_isa.specs.Words.{Stored}
 use Rattle.spec_isa.proofs.MemoryLaws.{length_lay}
 use Rattle.spec_engine.specs.Flights.{Flight, drain, drain_words}
 use Rattle.dl_kernel.specs.declared.past.Past.{Past}
-use Rattle.dl_replay.specs.Replays.{IsInside}
+use Rattle.spec_protocol.specs.promises.Sound.{IsSoundIf}
 use Rattle.dl_sphere.specs.Roles.{Keeping, Plain, Recording, Replaying, IsKeepingOf, IsSphere}
 
 words_length : (m : List ℕ) (f : Flight) (ws : List Stored) → length (drain_words m f ws).memory ≡ length m
@@ -25,25 +25,24 @@ kept-drained s past m (Recording r) same h =
       threads = h.threads;
       all = h.all;
       done = h.done;
-      stands =
-          record {
-            count = h.stands.count;
-            order = h.stands.order;
-            sizes = h.stands.sizes;
-            past = h.stands.past;
-            absent = h.stands.absent;
-            unmasked = h.stands.unmasked;
-            dmas = h.stands.dmas;
-          };
+      first = h.first;
+      count = h.count;
+      fresh = h.fresh;
     }
 kept-drained s past m (Replaying r loads) same h =
     record {
       is_log = h.is_log;
       bounded = record { commits = h.bounded.commits; threads = h.bounded.threads; interrupts = h.bounded.interrupts };
       left = h.left;
-      request = subst (λ n. IsInside n past.state.request) (sym same) h.request;
+      request = subst (λ n. IsSoundIf n past.state.request) (sym same) h.request;
     }
 
 -- a memory of the same length leaves the sphere standing
 pub drained_stands : (s : ℕ) (past : Past) (m : List ℕ) (x : Keeping) → length m ≡ length past.state.memory → IsSphere s past x → IsSphere s (record past { state = record past.state { memory = m } }) x
-drained_stands s past m x same h = record { size = h.size; counted = h.counted; kept = kept-drained s past m x same h.kept }
+drained_stands s past m x same h =
+    record {
+      size = h.size;
+      counted = h.counted;
+      request = subst (λ n. IsSoundIf n past.state.request) (sym same) h.request;
+      kept = kept-drained s past m x same h.kept;
+    }

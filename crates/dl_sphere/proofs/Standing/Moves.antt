@@ -9,24 +9,38 @@ use Rattle.dl_entry.specs.declared.Commit.{Commit}
 use Rattle.dl_entry.specs.declared.Input.{Input}
 use Rattle.spec_isa.specs.declared.thread.Parts.{Parts}
 use Rattle.spec_log.specs.Log.{IsActor}
-use Rattle.spec_log.specs.Noting.{index_of, done_with}
+use Rattle.spec_log.specs.Noting.{index_of, done_with, insert_interrupt}
 use Rattle.spec_log.specs.Versions.{new_threads}
 use Rattle.spec_kernel.specs.Interrupts.{is_live, has_handler, takes_interrupt, interrupted}
 use Rattle.spec_play.specs.Effects.{dma_commit}
-use Rattle.spec_play.specs.Progress.{position}
+use Rattle.spec_play.specs.Progress.{Progress, position}
 use Rattle.spec_play.specs.Recording.{noted, input_noted, dma_noted}
 use Rattle.spec_play.proofs.Keeping.{grows-alike}
 use Rattle.spec_log.specs.declared.LogParts.{LogParts}
 use Rattle.spec_protocol.specs.machine.Spheres.{Sphere, Record}
 use Rattle.spec_protocol.specs.machine.Commits.{role_raised}
 use Rattle.spec_protocol.proofs.Moves.Threads.{AreNew}
-use Rattle.spec_protocol.proofs.Logs.Growing.{commits_in, commits_if, commits-other, commits-same, ThreadCommit, HasCommitted, has_committed-stands}
+use Rattle.spec_protocol.specs.promises.Sound.{AreFresh}
+use Rattle.spec_protocol.proofs.Logs.Growing.{commits_in, commits_if, commits-other, commits-same}
+use Rattle.spec_protocol.proofs.Logs.Fresh.{fresh-commit, fresh-raise}
 use Rattle.spec_protocol.proofs.Logs.Lookups.{none-there}
-use Rattle.spec_protocol.proofs.Logs.Coming.{Transferred, transferred-stands, WasRaised, raised-stands}
-use Rattle.spec_play.specs.Noted.{Recorded, as_log, interrupt_kept}
-use Rattle.dl_sphere.specs.Recorded.{with_commit}
+use Rattle.spec_play.specs.Noted.{as_log}
+use Rattle.dl_record.specs.Epochs.{InEpochs, IsBegun}
+use Rattle.dl_sphere.specs.Recorded.{commits_of, with_commit}
 use Rattle.spec_play.specs.declared.used.Used.{Used}
 use Rattle.dl_sphere.specs.Roles.{Keeping, Plain, Recording, Replaying, role_of, most_of, HasFew, with_noted, with_raised, CanNote, CanRaise, HasRecorded, IsLiveOf}
+
+-- ---- what is noted
+
+-- a recorder has noted as many commits as its sphere has done
+pub commits_are : (s : ℕ) (p : Sphere) (r : InEpochs) → HasRecorded s p r → commits_of r ≡ position p.progress
+commits_are s p r h = λ i. sym h.first i + h.count i
+
+-- no epoch is due of what is kept, after so many commits
+abbrev pub IsReadyAt : (commits : ℕ) → Keeping → Type 0
+IsReadyAt n Plain = Unit {0}
+IsReadyAt n (Recording r) = IsBegun r.epochs n
+IsReadyAt n (Replaying r loads) = Unit {0}
 
 -- ---- the commit of a thread
 
@@ -37,26 +51,27 @@ pub record Commits (p q : Sphere) (k : ℕ) (t u : Parts) (spawned : List Parts)
   pub threads : q.threads ≡ set p.threads k u ++ spawned
   pub commits : u.commits ≡ t.commits + 1
   pub new : AreNew spawned
+  pub first : q.progress.first ≡ p.progress.first
   pub position_ : position q.progress ≡ suc (position p.progress)
   pub actor : c.actor ≡ Actor.Thread k
 
 -- what a recorder keeps with one commit more is the log with the commit and its input noted
-pub log_with : (r : Recorded) (c : Commit) (early : Bool) (o : Option Input) → as_log (with_commit c early o None r) ≡ input_noted o (noted c (index_of r.kept.done c.actor) early (as_log r))
+pub log_with : (r : InEpochs) (c : Commit) (early : Bool) (o : Option Input) → as_log (with_commit c early o None r).recorded ≡ input_noted o (noted c (index_of r.recorded.kept.done c.actor) early (as_log r.recorded))
 log_with r c early None = refl
 log_with r c early (Some i) = refl
 
 -- Thread k of the sphere p, which was t and is u, has committed c and spawned these threads, and the sphere is q.
 module _ (p q : Sphere) (k : ℕ) (t u : Parts) (spawned : List Parts) (c : Commit) (d : Commits p q k t u spawned c) where
   -- what a recorder keeps then is the log with the commit noted as the one that the thread did next
-  commits_noted : (s : ℕ) (r : Recorded) (early : Bool) (o : Option Input) → HasRecorded s p r → as_log (with_commit c early o None r) ≡ input_noted o (noted c t.commits early (as_log r))
+  commits_noted : (s : ℕ) (r : InEpochs) (early : Bool) (o : Option Input) → HasRecorded s p r → as_log (with_commit c early o None r).recorded ≡ input_noted o (noted c t.commits early (as_log r.recorded))
   commits_noted s r early o h =
-      let index : index_of r.kept.done c.actor ≡ t.commits = ap (index_of r.kept.done) d.actor ∙ h.done k ∙ ap commits_if d.start in
-      log_with r c early o ∙ ap (λ n. input_noted o (noted c n early (as_log r))) index
+      let index : index_of r.recorded.kept.done c.actor ≡ t.commits = ap (index_of r.recorded.kept.done) d.actor ∙ h.done k ∙ ap commits_if d.start in
+      log_with r c early o ∙ ap (λ n. input_noted o (noted c n early (as_log r.recorded))) index
 
   -- its counts are those of the threads
-  done-after : (s : ℕ) (r : Recorded) → HasRecorded s p r → (j : ℕ) → slice_index (done_with r.kept.done c.actor) j ≡ commits_in q.threads j
+  done-after : (s : ℕ) (r : InEpochs) → HasRecorded s p r → (j : ℕ) → slice_index (done_with r.recorded.kept.done c.actor) j ≡ commits_in q.threads j
   done-after s r h j =
-      let done = r.kept.done in
+      let done = r.recorded.kept.done in
       let within : k < length done = let n = h.all in let w = d.within in omega arith in
       let more : List ℕ = set done k (slice_index done k + 1) in
       let is : done_with done c.actor ≡ more = ap (done_with done) d.actor in
@@ -95,25 +110,16 @@ module _ (p q : Sphere) (k : ℕ) (t u : Parts) (spawned : List Parts) (c : Comm
   commits_stand s early o Plain allows h = few-after h
   commits_stand s early o (Replaying r loads) allows h = absurd h
   commits_stand s early o (Recording r) allows h =
-      let commit : ThreadCommit = record { thread = k; before = t; after = u; spawned = spawned; commit = c; short = early; input = o } in
-      let has : HasCommitted commit p q (as_log r) (as_log (with_commit c early o None r)) =
-      record {
-        start = d.start;
-        threads = d.threads;
-        commits = d.commits;
-        new = d.new;
-        position_ = d.position_;
-        actor = d.actor;
-        log_ = commits_noted s r early o h;
-      }
-      in
+      let done = r.recorded.kept.done in
       record {
         few = few-after h.few;
         s = h.s;
         threads = allows h.threads;
-        all = ap length (ap (done_with r.kept.done) d.actor) ∙ length-set r.kept.done k (slice_index r.kept.done k + 1) ∙ h.all;
+        all = ap length (ap (done_with done) d.actor) ∙ length-set done k (slice_index done k + 1) ∙ h.all;
         done = done-after s r h;
-        stands = has_committed-stands commit p q (as_log r) (as_log (with_commit c early o None r)) has h.stands;
+        first = d.first ∙ h.first;
+        count = let n = h.count in let f = d.first in let more = d.position_ in omega arith;
+        fresh = subst (λ ts. AreFresh ts r.recorded.interrupts) (sym d.threads) (fresh-commit p.threads spawned k t u r.recorded.interrupts d.start d.commits h.fresh);
       }
 
 -- ---- an interrupt
@@ -127,16 +133,16 @@ kept-raised : (p q : Sphere) (k value : ℕ) (t : Parts) (s : ℕ) (x : Keeping)
 kept-raised p q k value t s Plain start takes threads progress same h = few-same p q progress same h
 kept-raised p q k value t s (Replaying r loads) start takes threads progress same h = absurd h
 kept-raised p q k value t s (Recording r) start takes threads progress same h =
-    let was : WasRaised k value p q (as_log r) (as_log (interrupt_kept k t.commits value r)) t =
-    record { start = start; takes = takes; threads = threads; progress = progress; log_ = refl }
-    in
+    let is = r.recorded.interrupts in
     record {
       few = few-same p q progress same h.few;
       s = h.s;
       threads = let n : length q.threads ≡ length p.threads = ap length threads ∙ length-set p.threads k (interrupted value t) in let m = h.threads in omega arith;
       all = h.all;
       done = λ j. h.done j ∙ sym (same j);
-      stands = raised-stands k value p q (as_log r) (as_log (interrupt_kept k t.commits value r)) t was h.stands;
+      first = ap (λ (g : Progress). g.first) progress ∙ h.first;
+      count = h.count ∙ sym (ap (λ (g : Progress). length g.commits) progress);
+      fresh = subst (λ ts. AreFresh ts (insert_interrupt (record { thread = k; index = t.commits; value = value }) is)) (sym threads) (fresh-raise p.threads k value t is start h.fresh);
     }
 
 same-raised : (ts : List Parts) (k j value : ℕ) (t : Parts) → slice_get ts k ≡ Some t → commits_in (set ts k (interrupted value t)) j ≡ commits_in ts j
@@ -161,13 +167,17 @@ unmasked t takes =
     elim (t.mask) as (λ (m : Bool). not m ≡ true → m ≡ false) [ true ↦ λ no. absurd (true≢false (sym no)) | false ↦ λ _. refl ] last.1
 
 -- an interrupt that its thread takes is of a new moment
-pub can_raise : (p : Sphere) (k : ℕ) (t : Parts) (s : ℕ) (x : Keeping) → slice_get p.threads k ≡ Some t → takes_interrupt t ≡ true → IsLiveOf s p x → CanRaise k t.commits x
-can_raise p k t s Plain start takes h = tt
-can_raise p k t s (Replaying r loads) start takes h = tt
-can_raise p k t s (Recording r) start takes h =
+pub can_raise : (p : Sphere) (k : ℕ) (t : Parts) (s : ℕ) (x : Keeping) → slice_get p.threads k ≡ Some t → takes_interrupt t ≡ true → IsLiveOf s p x → IsReadyAt (position p.progress) x → CanRaise k t.commits x
+can_raise p k t s Plain start takes h ready = tt
+can_raise p k t s (Replaying r loads) start takes h ready = tt
+can_raise p k t s (Recording r) start takes h ready =
     let inside = slice_get_within p.threads k t start in
     let few = h.threads in
-    (omega arith, none-there r.interrupts k t.commits (h.stands.unmasked k t start (unmasked t takes)))
+    record {
+      thread = omega arith;
+      fresh = none-there r.recorded.interrupts k t.commits (h.fresh.unmasked k t start (unmasked t takes));
+      begun = subst (IsBegun r.epochs) (sym (commits_are s p r h)) ready;
+    }
 
 -- an interrupt leaves the role that the definitions give the sphere
 pub raised_role : (u : Used) (k i value : ℕ) (x : Keeping) → role_of u (with_raised k i value x) ≡ role_raised k i value (role_of u x)
@@ -186,47 +196,46 @@ threads_few most ts k u (Some spawned) after is room few =
 
 -- ---- a DMA
 
-dma_log_at : (r : Recorded) (bytes : List ℕ) (n : ℕ) → r.kept.count ≡ n → as_log (with_commit dma_commit false None (Some bytes) r) ≡ dma_noted n bytes (noted dma_commit n false (as_log r))
+dma_log_at : (r : InEpochs) (bytes : List ℕ) (n : ℕ) → commits_of r ≡ n → as_log (with_commit dma_commit false None (Some bytes) r).recorded ≡ dma_noted n bytes (noted dma_commit n false (as_log r.recorded))
 dma_log_at r bytes n is =
-    ap (λ (l : LogParts). dma_noted r.kept.count bytes l) ((grows-alike r).dma_commit n)
-    ∙ ap (λ m. dma_noted m bytes (noted dma_commit n false (as_log r))) is
+    ap (λ (l : LogParts). dma_noted (commits_of r) bytes l) ((grows-alike r.recorded).dma_commit n)
+    ∙ ap (λ m. dma_noted m bytes (noted dma_commit n false (as_log r.recorded))) is
 
 few-more : (p q : Sphere) → q.threads ≡ p.threads → position q.progress ≡ suc (position p.progress) → HasFew p → HasFew q
 few-more p q threads more h =
     record { few = λ j. let e : commits_in q.threads j ≡ commits_in p.threads j = ap (λ ts. commits_in ts j) threads in let f = h.few j in omega arith }
 
 -- what a sphere keeps stands by it after a DMA
-pub transferred_stand : (p q : Sphere) (s : ℕ) (bytes : List ℕ) (x : Keeping) → q.threads ≡ p.threads → position q.progress ≡ suc (position p.progress) → IsLiveOf s p x → IsLiveOf s q (with_noted dma_commit false None (Some bytes) x)
-transferred_stand p q s bytes Plain threads more h = few-more p q threads more h
-transferred_stand p q s bytes (Replaying r loads) threads more h = absurd h
-transferred_stand p q s bytes (Recording r) threads more h =
-    let count : r.kept.count ≡ position p.progress = h.stands.count in
-    let was : Transferred p q (as_log r) (as_log (with_commit dma_commit false None (Some bytes) r)) bytes =
-    record { threads = threads; position_ = more; log_ = dma_log_at r bytes (position p.progress) count }
-    in
+pub transferred_stand : (p q : Sphere) (s : ℕ) (bytes : List ℕ) (x : Keeping) → q.threads ≡ p.threads → q.progress.first ≡ p.progress.first → position q.progress ≡ suc (position p.progress) → IsLiveOf s p x → IsLiveOf s q (with_noted dma_commit false None (Some bytes) x)
+transferred_stand p q s bytes Plain threads first more h = few-more p q threads more h
+transferred_stand p q s bytes (Replaying r loads) threads first more h = absurd h
+transferred_stand p q s bytes (Recording r) threads first more h =
     record {
       few = few-more p q threads more h.few;
       s = h.s;
       threads = let n : length q.threads ≡ length p.threads = ap length threads in let m = h.threads in omega arith;
       all = h.all;
       done = λ j. h.done j ∙ sym (ap (λ ts. commits_in ts j) threads);
-      stands = transferred-stands p q (as_log r) (as_log (with_commit dma_commit false None (Some bytes) r)) bytes was h.stands;
+      first = first ∙ h.first;
+      count = let n = h.count in omega (arith, n, first, more);
+      fresh = subst (λ ts. AreFresh ts r.recorded.interrupts) (sym threads) h.fresh;
     }
 
 -- a DMA of a recorded sphere leaves its log with the commit and the bytes noted
-pub transferred_role : (u : Used) (p : Sphere) (s : ℕ) (bytes : List ℕ) (r : Recorded) → HasRecorded s p r → role_of u (with_noted dma_commit false None (Some bytes) (Recording r)) ≡ Record (record { log = dma_noted (position p.progress) bytes (noted dma_commit (position p.progress) false (as_log r)) })
-transferred_role u p s bytes r h = ap (λ l. Record (record { log = l })) (dma_log_at r bytes (position p.progress) h.stands.count)
+pub transferred_role : (u : Used) (p : Sphere) (s : ℕ) (bytes : List ℕ) (r : InEpochs) → HasRecorded s p r → role_of u (with_noted dma_commit false None (Some bytes) (Recording r)) ≡ Record (record { log = dma_noted (position p.progress) bytes (noted dma_commit (position p.progress) false (as_log r.recorded)); epochs = r.epochs })
+transferred_role u p s bytes r h = ap (λ l. Record (record { log = l; epochs = r.epochs })) (dma_log_at r bytes (position p.progress) (commits_are s p r h))
 
 -- ---- what can be noted
 
 -- a commit of one of the threads, no larger than a standard chunk, and over 0 if it is short
-pub can_note : (s : ℕ) (p : Sphere) (x : Keeping) (k : ℕ) (c : Commit) (short : Bool) → IsLiveOf s p x → k < length p.threads → c.actor ≡ Actor.Thread k → c.size ≤ s → (short ≡ true → 1 ≤ c.size) → position p.progress < 2 ^ 24 → CanNote c short x
-can_note s p Plain k c short h inside actor size over few = tt
-can_note s p (Replaying r loads) k c short h inside actor size over few = tt
-can_note s p (Recording r) k c short h inside actor size over few =
+pub can_note : (s : ℕ) (p : Sphere) (x : Keeping) (k : ℕ) (c : Commit) (short : Bool) → IsLiveOf s p x → k < length p.threads → c.actor ≡ Actor.Thread k → c.size ≤ s → (short ≡ true → 1 ≤ c.size) → position p.progress < 2 ^ 24 → IsReadyAt (position p.progress) x → CanNote c short x
+can_note s p Plain k c short h inside actor size over few ready = tt
+can_note s p (Replaying r loads) k c short h inside actor size over few ready = tt
+can_note s p (Recording r) k c short h inside actor size over few ready =
+    let all = commits_are s p r h in
+    let actor_ = subst (IsActor (new_threads r.recorded.version)) (sym actor) (omega (arith, inside, h.threads)) in
     record {
-      actor = subst (IsActor (new_threads r.version)) (sym actor) (omega (arith, inside, h.threads));
-      size = omega (arith, size, h.s);
-      over = over;
-      few = omega (arith, few, h.stands.count);
+      commit = record { actor = actor_; size = omega (arith, size, h.s); over = over; few = omega (arith, few, all) };
+      few = omega (arith, few, all);
+      begun = subst (IsBegun r.epochs) (sym all) ready;
     }

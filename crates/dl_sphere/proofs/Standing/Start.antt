@@ -5,7 +5,6 @@ use Rattle.std.proofs.lemmas.Bool.{cases_Bool, lt-leb}
 use Rattle.std.proofs.lemmas.Option.{none-some, same_Some}
 use Rattle.dl_entry.specs.declared.Commit.{Commit}
 use Rattle.dl_entry.specs.declared.End.{End}
-use Rattle.dl_entry.specs.declared.Request.{Request}
 use Rattle.dl_entry.specs.declared.Why.{Why}
 use Rattle.spec_isa.specs.Threads.{started}
 use Rattle.spec_log.specs.declared.LogParts.{LogParts}
@@ -20,24 +19,25 @@ use Rattle.spec_play.specs.States.{State, state_after, state_of, resumed}
 use Rattle.spec_play.specs.Turns.{TurnOrEnd, Ended}
 use Rattle.spec_play.proofs.Bounds.{after-bounded}
 use Rattle.spec_play.proofs.Resuming.{plays_resume}
-use Rattle.spec_protocol.specs.machine.Machine.{ReplaySetup, RoleSetup, IsPlain, IsRecorded, IsReplayed, SphereSetup, first_played, sphere_as}
+use Rattle.spec_protocol.specs.machine.Machine.{EpochSetup, ReplaySetup, RoleSetup, IsPlain, IsRecorded, IsReplayed, SphereSetup}
+use Rattle.spec_protocol.specs.machine.Machine.{first_played, first_threads, new_epochs, sphere_as}
 use Rattle.spec_protocol.specs.machine.Spheres as machine
 use Rattle.spec_protocol.specs.machine.Spheres.{Sphere}
 use Rattle.spec_protocol.specs.promises.Sound.{IsChunkSize, IsImage, IsRole, IsSoundIf}
-use Rattle.spec_protocol.proofs.PlayingBack.All.{start-stands}
+use Rattle.spec_protocol.proofs.Logs.Fresh.{fresh-none}
 use Rattle.spec_protocol.proofs.Logs.Growing.{commits_in}
 use Rattle.spec_protocol.proofs.Sound.Plays.{replay-sound}
 use Rattle.dl_kernel.specs.States.{state_in}
 use Rattle.dl_replay.specs.Following.{followed_from}
-use Rattle.dl_replay.specs.Replays.{IsInside}
 use Rattle.dl_sphere.specs.Setups.{HasCome, IsBegunAs, IsBegunIf, begun_as, diverged_in, interval_in, replay_setup, role_setup}
 use Rattle.dl_sphere.specs.declared.setup.Begun.{Begun}
 use Rattle.dl_sphere.specs.declared.setup.Replay.{Replay}
 use Rattle.dl_sphere.specs.declared.setup.Role.{Role}
-use Rattle.spec_play.specs.Noted.{as_log, nothing_recorded}
+use Rattle.dl_record.specs.Epochs.{base}
 use Rattle.dl_kernel.specs.declared.past.Past.{Past}
+use Rattle.dl_kernel.specs.States.{PlayState as At}
 use Rattle.dl_sphere.specs.Pasts.{sphere_at, sphere_with}
-use Rattle.dl_sphere.specs.Roles.{Keeping, Plain, Recording, Replaying, role_of, HasFew, HasRecorded, IsKeepingOf, IsSphere}
+use Rattle.dl_sphere.specs.Roles.{Keeping, Plain, Recording, Replaying, recording_of, role_of, HasFew, HasRecorded, IsKeepingOf, IsSphere}
 use Rattle.dl_sphere.specs.Starting.{IsReplayingIf, diverged_if, first_state, following_at, keeping_at, start_as}
 
 -- ---- a live sphere
@@ -80,17 +80,13 @@ pub start_bounded : (image : SphereSetup) (asked : ReplaySetup) (s : State) → 
 start_bounded image asked s is =
     subst (IsBounded asked.log) (sym (is ∙ begun_state image asked)) (after-bounded asked.log image.memory image.entry (before asked.interval))
 
-inside_if : (size : ℕ) (o : Option Request) → IsSoundIf size o → IsInside size o
-inside_if size None h = tt
-inside_if size (Some r) h = h.inside
-
--- and its request is inside its memory
-pub start_inside : (size : ℕ) (image : SphereSetup) (asked : ReplaySetup) (s : State) → IsImage size image → image.role ≡ IsReplayed asked → s ≡ state_of (first_played image asked) → IsInside (length s.memory) s.request
-start_inside size image asked s is role same =
+-- and its request is sound
+pub start_request : (size : ℕ) (image : SphereSetup) (asked : ReplaySetup) (s : State) → IsImage size image → image.role ≡ IsReplayed asked → s ≡ state_of (first_played image asked) → IsSoundIf (length s.memory) s.request
+start_request size image asked s is role same =
     let good : IsRole size (IsReplayed asked) = subst (IsRole size) role is.role in
     let sound = replay-sound size image asked is good.0 in
-    subst (λ (x : State). IsInside (length x.memory) x.request) (sym same)
-    (subst (λ (n : ℕ). IsInside n (first_played image asked).progress.request) (sym sound.size) (inside_if (length image.memory) (first_played image asked).progress.request sound.request))
+    subst (λ (x : State). IsSoundIf (length x.memory) x.request) (sym same)
+    (subst (λ (n : ℕ). IsSoundIf n (first_played image asked).progress.request) (sym sound.size) sound.request)
 
 -- ---- whose turn it is where a replay begins
 
@@ -170,7 +166,7 @@ first-start image log (Some b) is = absurd (none-some b (sym is))
 -- unless an interval is replayed, the sphere starts with its image
 pub starts_first : (image : SphereSetup) (role : Role) → begun_as role ≡ None → first_state image ≡ start_as image (role_setup role)
 starts_first image Role.Plain is = refl
-starts_first image (Role.Record version mode) is = refl
+starts_first image (Role.Record version mode epochs) is = refl
 starts_first image (Role.Replay r) is = first-start image r.log r.begun is
 
 begun-start : (image : SphereSetup) (log : LogParts) (o : Option Begun) (b : Begun) → o ≡ Some b → IsBegunIf image (record { log = log; interval = interval_in o }) o
@@ -185,13 +181,13 @@ unless-begun image asked (Some b) is = absurd (none-some b (sym is))
 -- and nothing is asked of where it begins
 pub unless_begun : (image : SphereSetup) (role : Role) → begun_as role ≡ None → IsBegunAs image role
 unless_begun image Role.Plain is = tt
-unless_begun image (Role.Record version mode) is = tt
+unless_begun image (Role.Record version mode epochs) is = tt
 unless_begun image (Role.Replay r) is = unless-begun image (replay_setup r) r.begun is
 
 -- else where the interval begins
 pub starts_begun : (image : SphereSetup) (role : Role) (b : Begun) → begun_as role ≡ Some b → IsBegunAs image role → state_in b.state ≡ start_as image (role_setup role)
 starts_begun image Role.Plain b is h = absurd (none-some b is)
-starts_begun image (Role.Record version mode) b is h = absurd (none-some b is)
+starts_begun image (Role.Record version mode epochs) b is h = absurd (none-some b is)
 starts_begun image (Role.Replay r) b is h = begun-start image r.log r.begun b is h
 
 -- ---- the whole sphere
@@ -199,8 +195,13 @@ starts_begun image (Role.Replay r) b is h = begun-start image r.log r.begun b is
 -- a state and what is kept at it stand together, except of a replay
 abbrev pub AloneOr : (s : ℕ) → State → List Commit → Keeping → Type 0
 AloneOr s st cs Plain = HasFew (sphere_with st.commits st.memory st.threads cs st.last st.request machine.Plain)
-AloneOr s st cs (Recording r) = HasRecorded s (sphere_with st.commits st.memory st.threads cs st.last st.request (machine.Record (record { log = as_log r }))) r
+AloneOr s st cs (Recording r) = HasRecorded s (sphere_with st.commits st.memory st.threads cs st.last st.request (machine.Record (recording_of r))) r
 AloneOr s st cs (Replaying r loads) = Unit {0}
+
+-- no epoch has begun
+first_base : (o : Option EpochSetup) → 0 ≡ base (new_epochs o)
+first_base None = refl
+first_base (Some asked) = refl
 
 start_alone : (s : ℕ) (image : SphereSetup) (role : RoleSetup) → AloneOr s (start_as image role) [] (keeping_at image s role)
 start_alone s image IsPlain = record { few = no-more image.entry }
@@ -211,7 +212,9 @@ start_alone s image (IsRecorded asked) =
       threads = one-thread asked.version;
       all = refl;
       done = none-done image.entry;
-      stands = start-stands s image (machine.Record (record { log = as_log (nothing_recorded asked.version asked.mode s) })) asked.version asked.mode;
+      first = first_base asked.epochs;
+      count = refl;
+      fresh = fresh-none (first_threads image);
     }
 start_alone s image (IsReplayed asked) = tt
 
@@ -219,8 +222,17 @@ kept-from : (s : ℕ) (past : Past) (x : Keeping) → past.state.commits ≡ pas
 kept-from s past Plain first h at =
     subst (λ (n : ℕ). HasFew (sphere_with n past.state.memory past.state.threads past.commits.items past.state.last past.state.request machine.Plain)) first h
 kept-from s past (Recording r) first h at =
-    subst (λ (n : ℕ). HasRecorded s (sphere_with n past.state.memory past.state.threads past.commits.items past.state.last past.state.request (machine.Record (record { log = as_log r }))) r) first h
+    subst (λ (n : ℕ). HasRecorded s (sphere_with n past.state.memory past.state.threads past.commits.items past.state.last past.state.request (machine.Record (recording_of r))) r) first h
 kept-from s past (Replaying r loads) first h at = at
+
+first_asks : (s : ℕ) (image : SphereSetup) (role : RoleSetup) (st : At) → state_in st ≡ start_as image role → IsReplayingIf (keeping_at image s role) st → IsSoundIf (length st.memory) st.request
+first_asks s image IsPlain st is at = subst (λ (x : State). IsSoundIf (length x.memory) x.request) (sym is) tt
+first_asks s image (IsRecorded asked) st is at = subst (λ (x : State). IsSoundIf (length x.memory) x.request) (sym is) tt
+first_asks s image (IsReplayed asked) st is at = at.request
+
+-- no request is outstanding at the start, or in a replay a sound one
+request-from : (s : ℕ) (image : SphereSetup) (st : At) (x : Keeping) → state_in st ≡ start_as image image.role → x ≡ keeping_at image s image.role → IsReplayingIf x st → IsSoundIf (length st.memory) st.request
+request-from s image st x is kept at = first_asks s image image.role st is (subst (λ (y : Keeping). IsReplayingIf y st) kept at)
 
 -- a sphere's past and what it keeps are at the start of its setup
 pub record Starts (s : ℕ) (image : SphereSetup) (past : Past) (x : Keeping) : Type 0 where
@@ -240,7 +252,12 @@ start_standing s image past x size h =
     in
     let none : length past.commits.items ≡ 0 = ap length h.commits in
     let first = h.first in
-    record { size = size; counted = omega (arith, none, first); kept = kept-from s past x h.first here h.at }
+    record {
+      size = size;
+      counted = omega (arith, none, first);
+      request = request-from s image past.state x h.state h.kept h.at;
+      kept = kept-from s past x h.first here h.at;
+    }
 
 abbrev seen_at : State → (first : ℕ) → List Commit → Keeping → Sphere
 seen_at st first cs x = sphere_with first st.memory st.threads cs st.last st.request (role_of st.used x)

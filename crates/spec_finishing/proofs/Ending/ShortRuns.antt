@@ -7,7 +7,7 @@ use Rattle.dl_entry.specs.declared.Input.{Input}
 use Rattle.dl_entry.specs.declared.Request.{Request}
 use Rattle.spec_isa.specs.declared.thread.Parts.{Parts}
 use Rattle.spec_isa.specs.Words.{Stored, lay, lays, IsBytes}
-use Rattle.spec_kernel.specs.Devices.{Devices}
+use Rattle.spec_kernel.specs.Devices.{Devices, HaveByteInput}
 use Rattle.spec_kernel.specs.Needs.{Need, need}
 use Rattle.spec_kernel.specs.Answers.{Taken, taken, dma_bytes}
 use Rattle.spec_play.specs.declared.interval.Interval.{Interval}
@@ -27,7 +27,7 @@ use Rattle.spec_protocol.specs.machine.Moves.{ChunkFits, FitsChunk, FitsWhat, Fi
 use Rattle.spec_protocol.specs.promises.Invariants.{current}
 use Rattle.spec_protocol.specs.promises.Promises.{after}
 use Rattle.spec_protocol.specs.promises.Notable.{IsInputIf}
-use Rattle.spec_protocol.specs.promises.Sound.{IsRole, IsImage, IsWithinLimits, HaveBytes, IsSoundRequest, IsSoundIf, IsSoundRole, image_at, HaveByteInput, IsSound}
+use Rattle.spec_protocol.specs.promises.Sound.{IsRole, IsImage, IsWithinLimits, HaveBytes, IsSoundRequest, IsSoundIf, IsSoundRole, image_at, IsSound}
 use Rattle.spec_protocol.proofs.Invariants.Schedules.{happens-preserved, start-shown}
 use Rattle.spec_protocol.proofs.Invariants.Asks.{shown_at, shown_over}
 use Rattle.spec_protocol.proofs.Moves.AnyMemory.{over}

@@ -13,35 +13,35 @@ use Rattle.spec_run.specs.Runs.{has_diverged}
 use Rattle.spec_program.specs.declared.status.Status.{Status}
 use Rattle.spec_program.specs.commands.Walk.{end}
 use Rattle.spec_program.specs.Ends.{TookAll}
-use Rattle.spec_program.specs.Operands.{IsPairAt, PairRead, pair_at}
+use Rattle.spec_program.specs.Operands.{IsPlaybackAt, PlaybackRead, playback_at}
 use Rattle.spec_program.specs.Outcomes.{Finish, said}
 use Rattle.spec_program.specs.Stages.{Refused, ◌>>◌}
 
 -- the stores of the play of the log on the image
-abbrev pub stores : PairRead → List Store
+abbrev pub stores : PlaybackRead → List Store
 stores read = stores_in read.log read.image.bytes read.image.entry read.log.count
 
 -- what is answered about the word at that address
-abbrev pub answer : Question → (addr : ℕ) → PairRead → List ℕ
-answer Question.Watch addr pair = lines_text (watch (stores pair) addr)
-answer (Question.Who before) addr pair = last_text (who (stores pair) addr before)
-answer (Question.When value) addr pair =
-    when_text (when_changed (stores pair) (read pair.image.bytes (addr / 4)) addr value)
+abbrev pub answer : Question → (addr : ℕ) → PlaybackRead → List ℕ
+answer Question.Watch addr playback = lines_text (watch (stores playback) addr)
+answer (Question.Who before) addr playback = last_text (who (stores playback) addr before)
+answer (Question.When value) addr playback =
+    when_text (when_changed (stores playback) (read playback.image.bytes (addr / 4)) addr value)
 
 -- the answer, and how the play diverges, if it does
-abbrev pub text : QueryValues → PairRead → List ℕ
-text query pair = answer query.question query.address pair ++ end_text (end pair)
+abbrev pub text : QueryValues → PlaybackRead → List ℕ
+text query playback = answer query.question query.address playback ++ end_text (end playback)
 
-abbrev pub finish : QueryValues → PairRead → Finish
-finish query pair = said (text query pair) (has_diverged (end pair))
+abbrev pub finish : QueryValues → PlaybackRead → Finish
+finish query playback = said (text query playback) (has_diverged (end playback))
 
 abbrev pub outcome : Contents → QueryValues → Result Finish Refused
-outcome m query = pair_at m query.pair >> λ pair. Ok (finish query pair)
+outcome m query = playback_at m query.playback >> λ playback. Ok (finish query playback)
 
 -- the sink took the answer of that log on that image, and the status says whether the play diverges
 pub record IsAnswered (query : QueryValues) (m : Contents) (known : Option Contents) (old new : Option (List ℕ)) (s : Status) : Type 0 where
-  pub pair : PairRead
-  pub pair_read : IsPairAt query.pair m pair
-  pub output : TookAll (text query pair) old new
+  pub playback : PlaybackRead
+  pub playback_read : IsPlaybackAt query.playback m playback
+  pub output : TookAll (text query playback) old new
   pub files : known ≡ Some m
-  pub status : s ≡ (if has_diverged (end pair) then Status.Diverged else Status.Done)
+  pub status : s ≡ (if has_diverged (end playback) then Status.Diverged else Status.Done)

@@ -1,6 +1,6 @@
 -- What becomes of two chunks of a core, event by event: in a replay each has the limit of its own commit, and both are
 -- abandoned by an interrupt that is raised, by one that the log has after the older's commit, and by a place.
-use Rattle.std.proofs.Common.{◌≡◌, ℕ, List, [], ◌∷◌, refl}
+use Rattle.std.proofs.Common.{◌≡◌, ℕ, List, [], ◌∷◌, None, refl}
 use Rattle.dl_entry.specs.declared.Actor.{Actor}
 use Rattle.spec_isa.specs.Instruction.{serial_of, loads_of, next_of, load_of, store_of, one}
 use Rattle.spec_isa.specs.Words.{lay, read, merged}
@@ -44,7 +44,7 @@ replayed count order sizes interrupts =
     IsReplayed (all_of (record (new_log 1 ModeName.OrderSize 100) { count = count; order = order; sizes = Sizes.Each sizes; interrupts = interrupts }))
 
 abbrev recorded : RoleSetup
-recorded = IsRecorded (record { version = 1; mode = ModeName.OrderSize })
+recorded = IsRecorded (record { version = 1; mode = ModeName.OrderSize; epochs = None })
 
 -- four instructions, and then the call that ends the thread
 abbrev goes_on : List ℕ

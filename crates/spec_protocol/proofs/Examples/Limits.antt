@@ -1,5 +1,5 @@
 -- The limits can be met: by a setup with a sphere of each role.
-use Rattle.std.proofs.Common.{◌≡◌, ℕ, zero, suc, inl, inr, [], ◌∷◌, length, replicate, Some, refl, subst, arith}
+use Rattle.std.proofs.Common.{◌≡◌, ℕ, zero, suc, inl, inr, [], ◌∷◌, length, replicate, None, Some, refl, subst, arith}
 use Rattle.std.specs.Prelude.{slice_get, slice_index}
 use Rattle.std.proofs.lemmas.Option.{none-some}
 use Rattle.std.proofs.lemmas.List.{length-replicate}
@@ -20,7 +20,7 @@ least =
       numbers = record { s = 16; capacity = 1; bits = 64; depth = 1 };
       seed = 0;
       input = [];
-      spheres = with_role IsPlain ∷ with_role (IsRecorded (record { version = 2; mode = ModeName.Picolog })) ∷ with_role (IsReplayed (all_of (new_log 1 ModeName.OrderSize 16))) ∷ [];
+      spheres = with_role IsPlain ∷ with_role (IsRecorded (record { version = 2; mode = ModeName.Picolog; epochs = None })) ∷ with_role (IsReplayed (all_of (new_log 1 ModeName.OrderSize 16))) ∷ [];
     }
 
 zeros : (n i : ℕ) → slice_index (replicate n 0) i ≡ 0
@@ -61,7 +61,7 @@ image role is =
 image_is : (i : ℕ) (x : SphereSetup) → slice_get least.spheres i ≡ Some x → IsImage 16 x
 image_is zero x e = subst (IsImage 16) (let q : with_role IsPlain ≡ x = cc in q) (image IsPlain tt)
 image_is (suc zero) x e =
-    subst (IsImage 16) (let q : with_role (IsRecorded (record { version = 2; mode = ModeName.Picolog })) ≡ x = cc in q) (image (IsRecorded (record { version = 2; mode = ModeName.Picolog })) (inr (refl, inr refl), (omega arith, omega arith)))
+    subst (IsImage 16) (let q : with_role (IsRecorded (record { version = 2; mode = ModeName.Picolog; epochs = None })) ≡ x = cc in q) (image (IsRecorded (record { version = 2; mode = ModeName.Picolog; epochs = None })) (inr (refl, inr refl), (omega arith, omega arith), tt))
 image_is (suc (suc zero)) x e =
     let r = IsReplayed (all_of (new_log 1 ModeName.OrderSize 16)) in
     subst (IsImage 16) (let q : with_role r ≡ x = cc in q) (image r (empty_log, tt))

@@ -1,5 +1,5 @@
 -- Recordings of small programs, event by event: what each answers, and the bytes of the log in the end.
-use Rattle.std.proofs.Common.{◌≡◌, false, List, [], ◌∷◌, refl}
+use Rattle.std.proofs.Common.{◌≡◌, false, List, [], ◌∷◌, None, refl}
 use Rattle.dl_entry.specs.declared.Actor.{Actor}
 use Rattle.dl_entry.specs.declared.CommitKind.{CommitKind}
 use Rattle.dl_entry.specs.declared.Point.{Point}
@@ -41,7 +41,7 @@ use Rattle.spec_protocol.proofs.Examples.Scenes.{alone, replies, log_in}
 -- two instructions, and then the call that ends the thread
 abbrev exits : Setup
 exits =
-    alone 1 (IsRecorded (record { version = 1; mode = ModeName.OrderSize })) 16
+    alone 1 (IsRecorded (record { version = 1; mode = ModeName.OrderSize; epochs = None })) 16
     (0x00000893 ∷ 0x00700513 ∷ 0x00000073 ∷ [])
 
 abbrev exits_events : List Event
@@ -51,7 +51,7 @@ exits_events =
 -- the same in order-only
 abbrev exits_unsized : Setup
 exits_unsized =
-    alone 1 (IsRecorded (record { version = 1; mode = ModeName.OrderOnly })) 16
+    alone 1 (IsRecorded (record { version = 1; mode = ModeName.OrderOnly; epochs = None })) 16
     (0x00000893 ∷ 0x00700513 ∷ 0x00000073 ∷ [])
 
 abbrev exits_unsized_events : List Event
@@ -61,7 +61,7 @@ exits_unsized_events =
 -- the same in picolog
 abbrev exits_in_turn : Setup
 exits_in_turn =
-    alone 1 (IsRecorded (record { version = 1; mode = ModeName.Picolog })) 16
+    alone 1 (IsRecorded (record { version = 1; mode = ModeName.Picolog; epochs = None })) 16
     (0x00000893 ∷ 0x00700513 ∷ 0x00000073 ∷ [])
 
 abbrev exits_in_turn_events : List Event
@@ -71,7 +71,7 @@ exits_in_turn_events =
 -- a handler takes one interrupt, and not the next while it runs
 abbrev is_interrupted : Setup
 is_interrupted =
-    alone 1 (IsRecorded (record { version = 1; mode = ModeName.OrderSize })) 32
+    alone 1 (IsRecorded (record { version = 1; mode = ModeName.OrderSize; epochs = None })) 32
     (0x00600893 ∷ 0x01400513 ∷ 0x00000073 ∷ 0x0000006F ∷ 0x00000013
     ∷ 0x0000006F ∷ [])
 
@@ -83,7 +83,7 @@ is_interrupted_events =
 -- answers that change nothing, and a chunk that is cut off
 abbrev refuses : Setup
 refuses =
-    alone 1 (IsRecorded (record { version = 1; mode = ModeName.OrderSize })) 16
+    alone 1 (IsRecorded (record { version = 1; mode = ModeName.OrderSize; epochs = None })) 16
     (0x00000893 ∷ 0x00700513 ∷ 0x00000073 ∷ [])
 
 abbrev refuses_events : List Event
@@ -95,7 +95,7 @@ refuses_events =
 -- a jump to a place that is no multiple of 4
 abbrev faults : Setup
 faults =
-    alone 1 (IsRecorded (record { version = 1; mode = ModeName.OrderSize })) 16
+    alone 1 (IsRecorded (record { version = 1; mode = ModeName.OrderSize; epochs = None })) 16
     (0x00600293 ∷ 0x000280E7 ∷ [])
 
 abbrev faults_events : List Event
@@ -105,7 +105,7 @@ faults_events =
 -- the moment, a byte of input, a byte for the console, and a load that is no device's
 abbrev reads_devices : Setup
 reads_devices =
-    record (alone 1 (IsRecorded (record { version = 1; mode = ModeName.OrderSize })) 32
+    record (alone 1 (IsRecorded (record { version = 1; mode = ModeName.OrderSize; epochs = None })) 32
     (0xF00002B7 ∷ 0x0002A303 ∷ 0x0042A383 ∷ 0x0072A423 ∷ 0x00028403 ∷ [])) { input = 0x41 ∷ [] }
 
 abbrev reads_devices_events : List Event

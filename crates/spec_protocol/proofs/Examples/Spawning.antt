@@ -43,7 +43,7 @@ abbrev threads_after : Role → ℕ
 threads_after role = length (serial_moved 0 0 asks (devices_of [] 0) (full role)).sphere.threads
 
 abbrev recorded_in : (version : ℕ) → Role
-recorded_in version = Record (record { log = new_log version ModeName.OrderOnly 100 })
+recorded_in version = Record (record { log = new_log version ModeName.OrderOnly 100; epochs = None })
 
 -- a log of the call alone
 abbrev call_log : (version : ℕ) → LogParts

@@ -42,7 +42,7 @@ use Rattle.spec_protocol.proofs.Examples.Scenes.{alone, deep, replies, log_in}
 -- two instructions, and then the call that ends the thread; the chunk is cut off after the first
 abbrev exits : (depth : ℕ) → Setup
 exits n =
-    deep n (alone 1 (IsRecorded (record { version = 1; mode = ModeName.OrderSize })) 16
+    deep n (alone 1 (IsRecorded (record { version = 1; mode = ModeName.OrderSize; epochs = None })) 16
     (0x00000893 ∷ 0x00700513 ∷ 0x00000073 ∷ []))
 
 abbrev exits_events : List Event
@@ -59,7 +59,7 @@ abbrev loads_back_events : List Event
 loads_back_events = Event.Step 0 ∷ Event.Step 0 ∷ Event.Cut 0 ∷ Event.Step 0 ∷ []
 
 abbrev recorded : RoleSetup
-recorded = IsRecorded (record { version = 1; mode = ModeName.OrderOnly })
+recorded = IsRecorded (record { version = 1; mode = ModeName.OrderOnly; epochs = None })
 
 -- led by a log of one commit of thread 0, which is larger than what is cut off
 abbrev replayed : RoleSetup

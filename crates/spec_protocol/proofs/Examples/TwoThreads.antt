@@ -1,7 +1,7 @@
 -- Two threads in turn, with a DMA: the log that the points tell, and its play. A request stands until its DMA, which moves no
 -- turn: behind thread 0's commit and the DMA it is thread 1's. The spawned thread has its turn; short chunks of both stand
 -- thread by thread; and a reservation ends with its commit, so that the store behind it fails.
-use Rattle.std.proofs.Common.{◌≡◌, ℕ, true, false, List, [], ◌∷◌, map, Option, Some, refl}
+use Rattle.std.proofs.Common.{◌≡◌, ℕ, true, false, List, [], ◌∷◌, map, Option, None, Some, refl}
 use Rattle.std.specs.Prelude.{slice_get}
 use Rattle.dl_entry.specs.declared.Actor.{Actor}
 use Rattle.dl_entry.specs.declared.CommitKind.{CommitKind}
@@ -36,7 +36,7 @@ code =
     ∷ 0x00200293 ∷ 0x00300293 ∷ []
 
 abbrev two_threads : ModeName → Setup
-two_threads mode = record (alone 2 (IsRecorded (record { version = 1; mode = mode })) 60 code) { input = 0x41 ∷ 0x42 ∷ 0x43 ∷ [] }
+two_threads mode = record (alone 2 (IsRecorded (record { version = 1; mode = mode; epochs = None })) 60 code) { input = 0x41 ∷ 0x42 ∷ 0x43 ∷ [] }
 
 abbrev points : List Point
 points =

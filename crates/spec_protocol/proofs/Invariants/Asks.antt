@@ -12,7 +12,7 @@ use Rattle.spec_kernel.specs.Needs.{next_kind}
 use Rattle.spec_engine.specs.declared.answers.How.{How}
 use Rattle.spec_engine.specs.Signatures.{hits, nothing, signed}
 use Rattle.spec_engine.specs.Flights.{Flight, at, first_slot, is_full, meets_chunk, is_of_sphere}
-use Rattle.spec_engine.specs.Chunks.{Chunk, is_serial, is_empty_serial}
+use Rattle.spec_engine.specs.Chunks.{Chunk, is_serial, is_empty_serial, may_follow}
 use Rattle.spec_engine.specs.Laws.{CoversWords}
 use Rattle.spec_engine.proofs.Searches.{first_none}
 use Rattle.spec_protocol.specs.machine.Spheres.{other_than, takes_turns, turn_against, Role, Plain, Record, Replay, Sphere, is_stopped, recording_turn, head_in, is_in_pieces}
@@ -33,7 +33,6 @@ use Rattle.spec_protocol.proofs.Invariants.Granting.{Grants, granted-preserved, 
 use Rattle.spec_protocol.specs.promises.Currency.{seen_by, Meets, IsCurrent, AllLack}
 use Rattle.spec_protocol.specs.promises.Invariants.{current, IsGoodHeld, IsGood, IsGoodOver}
 use Rattle.spec_protocol.specs.machine.Placing.{replays}
-use Rattle.spec_protocol.specs.machine.Stepping.{may_follow}
 use Rattle.spec_protocol.proofs.Invariants.Held.{fits-stays}
 
 -- ---- what is shown of the sphere that asks

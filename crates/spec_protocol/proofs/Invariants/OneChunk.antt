@@ -2,11 +2,11 @@
 use Rattle.std.proofs.Common.{◌≡◌, ℕ, ◌≤◌, ◌&&◌, Option, Some, None, refl, ap, ◌∙◌, arith}
 use Rattle.std.specs.Prelude.{nat_lt}
 use Rattle.std.proofs.lemmas.Bool.{and_parts, ltb-true}
-use Rattle.spec_engine.specs.Chunks.{Chunk}
+use Rattle.spec_engine.specs.Chunks.{Chunk, may_follow}
 use Rattle.spec_protocol.specs.machine.Spheres.{Role}
 use Rattle.spec_protocol.specs.machine.Placing.{replays}
 use Rattle.spec_protocol.specs.machine.World.{Numbers, Occupant, World, sphere_at}
-use Rattle.spec_protocol.specs.machine.Stepping.{may_follow, younger_afresh, younger_for}
+use Rattle.spec_protocol.specs.machine.Stepping.{younger_afresh, younger_for}
 use Rattle.spec_protocol.specs.promises.Invariants.{IsGoodHeld}
 use Rattle.spec_protocol.specs.promises.OneChunk.{CoresHaveOneChunk}
 use Rattle.spec_protocol.specs.promises.Promises.{after}

@@ -143,11 +143,13 @@ with_fits : (z : Numbers) (x : SerialState) (o : Option Move) (ms : List Move) �
 with_fits z x None ms fits all = all
 with_fits z x (Some m) ms fits all = (fits, all)
 
-record Serial (w : World) (es : List Event) : Type 0 where
-  same : shown_of (world_after w es) ≡ do_moves w.numbers (shown_of w) (moves w es)
-  possible : FitAll w.numbers (shown_of w) (moves w es)
+-- what a world shows after these events is what their moves, done whole, give
+pub record Serial (w : World) (es : List Event) : Type 0 where
+  pub same : shown_of (world_after w es) ≡ do_moves w.numbers (shown_of w) (moves w es)
+  pub possible : FitAll w.numbers (shown_of w) (moves w es)
 
-moves_serial : (w : World) (es : List Event) → IsGood w → Serial w es
+-- so it is of a good world
+pub moves_serial : (w : World) (es : List Event) → IsGood w → Serial w es
 moves_serial w [] good = record { same = refl; possible = tt }
 moves_serial w (e ∷ es) good =
     let a = happens w e in

@@ -88,7 +88,7 @@ are-below thread index k n (y ∷ ys) a none =
 -- ---- thread by thread
 
 -- so many threads from k on
-abbrev threads_from : (k n : ℕ) → List ℕ
+abbrev pub threads_from : (k n : ℕ) → List ℕ
 threads_from k zero = []
 threads_from k (suc n) = k ∷ threads_from (suc k) n
 
@@ -128,7 +128,8 @@ placed-behind thread index f g most x l top are other own = placed_from thread i
 
 -- ---- a thread's own among those of all
 
-find_parts : {X : Type 0} (test : X → Bool) (xs ys : List X) → find test (xs ++ ys) ≡ None → (find test xs ≡ None) × (find test ys ≡ None)
+-- what is in neither of two lists together is in neither
+pub find_parts : {X : Type 0} (test : X → Bool) (xs ys : List X) → find test (xs ++ ys) ≡ None → (find test xs ≡ None) × (find test ys ≡ None)
 find_parts test [] ys e = (refl, e)
 find_parts {X} test (x ∷ xs) ys e =
     let p = found_first test x (xs ++ ys) e in

@@ -168,10 +168,12 @@ grown_least k ts us t j g =
 
 -- ---- what stands, stands
 
-one_more : (k : ℕ) (as_ : List Actor) → count_of k (as_ ++ Actor.Thread k ∷ []) ≡ suc (count_of k as_)
+-- a thread that commits is named once more
+pub one_more : (k : ℕ) (as_ : List Actor) → count_of k (as_ ++ Actor.Thread k ∷ []) ≡ suc (count_of k as_)
 one_more k as_ = count-append k as_ (Actor.Thread k ∷ []) ∙ ap (λ (b : Bool). count_of k as_ + cond b 1 0) (eq-eqb k k refl) ∙ omega arith
 
-none_more : (k j : ℕ) (as_ : List Actor) → j ≢ k → count_of j (as_ ++ Actor.Thread k ∷ []) ≡ count_of j as_
+-- and no other
+pub none_more : (k j : ℕ) (as_ : List Actor) → j ≢ k → count_of j (as_ ++ Actor.Thread k ∷ []) ≡ count_of j as_
 none_more k j as_ ne = count-append j as_ (Actor.Thread k ∷ []) ∙ ap (λ (b : Bool). count_of j as_ + cond b 1 0) (ne_eqb k j (λ e. ne (sym e))) ∙ omega arith
 
 -- a list has one more element with x behind it
@@ -184,6 +186,14 @@ counts-stand k order ts us t g each j =
     elim (cases_eq j k) [
       | inl e ↦ subst (λ (n : ℕ). count_of n (order ++ Actor.Thread k ∷ []) ≡ commits_in us n) (sym e) (one_more k order ∙ ap suc (each k ∙ g.was) ∙ sym g.same)
       | inr ne ↦ none_more k j order ne ∙ each j ∙ sym (g.other j ne)
+    ]
+
+-- so it is of what comes after others, of which thread j had done `done j`
+pub counts-grow : (done : ℕ → ℕ) (k : ℕ) (order : List Actor) (ts us : List Parts) (t : Parts) → Grows k ts us t → ((j : ℕ) → done j + count_of j order ≡ commits_in ts j) → (j : ℕ) → done j + count_of j (order ++ Actor.Thread k ∷ []) ≡ commits_in us j
+counts-grow done k order ts us t g each j =
+    elim (cases_eq j k) [
+      | inl e ↦ subst (λ (n : ℕ). done n + count_of n (order ++ Actor.Thread k ∷ []) ≡ commits_in us n) (sym e) (let a = one_more k order in let b = each k in let c = g.was in let d = g.same in omega arith)
+      | inr ne ↦ (let a = none_more k j order ne in let b = each j in let c = g.other j ne in omega arith)
     ]
 
 order_stands : (mode : ModeName) (k : ℕ) (order : List Actor) (n : ℕ) (ts us : List Parts) (t : Parts) → Grows k ts us t → OrderStands mode order n ts → OrderStands mode (order_with mode order (Actor.Thread k)) (suc n) us

@@ -41,12 +41,13 @@ use Rattle.spec_protocol.proofs.Invariants.Schedules.{start-sphere, moves_are}
 
 -- ---- the recorded sphere after a move
 
-record Comes (x : SerialState) (i : ℕ) (p : Sphere) (plog : LogParts) : Type 0 where
-  sphere : Sphere
-  recording : Recording
-  there : slice_get x.spheres i ≡ Some sphere
-  role : sphere.role ≡ Record recording
-  grown : Grown p sphere plog recording.log
+-- sphere i has come from p, and its log from this
+pub record Comes (x : SerialState) (i : ℕ) (p : Sphere) (plog : LogParts) : Type 0 where
+  pub sphere : Sphere
+  pub recording : Recording
+  pub there : slice_get x.spheres i ≡ Some sphere
+  pub role : sphere.role ≡ Record recording
+  pub grown : Grown p sphere plog recording.log
 
 moved_comes : (x : SerialState) (i : ℕ) (p : Sphere) (log : LogParts) (q : Recording) (v : MovedSphere) → slice_get x.spheres i ≡ Some p → (laid v).role ≡ Record q → Grown p (laid v) log q.log → Comes (do_moved x i v) i p log
 moved_comes x i p log q v is role grown = record { sphere = laid v; recording = q; there = get-set_same x.spheres i (laid v) p is; role = role; grown = grown }
@@ -116,7 +117,8 @@ move_comes z x m i p recording buffer s is role fits =
       | inr ne ↦ record { sphere = p; recording = recording; there = at-away z x m i (slice_get x.spheres m.sphere) ne ∙ is; role = role; grown = grown_refl p recording.log }
     ]
 
-moves_come : (z : Numbers) (x : SerialState) (ms : List Move) (i : ℕ) (p : Sphere) (recording : Recording) → 0 < z.capacity → recording.log.s ≡ z.s → slice_get x.spheres i ≡ Some p → p.role ≡ Record recording → FitAll z x ms → Comes (do_moves z x ms) i p recording.log
+-- moves that can be done let it come
+pub moves_come : (z : Numbers) (x : SerialState) (ms : List Move) (i : ℕ) (p : Sphere) (recording : Recording) → 0 < z.capacity → recording.log.s ≡ z.s → slice_get x.spheres i ≡ Some p → p.role ≡ Record recording → FitAll z x ms → Comes (do_moves z x ms) i p recording.log
 moves_come z x [] i p recording buffer s is role fits = record { sphere = p; recording = recording; there = is; role = role; grown = grown_refl p recording.log }
 moves_come z x (m ∷ ms) i p recording buffer s is role fits =
     let a = move_comes z x m i p recording buffer s is role fits.0 in
@@ -159,7 +161,8 @@ start_none L s image role version mode a zero t e = elim (a.next zero t e) [
 ]
 start_none L s image role version mode a (suc j) t e = absurd (none-some t e)
 
-start_reaches : (L : LogParts) (s : ℕ) (image : SphereSetup) (role : Role) (version : ℕ) (mode : ModeName) → Ahead L (live_sphere image role) (new_log version mode s) → Reaches L (first_played image (all_of L)) (live_sphere image role) (new_log version mode s)
+-- a play reaches the start
+pub start_reaches : (L : LogParts) (s : ℕ) (image : SphereSetup) (role : Role) (version : ℕ) (mode : ModeName) → Ahead L (live_sphere image role) (new_log version mode s) → Reaches L (first_played image (all_of L)) (live_sphere image role) (new_log version mode s)
 start_reaches L s image role version mode a =
     record {
       memory = refl;

@@ -97,7 +97,8 @@ pub record Agrees (x y : SerialState) : Type 0 where
   pub live : (i : ℕ) (p : Sphere) → slice_get x.spheres i ≡ Some p → replays p.role ≡ false → slice_get y.spheres i ≡ Some p
   pub replayed : (i : ℕ) (p : Sphere) → slice_get x.spheres i ≡ Some p → replays p.role ≡ true → (q : Sphere) × (slice_get y.spheres i ≡ Some q) × (replays q.role ≡ true)
 
-agrees_itself : (x : SerialState) → Agrees x x
+-- a state agrees with itself
+pub agrees_itself : (x : SerialState) → Agrees x x
 agrees_itself x = record { devices = refl; live = λ i p e r. e; replayed = λ i p e r. (p, e, r) }
 
 -- both sides have the same plain or recorded sphere at i now
@@ -339,17 +340,19 @@ live_can z x y moment i p (OfRaise k value) a xi live buffer fits =
 
 -- ---- one event
 
-abbrev do_if_point : SerialState → Option Point → SerialState
+-- the point is done, if there is one
+abbrev pub do_if_point : SerialState → Option Point → SerialState
 do_if_point y None = y
 do_if_point y (Some pt) = do_point y pt
 
-abbrev CanIf : SerialState → Option Point → Type 0
+abbrev pub CanIf : SerialState → Option Point → Type 0
 CanIf y None = Unit {0}
 CanIf y (Some pt) = CanDo y pt
 
-record Follows (x y : SerialState) (z : Numbers) (move : Option Move) (point : Option Point) : Type 0 where
-  agrees : Agrees (do_if z x move) (do_if_point y point)
-  can : CanIf y point
+-- the move of the one side is the point of the other, which can be done
+pub record Follows (x y : SerialState) (z : Numbers) (move : Option Move) (point : Option Point) : Type 0 where
+  pub agrees : Agrees (do_if z x move) (do_if_point y point)
+  pub can : CanIf y point
 
 fits_at : (z : Numbers) (devices : Devices) (m : Move) (o : Option Sphere) → FitsAt z devices m o → (p : Sphere) × (o ≡ Some p) × FitsWhat z devices p m.what
 fits_at z devices m None f = absurd f
@@ -395,7 +398,8 @@ shown_role w i p e =
 point_is : (w : World) (m : Move) (o : Option Point) (b : Bool) → PointIs w (Some m) o → replays (sphere_at w m.sphere).role ≡ b → PointOf w.numbers b m o
 point_is w m o b is e = subst (λ (c : Bool). PointOf w.numbers c m o) e is
 
-event_follows : (w : World) (y : SerialState) (move : Option Move) (point : Option Point) → Agrees (shown_of w) y → 0 < w.numbers.capacity → FitsIf w.numbers (shown_of w) move → PointIs w move point → Follows (shown_of w) y w.numbers move point
+-- what an event shows is its point, done whole
+pub event_follows : (w : World) (y : SerialState) (move : Option Move) (point : Option Point) → Agrees (shown_of w) y → 0 < w.numbers.capacity → FitsIf w.numbers (shown_of w) move → PointIs w move point → Follows (shown_of w) y w.numbers move point
 event_follows w y None point a buffer fits is = subst (Follows (shown_of w) y w.numbers None) (sym is) (record { agrees = a; can = tt })
 event_follows w y (Some m) point a buffer fits is =
     let f = fits_at w.numbers w.devices m (slice_get (shown_of w).spheres m.sphere) fits in

@@ -18,11 +18,11 @@ use Rattle.spec_protocol.proofs.Invariants.Cores.{branch}
 
 -- ---- rising moments
 
-abbrev Before : Interrupt → Interrupt → Type 0
+abbrev pub Before : Interrupt → Interrupt → Type 0
 Before x y = ComesBefore x.thread x.index y.thread y.index
 
 -- x comes before each of these
-abbrev Later : Interrupt → List Interrupt → Type 0
+abbrev pub Later : Interrupt → List Interrupt → Type 0
 Later x [] = Unit {0}
 Later x (y ∷ ys) = Before x y × Later x ys
 

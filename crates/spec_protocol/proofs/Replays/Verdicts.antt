@@ -8,7 +8,7 @@ use Rattle.dl_entry.specs.declared.End.{End}
 use Rattle.dl_entry.specs.declared.Why.{Why}
 use Rattle.spec_isa.specs.declared.thread.Parts.{Parts}
 use Rattle.spec_log.specs.declared.LogParts.{LogParts}
-use Rattle.spec_kernel.specs.Devices.{Devices}
+use Rattle.spec_kernel.specs.Devices.{Devices, HaveByteInput}
 use Rattle.spec_kernel.specs.Interrupts.{takes_interrupt, interrupted}
 use Rattle.spec_play.specs.Effects.{Effect}
 use Rattle.spec_play.specs.Progress.{position, with_effect, with_interrupt}
@@ -19,7 +19,7 @@ use Rattle.spec_play.specs.Verdicts.{LogVerdict, Goes, Fails, unless, interrupt_
 use Rattle.spec_protocol.specs.machine.Spheres.{Cursor, Role, Replay, Sphere, is_over, actor_of, most_in}
 use Rattle.spec_protocol.specs.machine.Commits.{diverged, by_verdict}
 use Rattle.spec_protocol.specs.machine.Machine.{SphereSetup}
-use Rattle.spec_protocol.specs.promises.Sound.{IsDoneInOrder, due, IsSoundCursor, IsSoundRole, IsSoundSphere, HaveByteInput}
+use Rattle.spec_protocol.specs.promises.Sound.{IsDoneInOrder, due, IsSoundCursor, IsSoundRole, IsSoundSphere}
 use Rattle.spec_protocol.proofs.Invariants.Cores.{branch}
 use Rattle.spec_protocol.proofs.Sound.Words.{sound-none}
 use Rattle.spec_protocol.proofs.Replays.Order.{done-commit}

@@ -9,7 +9,7 @@ use Rattle.spec_isa.specs.declared.thread.Parts.{Parts}
 use Rattle.spec_isa.specs.Runs.{Run}
 use Rattle.spec_isa.specs.Threads.{IsThread}
 use Rattle.spec_log.specs.declared.LogParts.{LogParts}
-use Rattle.spec_kernel.specs.Devices.{Devices}
+use Rattle.spec_kernel.specs.Devices.{Devices, HaveByteInput}
 use Rattle.spec_kernel.specs.Needs.{need}
 use Rattle.spec_kernel.specs.Interrupts.{interrupted}
 use Rattle.spec_kernel.specs.Serving.{serve}
@@ -20,7 +20,7 @@ use Rattle.spec_play.specs.Recording.{noted}
 use Rattle.spec_protocol.specs.machine.Spheres.{Role, Sphere, most_in}
 use Rattle.spec_protocol.specs.machine.Commits.{MovedSphere, granted_as}
 use Rattle.spec_protocol.specs.machine.Machine.{SphereSetup}
-use Rattle.spec_protocol.specs.promises.Sound.{AreSoundWords, IsSoundIf, IsSoundLog, IsSoundRole, IsSoundThread, IsSoundSphere, HaveByteInput}
+use Rattle.spec_protocol.specs.promises.Sound.{AreSoundWords, IsSoundIf, IsSoundLog, IsSoundRole, IsSoundThread, IsSoundSphere}
 use Rattle.spec_protocol.proofs.Moves.Threads.{AreNew, serve-keeps}
 use Rattle.spec_protocol.proofs.Logs.Growing.{get_cases}
 use Rattle.spec_protocol.proofs.Moves.Spawning.{serve-few}

@@ -4,6 +4,7 @@ use Rattle.std.specs.Prelude.{nat_le, nat_lt, replicate, All, Contains}
 use Rattle.std.proofs.Math.ListN.{length-set}
 use Rattle.std.proofs.lemmas.Bool.{cases_eq, cases_lt}
 use Rattle.std.proofs.lemmas.List.{get_or_past, length-take}
+use Rattle.std.proofs.lemmas.List.Elements.{All-append, All-drop, All-from_get_or, All-take}
 use Rattle.dl_entry.specs.declared.Request.{Request}
 use Rattle.rand_pcg.specs.Lcg.{Lcg}
 use Rattle.rand_pcg.specs.Pcg.{pcg32}
@@ -12,50 +13,37 @@ use Rattle.spec_isa.specs.declared.thread.Kind.{Kind}
 use Rattle.spec_isa.specs.declared.operation.Operation.{Operation}
 use Rattle.spec_isa.specs.Words.{IsBytes}
 use Rattle.spec_log.specs.Log.{IsInput, AreFewBytes, input_kinds}
-use Rattle.spec_kernel.specs.Devices.{Devices, devices_of, input_taken, console_put, pipe_at, with_pipe, pipe_fitting, pipe_put, pipe_first, pipe_taken, random_bytes}
+use Rattle.spec_kernel.specs.Devices.{Devices, devices_of, input_taken, console_put, pipe_at, with_pipe, pipe_fitting, pipe_put, pipe_first, pipe_taken, random_bytes, AreBytes, HaveByteInput}
 use Rattle.spec_kernel.specs.Needs.{Need, Write, Read, Random, Clock, MomentWord, InputWord, a0, a1, a2, cut, number_of, if_inside, need_of_write, need_of_read, need_of_random, need_of_call, need_of_load, need_of, next_kind, next_operation, need}
 use Rattle.spec_kernel.specs.Answers.{went, write_answer, answer_write, read_answer, answer_read, answer_random, first_byte, Answered, answer, Taken, taken, dma_bytes, dma_taken, refused, nothing_now}
 use Rattle.spec_kernel.specs.Serving.{store_written, console_written}
 use Rattle.dl_entry.specs.declared.Output.{Output}
 use Rattle.spec_protocol.specs.promises.Notable.{IsInputIf}
-use Rattle.spec_protocol.specs.promises.Sound.{AreBytes, HaveByteInput}
 use Rattle.spec_protocol.proofs.Invariants.Cores.{branch}
 use Rattle.spec_protocol.proofs.Sound.Threads.{Brings, BringsIf}
 
 -- ---- bytes
 
 pub take-bytes : (n : ℕ) (bs : List ℕ) → AreBytes bs → AreBytes (take n bs)
-take-bytes zero bs h = tt
-take-bytes (suc n) [] h = tt
-take-bytes (suc n) (b ∷ bs) h = (h.0, take-bytes n bs h.1)
+take-bytes n bs h = All-take (λ byte. byte < 2 ^ 8) n bs h
 
 pub drop-bytes : (n : ℕ) (bs : List ℕ) → AreBytes bs → AreBytes (drop n bs)
-drop-bytes zero bs h = h
-drop-bytes (suc n) [] h = tt
-drop-bytes (suc n) (b ∷ bs) h = drop-bytes n bs h.1
+drop-bytes n bs h = All-drop (λ byte. byte < 2 ^ 8) n bs h
 
 append-bytes : (bs cs : List ℕ) → AreBytes bs → AreBytes cs → AreBytes (bs ++ cs)
-append-bytes [] cs h k = k
-append-bytes (b ∷ bs) cs h k = (h.0, append-bytes bs cs h.1 k)
+append-bytes bs cs h k = All-append (λ byte. byte < 2 ^ 8) bs cs h k
 
-pub all-bytes : (bs : List ℕ) → AreBytes bs → All (λ byte. byte < 256) bs
-all-bytes [] h k d l = absurd (omega arith)
-all-bytes (b ∷ bs) h zero d l = h.0
-all-bytes (b ∷ bs) h (suc k) d l = all-bytes bs h.1 k d (omega arith)
-
--- a list of numbers below 2^8 is one of bytes
-pub bytes-all : (bs : List ℕ) → All (λ byte. byte < 2 ^ 8) bs → AreBytes bs
-bytes-all [] h = tt
-bytes-all (b ∷ bs) h = (h 0 0 (omega arith), bytes-all bs (λ k d l. h (suc k) d (omega arith)))
+pub no-byte : AreBytes []
+no-byte k d l = absurd (omega arith)
 
 pub memory-bytes : (m : List ℕ) → IsBytes m → AreBytes m
-memory-bytes [] h = tt
-memory-bytes (b ∷ m) h = (h.each 0, memory-bytes m (record { each = λ i. h.each (suc i) }))
+memory-bytes m h = All-from_get_or (λ byte. byte < 2 ^ 8) m 0 (λ i _. h.each i)
 
 random-are : (n : ℕ) (g : Lcg) → AreBytes (random_bytes n g)
 unfolding random_bytes
-random-are zero g = tt
-random-are (suc n) g = (let l : (pcg32 g).0 % 2 ^ 8 < 2 ^ 8 = omega arith in l, random-are n (pcg32 g).1)
+random-are zero g k d l = absurd (omega arith)
+random-are (suc n) g zero d l = omega arith
+random-are (suc n) g (suc k) d l = random-are n (pcg32 g).1 k d (omega arith)
 
 pub random-length : (n : ℕ) (g : Lcg) → length (random_bytes n g) ≡ n
 unfolding random_bytes
@@ -68,8 +56,8 @@ take-most n bs = let e = length-take n bs in omega (arith, e)
 -- ---- devices
 
 empty-pipes : (n k : ℕ) → AreBytes (get_or (replicate n []) k [])
-empty-pipes zero k = tt
-empty-pipes (suc n) zero = tt
+empty-pipes zero k = no-byte
+empty-pipes (suc n) zero = no-byte
 empty-pipes (suc n) (suc k) = empty-pipes n k
 
 -- devices that start with an input of bytes hold bytes
@@ -86,7 +74,7 @@ pipe-set d pipe bytes new h =
       pipes = λ k. elim (cases_eq k pipe) [
         | inl e ↦ elim (cases_lt pipe (length d.pipes)) [
           | inl l ↦ subst AreBytes (sym (ap (λ (j : ℕ). get_or (set d.pipes pipe bytes) j []) e ∙ get_or-set_same d.pipes pipe bytes [] l)) new
-          | inr past ↦ subst AreBytes (sym (get_or_past (set d.pipes pipe bytes) k [] (let q = length-set d.pipes pipe bytes in omega arith))) tt
+          | inr past ↦ subst AreBytes (sym (get_or_past (set d.pipes pipe bytes) k [] (let q = length-set d.pipes pipe bytes in omega arith))) no-byte
         ]
         | inr ne ↦ subst AreBytes (sym (get_or-set_other d.pipes pipe k bytes [] ne)) (h.pipes k)
       ];
@@ -177,10 +165,10 @@ went-few count len few =
     (λ _. omega (arith, few))
 
 no-bytes : AreFewBytes []
-no-bytes = (omega arith, all-bytes [] tt)
+no-bytes = (omega arith, no-byte)
 
 few-bytes : (bs : List ℕ) → length bs ≤ 4096 → AreBytes bs → AreFewBytes bs
-few-bytes bs few h = (few, all-bytes bs h)
+few-bytes bs few h = (few, h)
 
 kind-2 : Contains input_kinds 2
 kind-2 = (0, (omega arith), refl)
@@ -247,7 +235,7 @@ random-sound d buf len few h =
 
 first-few : (bs : List ℕ) → AreBytes bs → first_byte bs < 2 ^ 32
 first-few [] h = omega arith
-first-few (b ∷ bs) h = let l = h.0 in omega (arith, l)
+first-few (b ∷ bs) h = let l : b < 2 ^ 8 = h 0 0 (omega arith) in omega (arith, l)
 
 answer-sound : (d : Devices) (n : Need) (moment : ℕ) → IsFewNeed (Some n) → HaveByteInput d → IsSoundAnswer n (answer d n moment)
 unfolding answer

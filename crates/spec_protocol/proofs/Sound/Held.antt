@@ -6,12 +6,12 @@ use Rattle.spec_isa.specs.declared.thread.Parts.{Parts}
 use Rattle.spec_isa.specs.Threads.{IsThread}
 use Rattle.spec_play.specs.Effects.{counted}
 use Rattle.spec_play.specs.Progress.{position}
-use Rattle.spec_engine.specs.Chunks.{Chunk, squash}
+use Rattle.spec_engine.specs.Chunks.{Chunk, squash, may_follow}
 use Rattle.dl_entry.specs.Numbers.{most_chunk}
 use Rattle.spec_protocol.specs.machine.Spheres.{Sphere, limit_after, halves}
 use Rattle.spec_protocol.specs.machine.Placing.{replays}
 use Rattle.spec_protocol.specs.machine.World.{Occupant}
-use Rattle.spec_protocol.specs.machine.Stepping.{may_follow, younger_afresh, younger_for}
+use Rattle.spec_protocol.specs.machine.Stepping.{younger_afresh, younger_for}
 use Rattle.spec_protocol.specs.machine.Machine.{Setup}
 use Rattle.spec_protocol.specs.promises.Sound.{image_at, size_of, IsSoundSphere, IsSoundChunk}
 use Rattle.spec_protocol.proofs.Moves.AnyEvent.{branch}

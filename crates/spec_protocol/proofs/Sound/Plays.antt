@@ -11,7 +11,7 @@ use Rattle.spec_isa.specs.Threads.{IsThread, started}
 use Rattle.spec_isa.proofs.MemoryLaws.{length_lays}
 use Rattle.spec_log.specs.declared.LogParts.{LogParts}
 use Rattle.spec_log.specs.Log.{IsLog}
-use Rattle.spec_kernel.specs.Devices.{Devices, devices_of}
+use Rattle.spec_kernel.specs.Devices.{Devices, devices_of, HaveByteInput}
 use Rattle.spec_kernel.specs.Needs.{next_kind}
 use Rattle.spec_play.specs.Progress.{position, no_progress, nothing_used}
 use Rattle.spec_play.specs.Turns.{TurnOrEnd, Turn, TurnOfDma, Ended}
@@ -23,12 +23,12 @@ use Rattle.spec_protocol.specs.machine.Spheres.{Cursor, Sphere}
 use Rattle.spec_protocol.specs.machine.Commits.{MovedSphere, between}
 use Rattle.spec_protocol.specs.machine.Machine.{ReplaySetup, all_of, SphereSetup, first_played, replay_at}
 use Rattle.spec_protocol.specs.machine.Serial.{laid}
-use Rattle.spec_protocol.specs.promises.Sound.{IsImage, HaveBytes, AreSoundWords, IsSoundIf, IsSoundCursor, IsSoundThread, IsSoundSphere, HaveByteInput}
+use Rattle.spec_protocol.specs.promises.Sound.{IsImage, HaveBytes, AreSoundWords, IsSoundIf, IsSoundCursor, IsSoundThread, IsSoundSphere}
 use Rattle.spec_protocol.proofs.Moves.Threads.{run-keeps}
 use Rattle.spec_protocol.proofs.Sound.Words.{sound-none, lay-bytes}
 use Rattle.spec_protocol.proofs.Sound.Threads.{started-thread}
 use Rattle.spec_protocol.proofs.Sound.Chunks.{next-thread, next-store, with-words}
-use Rattle.spec_protocol.proofs.Sound.Devices.{start-bytes}
+use Rattle.spec_protocol.proofs.Sound.Devices.{no-byte, start-bytes}
 use Rattle.spec_protocol.proofs.Sound.Commits.{IsSoundMoved}
 use Rattle.spec_protocol.proofs.Sound.Moves.{chunk-goes, serial-goes, cursor-uses}
 use Rattle.spec_protocol.proofs.Sound.Transfers.{IfDmaGoes, dma-goes, dma-verdict-sound}
@@ -110,7 +110,7 @@ module _ (s : ℕ) (image : SphereSetup) (now : ℕ) (log : LogParts) (y : Playe
   none = devices_of [] 0
 
   none-bytes : HaveByteInput none
-  none-bytes = start-bytes [] 0 tt
+  none-bytes = start-bytes [] 0 no-byte
 
   later : IsSoundSphere s image (suc now) (replaying log y)
   later = as-role s image now (replaying log y).role (replaying log y) sound.role sound.few sound

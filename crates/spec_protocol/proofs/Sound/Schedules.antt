@@ -13,6 +13,7 @@ use Rattle.spec_isa.specs.declared.thread.Parts.{Parts}
 use Rattle.spec_isa.specs.Words.{Stored, lay, lays}
 use Rattle.spec_isa.proofs.MemoryLaws.{length_lay, length_lays}
 use Rattle.spec_log.specs.Versions.{new_threads}
+use Rattle.spec_kernel.specs.Devices.{HaveByteInput}
 use Rattle.spec_play.specs.Progress.{position}
 use Rattle.spec_play.specs.Turns.{TurnOrEnd, Turn, TurnOfDma}
 use Rattle.spec_engine.specs.declared.answers.How.{How}
@@ -27,7 +28,7 @@ use Rattle.spec_protocol.specs.machine.Placing.{replays}
 use Rattle.spec_protocol.specs.machine.Machine.{first_threads, RoleSetup, IsPlain, IsRecorded, IsReplayed, new_recording, SphereSetup, Setup, live_sphere, sphere_as, sphere_of, world_of, act, name_of, with_event, happens, world_after}
 use Rattle.spec_protocol.specs.promises.Invariants.{IsGood}
 use Rattle.spec_protocol.specs.promises.Promises.{IsSetup, AreSizesKept}
-use Rattle.spec_protocol.specs.promises.Sound.{IsRole, IsImage, IsWithinLimits, AreSoundWords, no_image, image_at, size_of, IsSoundCursor, IsSoundRole, IsSoundSphere, IsSoundChunk, HaveByteInput, IsSound, WorldsAreSound, EventsKeepSound}
+use Rattle.spec_protocol.specs.promises.Sound.{IsRole, IsImage, IsWithinLimits, AreSoundWords, no_image, image_at, size_of, IsSoundCursor, IsSoundRole, IsSoundSphere, IsSoundChunk, IsSound, WorldsAreSound, EventsKeepSound}
 use Rattle.spec_protocol.proofs.Invariants.Preserved.{SameSizes}
 use Rattle.spec_protocol.proofs.Moves.Granted.{turn-is}
 use Rattle.spec_protocol.proofs.Moves.Transfers.{dma-turn_is}
@@ -35,7 +36,7 @@ use Rattle.spec_protocol.proofs.Points.Counts.{act-untold}
 use Rattle.spec_protocol.proofs.Invariants.Schedules.{happens-preserved, free_slots, first_held, start-good, sizes_kept}
 use Rattle.spec_protocol.proofs.Sound.Changes.{Properties, Holds, Lands, Asks, Keeps, afresh-property, act-holds}
 use Rattle.spec_protocol.proofs.Sound.Words.{lay-bytes}
-use Rattle.spec_protocol.proofs.Sound.Devices.{bytes-all, start-bytes}
+use Rattle.spec_protocol.proofs.Sound.Devices.{start-bytes}
 use Rattle.spec_protocol.proofs.Sound.Chunks.{IsSoundIn, step-sound, cut-sound, squash-sound, fresh-sound}
 use Rattle.spec_protocol.proofs.Sound.Limits.{limit-most, version-least}
 use Rattle.spec_protocol.proofs.Logs.Fresh.{fresh-none}
@@ -312,7 +313,7 @@ start-sound s limits =
     in
     record {
       sizes = sizes_kept s [] (setup-within s limits);
-      devices = start-bytes s.input s.seed (bytes-all s.input limits.input);
+      devices = start-bytes s.input s.seed limits.input;
       replies = λ k. let e = no-replies 33 k in omega (arith, e);
       spheres = spheres;
       flights = λ k f e. absurd (free_slots s.window k f e);

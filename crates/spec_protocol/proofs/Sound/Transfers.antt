@@ -12,7 +12,7 @@ use Rattle.spec_isa.specs.Words.{Stored}
 use Rattle.spec_log.specs.declared.DmaRecord.{DmaRecord}
 use Rattle.spec_log.specs.declared.LogParts.{LogParts}
 use Rattle.spec_log.specs.Size.{size_in}
-use Rattle.spec_kernel.specs.Devices.{Devices}
+use Rattle.spec_kernel.specs.Devices.{Devices, HaveByteInput}
 use Rattle.spec_kernel.specs.Copies.{dma_words}
 use Rattle.spec_kernel.specs.Answers.{dma_bytes, dma_taken}
 use Rattle.spec_kernel.specs.Interrupts.{interrupted}
@@ -26,7 +26,7 @@ use Rattle.spec_protocol.specs.machine.Spheres.{Recording, Cursor, Role, Plain, 
 use Rattle.spec_protocol.specs.machine.Commits.{MovedSphere, dma_as, live_dma, dma_log, dma_by_verdict, dma_in, dma_moved, role_raised, raised}
 use Rattle.spec_protocol.specs.machine.Placing.{replays}
 use Rattle.spec_protocol.specs.machine.Machine.{SphereSetup}
-use Rattle.spec_protocol.specs.promises.Sound.{IsDoneInOrder, AreSoundWords, IsSoundIf, IsSoundCursor, IsSoundLog, IsSoundRole, IsSoundThread, IsSoundSphere, HaveByteInput}
+use Rattle.spec_protocol.specs.promises.Sound.{IsDoneInOrder, AreSoundWords, IsSoundIf, IsSoundCursor, IsSoundLog, IsSoundRole, IsSoundThread, IsSoundSphere}
 use Rattle.spec_protocol.proofs.Invariants.Cores.{branch}
 use Rattle.spec_protocol.proofs.Sound.Words.{dma-sound}
 use Rattle.spec_protocol.proofs.Sound.Threads.{interrupted-thread}

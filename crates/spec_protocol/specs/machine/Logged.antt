@@ -19,6 +19,8 @@ use Rattle.spec_log.specs.Size.{is_thread}
 use Rattle.spec_kernel.specs.Devices.{Devices}
 use Rattle.spec_kernel.specs.Needs.{need}
 use Rattle.spec_kernel.specs.Answers.{taken, dma_bytes}
+use Rattle.spec_play.specs.Progress.{position}
+use Rattle.spec_play.specs.Epochs.{commits_of}
 use Rattle.spec_protocol.specs.machine.Spheres.{Sphere, no_sphere}
 use Rattle.spec_protocol.specs.machine.Serial.{SerialState, do_point}
 
@@ -146,23 +148,24 @@ order_in ModeName.OrderSize ps = actors_of ps
 order_in ModeName.OrderOnly ps = actors_of ps
 order_in ModeName.Picolog ps = []
 
--- of all threads
-abbrev pub all_shorts : List Point → List ShortSize
-all_shorts ps = flat_map (λ k. shorts_of k 0 ps) threads
+-- of all threads, if thread k has done `done k` commits before
+abbrev pub all_shorts : (done : ℕ → ℕ) → List Point → List ShortSize
+all_shorts done ps = flat_map (λ k. shorts_of k (done k) ps) threads
 
 -- in order-size each commit has a size, else each short chunk
-abbrev pub sizes_in : ModeName → List Point → Sizes
-sizes_in ModeName.OrderSize ps = Sizes.Each (sizes_of ps)
-sizes_in ModeName.OrderOnly ps = Sizes.Short (all_shorts ps)
-sizes_in ModeName.Picolog ps = Sizes.Short (all_shorts ps)
+abbrev pub sizes_in : ModeName → (done : ℕ → ℕ) → List Point → Sizes
+sizes_in ModeName.OrderSize done ps = Sizes.Each (sizes_of ps)
+sizes_in ModeName.OrderOnly done ps = Sizes.Short (all_shorts done ps)
+sizes_in ModeName.Picolog done ps = Sizes.Short (all_shorts done ps)
 
 -- of all threads
-abbrev pub all_interrupts : List Point → List Interrupt
-all_interrupts ps = flat_map (λ k. interrupts_of k 0 ps) threads
+abbrev pub all_interrupts : (done : ℕ → ℕ) → List Point → List Interrupt
+all_interrupts done ps = flat_map (λ k. interrupts_of k (done k) ps) threads
 
--- short sizes and interrupts stand thread by thread; orders, records and DMA data in the order of the points
-abbrev pub logged : (version : ℕ) → ModeName → (s : ℕ) → List Supplied → LogParts
-logged version mode s cs =
+-- of the points after n commits, of which thread k has done `done k`. Short sizes and interrupts stand thread by thread;
+-- orders, records and DMA data in the order of the points
+abbrev pub logged_after : (version : ℕ) → ModeName → (s : ℕ) → (done : ℕ → ℕ) → (n : ℕ) → List Supplied → LogParts
+logged_after version mode s done n cs =
     let ps = map (λ c. c.point) cs in
     record {
       version = version;
@@ -171,8 +174,20 @@ logged version mode s cs =
       s = s;
       count = length (actors_of ps);
       order = order_in mode ps;
-      sizes = sizes_in mode ps;
-      interrupts = all_interrupts ps;
+      sizes = sizes_in mode done ps;
+      interrupts = all_interrupts done ps;
       inputs = inputs_of cs;
-      dmas = dmas_of 0 cs;
+      dmas = dmas_of n cs;
     }
+
+-- of the points from the start on
+abbrev pub logged : (version : ℕ) → ModeName → (s : ℕ) → List Supplied → LogParts
+logged version mode s cs = logged_after version mode s (λ k. 0) 0 cs
+
+-- how many commits thread k of sphere i has done
+abbrev pub done_in : SerialState → (i thread : ℕ) → ℕ
+done_in x i k = commits_of (slice_get (sphere_in x i).threads k)
+
+-- of the points of sphere i since x. What it counts, it counts from the start
+abbrev pub logged_since : (version : ℕ) → ModeName → (s : ℕ) → SerialState → (i : ℕ) → List Supplied → LogParts
+logged_since version mode s x i cs = logged_after version mode s (done_in x i) (position (sphere_in x i).progress) cs

@@ -13,6 +13,7 @@ use Rattle.spec_play.specs.Recording.{new_log}
 use Rattle.spec_play.specs.declared.interval.Interval.{Interval}
 use Rattle.spec_play.specs.Plays.{Played, plays}
 use Rattle.spec_play.specs.Intervals.{begun, commits_in}
+use Rattle.spec_play.specs.Epochs.{Epochs}
 use Rattle.spec_protocol.specs.declared.event.Event.{Event}
 use Rattle.spec_protocol.specs.declared.reply.Reply.{Reply}
 use Rattle.spec_protocol.specs.machine.Spheres.{Recording, Role, Plain, Record, Replay, Sphere}
@@ -26,10 +27,16 @@ use Rattle.spec_protocol.specs.machine.Transferring.{transferring}
 
 -- ---- the start
 
--- how a sphere is recorded
+-- how many commits an epoch of a recording has, and how many epochs are kept
+pub record EpochSetup : Type 0 where
+  pub size : ℕ
+  pub keep : ℕ
+
+-- how a sphere is recorded: whole, or in epochs
 pub record RecordSetup : Type 0 where
   pub version : ℕ
   pub mode : ModeName
+  pub epochs : Option EpochSetup
 
 -- what is replayed: the commits of a log, or those of an interval
 pub record ReplaySetup : Type 0 where
@@ -46,9 +53,14 @@ pub data RoleSetup : Type 0 where
   IsRecorded : (asked : RecordSetup) → RoleSetup
   IsReplayed : (asked : ReplaySetup) → RoleSetup
 
+-- no epoch has begun yet
+abbrev pub new_epochs : Option EpochSetup → Option Epochs
+new_epochs None = None
+new_epochs (Some asked) = Some (record { size = asked.size; keep = asked.keep; begun = [] })
+
 -- what a recorded sphere begins with
 abbrev pub new_recording : RecordSetup → (s : ℕ) → Recording
-new_recording asked s = record { log = new_log asked.version asked.mode s }
+new_recording asked s = record { log = new_log asked.version asked.mode s; epochs = new_epochs asked.epochs }
 
 -- of its image the bytes of memory, and where thread 0 starts
 pub record SphereSetup : Type 0 where
@@ -104,7 +116,7 @@ sphere_of s image = sphere_as s image image.role
 
 -- ---- the machine
 
--- so many cores from sphere i on: each holds thread 0 of its own sphere, or is idle where there is none
+-- so many cores from sphere i on: each holds thread 0 of its own sphere, or is idle if there are fewer spheres
 abbrev pub first_cores : Numbers → (i : ℕ) → (cores : ℕ) → List Sphere → List (Option Occupant)
 first_cores z i zero ps = []
 first_cores z i (suc n) [] = None ∷ first_cores z (suc i) n []

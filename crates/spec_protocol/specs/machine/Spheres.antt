@@ -13,6 +13,7 @@ use Rattle.spec_play.specs.Progress.{Progress, no_progress}
 use Rattle.spec_play.specs.declared.used.Used.{Used}
 use Rattle.spec_play.specs.declared.interval.Interval.{Interval}
 use Rattle.spec_play.specs.Turns.{TurnOrEnd, Turn, TurnOfDma, Ended}
+use Rattle.spec_play.specs.Epochs.{Epochs}
 
 -- a replayed sphere's log, which of its commits are replayed if a plan says so, how far it is in it, and of the pieces of
 -- the present commit the instructions and the loads
@@ -24,9 +25,10 @@ pub record Cursor : Type 0 where
   pub total : ℕ
   pub loads : List Load
 
--- what a recorded sphere keeps: the log so far
+-- what a recorded sphere keeps: the log so far; and, if it gives up its earliest commits, the epochs that it keeps
 pub record Recording : Type 0 where
   pub log : LogParts
+  pub epochs : Option Epochs
 
 pub data Role : Type 0 where
   Plain : Role

@@ -1,12 +1,12 @@
 -- The events of a running chunk: Step and Cut.
-use Rattle.std.specs.Prelude.{ℕ, Bool, true, false, not, ◌&&◌, nat_lt, Option, Some, None, if◌then◌else◌}
+use Rattle.std.specs.Prelude.{ℕ, not, ◌&&◌, nat_lt, Option, Some, None, if◌then◌else◌}
 use Rattle.spec_isa.specs.Words.{lays}
 use Rattle.spec_play.specs.Effects.{counted}
 use Rattle.spec_engine.specs.declared.answers.How.{How}
 use Rattle.spec_engine.specs.declared.answers.Stepped.{Stepped}
 use Rattle.spec_engine.specs.declared.answers.CutReply.{CutReply}
 use Rattle.spec_engine.specs.Flights.{at}
-use Rattle.spec_engine.specs.Chunks.{Chunk, fresh, Stepping, step, Cutting, cut, is_open}
+use Rattle.spec_engine.specs.Chunks.{Chunk, fresh, Stepping, step, Cutting, cut, is_open, may_follow}
 use Rattle.spec_protocol.specs.declared.reply.Reply.{Reply}
 use Rattle.spec_protocol.specs.machine.Spheres.{Role, is_stopped, limit_after, halves}
 use Rattle.spec_protocol.specs.machine.World.{Numbers, World, Occupant, sphere_at, with_core, EventOutcome, answered}
@@ -32,15 +32,6 @@ with_younger w c h y = with_core w c (Some (record h { younger = Some y }))
 
 abbrev pub stepped_younger : World → (core : ℕ) → Occupant → Stepping → EventOutcome
 stepped_younger w c h s = answered (with_younger w c h s.chunk) (reply_of_step s.reply)
-
--- whether a chunk may follow one that was closed so. In a replay one that was cut off, or found no room, is a piece, and none
--- follows it
-abbrev pub may_follow : (replays : Bool) → Option How → Bool
-may_follow b None = false
-may_follow b (Some How.Limit) = true
-may_follow b (Some How.Serial) = false
-may_follow b (Some How.Overflow) = not b
-may_follow b (Some How.Cut) = not b
 
 -- the chunk that follows the older one: it begins from the state that the older's commit will leave, with the limit of the
 -- commit after that

@@ -4,7 +4,7 @@ use Rattle.spec_log.specs.declared.LogParts.{LogParts}
 use Rattle.spec_protocol.specs.declared.event.Event.{Event}
 use Rattle.spec_protocol.specs.machine.Spheres.{Recording, Record}
 use Rattle.spec_protocol.specs.machine.World.{sphere_at}
-use Rattle.spec_protocol.specs.machine.Machine.{RecordSetup, SphereSetup, Setup}
+use Rattle.spec_protocol.specs.machine.Machine.{new_epochs, RecordSetup, SphereSetup, Setup}
 use Rattle.spec_protocol.specs.machine.Serial.{serial_start}
 use Rattle.spec_protocol.specs.machine.Logged.{supplied, logged}
 use Rattle.spec_protocol.specs.promises.Promises.{WillRecord, after}
@@ -13,9 +13,9 @@ use Rattle.spec_protocol.specs.promises.Promises.{WillRecord, after}
 abbrev pub log_of_points : Setup → List Event → (i : ℕ) → RecordSetup → LogParts
 log_of_points s es i asked = logged asked.version asked.mode s.numbers.s (supplied i (serial_start s) (after s es).points)
 
--- what a recorded sphere keeps by its points
+-- what a recorded sphere keeps by its points; events begin no epoch
 abbrev pub recording_of_points : Setup → List Event → (i : ℕ) → RecordSetup → Recording
-recording_of_points s es i asked = record { log = log_of_points s es i asked }
+recording_of_points s es i asked = record { log = log_of_points s es i asked; epochs = new_epochs asked.epochs }
 
 -- the log that a sphere has kept is that of its points, with the standard size
 abbrev pub LogsAreOfPoints : Type 0

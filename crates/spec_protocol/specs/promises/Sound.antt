@@ -13,7 +13,7 @@ use Rattle.spec_log.specs.declared.LogParts.{LogParts}
 use Rattle.spec_log.specs.Log.{IsLog}
 use Rattle.spec_log.specs.Versions.{IsVersion, IsStandard, new_threads}
 use Rattle.spec_log.specs.Size.{is_thread}
-use Rattle.spec_kernel.specs.Devices.{Devices}
+use Rattle.spec_kernel.specs.Devices.{HaveByteInput}
 use Rattle.spec_kernel.specs.Interrupts.{is_live}
 use Rattle.spec_play.specs.Progress.{position}
 use Rattle.spec_play.specs.Intervals.{IsWithinIf}
@@ -25,7 +25,7 @@ use Rattle.spec_engine.specs.Chunks.{Chunk}
 use Rattle.spec_protocol.specs.declared.event.Event.{Event}
 use Rattle.spec_protocol.specs.machine.Spheres.{Cursor, Role, Plain, Record, Replay, Sphere, is_over, actor_of, whole_limit, most_in}
 use Rattle.spec_protocol.specs.machine.World.{Occupant, World, moment, sphere_at}
-use Rattle.spec_protocol.specs.machine.Machine.{RecordSetup, RoleSetup, IsPlain, IsRecorded, IsReplayed, SphereSetup, Setup, happens}
+use Rattle.spec_protocol.specs.machine.Machine.{EpochSetup, RecordSetup, RoleSetup, IsPlain, IsRecorded, IsReplayed, SphereSetup, Setup, happens}
 use Rattle.spec_protocol.specs.promises.Promises.{AreSizesKept, after}
 use Rattle.spec_protocol.specs.promises.Invariants.{IsGood}
 
@@ -39,9 +39,24 @@ AreFew n = (1 ≤ n) × (n ≤ 8)
 abbrev pub IsChunkSize : ℕ → Type 0
 IsChunkSize s = (least_chunk ≤ s) × (s ≤ most_chunk)
 
--- there is such a version of logs, and standard chunks of s instructions fit it
+-- epochs are those of version 2. One has 1 to 2^24 commits, and 1 to 64 of them are kept
+pub record AreEpochs (version : ℕ) (asked : EpochSetup) : Type 0 where
+  pub second : version ≡ 2
+  pub least : 1 ≤ asked.size
+  pub most : asked.size ≤ 2 ^ 24
+  pub some : 1 ≤ asked.keep
+  pub few : asked.keep ≤ 64
+
+abbrev pub AreEpochsIf : (version : ℕ) → Option EpochSetup → Type 0
+AreEpochsIf version None = Unit {0}
+AreEpochsIf version (Some asked) = AreEpochs version asked
+
+-- there is such a version of logs, standard chunks of s instructions fit it, and so do epochs if they are asked for
 abbrev pub IsRecordable : (s : ℕ) → RecordSetup → Type 0
-IsRecordable s asked = IsVersion asked.version (new_threads asked.version) × IsStandard asked.version s
+IsRecordable s asked =
+    IsVersion asked.version (new_threads asked.version)
+    × IsStandard asked.version s
+    × AreEpochsIf asked.version asked.epochs
 
 -- what is replayed is a log, and an interval is within it
 abbrev pub IsRole : (s : ℕ) → RoleSetup → Type 0
@@ -73,11 +88,6 @@ pub record IsWithinLimits (s : Setup) : Type 0 where
   pub images : (i : ℕ) (image : SphereSetup) → slice_get s.spheres i ≡ Some image → IsImage s.numbers.s image
 
 -- ---- words
-
--- each of these is a byte
-abbrev pub AreBytes : List ℕ → Type 0
-AreBytes [] = Unit {0}
-AreBytes (b ∷ bs) = (b < 2 ^ 8) × AreBytes bs
 
 -- a byte to be stored, if there is one
 abbrev pub IsByte : Option ℕ → Type 0
@@ -248,12 +258,6 @@ pub record IsSoundChunk (capacity size : ℕ) (ch : Chunk) : Type 0 where
   pub thread : IsThread ch.done.thread
   pub commits : ch.done.thread.commits ≡ ch.start.commits
   pub status : ch.done.thread.status ≡ ch.start.status
-
--- ---- devices
-
-pub record HaveByteInput (d : Devices) : Type 0 where
-  pub input : AreBytes d.input
-  pub pipes : (k : ℕ) → AreBytes (slice_index_or d.pipes k [])
 
 -- ---- the world
 

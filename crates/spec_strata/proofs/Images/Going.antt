@@ -94,11 +94,11 @@ serial-kind : (o : Option Kind) → CommitKind.Serial ≡ kind_by o → IsSome o
 serial-kind None e = cc
 serial-kind (Some kind) e = refl
 
-record TakesTurn (log : LogParts) (y : Played) (k : ℕ) (c : Commit) : Type 0 where
-  turn : y.now ≡ Turn k
-  does : ThreadDoes log y k c
+pub record TakesTurn (log : LogParts) (y : Played) (k : ℕ) (c : Commit) : Type 0 where
+  pub turn : y.now ≡ Turn k
+  pub does : ThreadDoes log y k c
 
-takes-turn : (log : LogParts) (y : Played) (now : TurnOrEnd) (k : ℕ) (c : Commit) → y.now ≡ now → Does log y now c → c.actor ≡ Actor.Thread k → TakesTurn log y k c
+pub takes-turn : (log : LogParts) (y : Played) (now : TurnOrEnd) (k : ℕ) (c : Commit) → y.now ≡ now → Does log y now c → c.actor ≡ Actor.Thread k → TakesTurn log y k c
 takes-turn log y (Ended how) k c is does actor = absurd does
 takes-turn log y TurnOfDma k c is does actor =
     let e : Actor.Dma ≡ Actor.Thread k = sym (ap actor_in does.commit) ∙ actor in cc

@@ -22,7 +22,7 @@ or_twice true b = refl
 or_twice false true = refl
 or_twice false false = refl
 
-looks-stays : (m : List ℕ) (t : Parts) (i n a : ℕ) (kind : Kind) → let r = run m t i in one r.thread (lays m r.words) ≡ Serial kind → i < n → looks m t n a ≡ looks m t (suc i) a
+pub looks-stays : (m : List ℕ) (t : Parts) (i n a : ℕ) (kind : Kind) → let r = run m t i in one r.thread (lays m r.words) ≡ Serial kind → i < n → looks m t n a ≡ looks m t (suc i) a
 looks-stays m t i zero a kind e l = absurd (omega arith)
 looks-stays m t i (suc n) a kind e l =
     let r : Run = run m t i in

@@ -50,7 +50,7 @@ thread_in p = p.thread
 
 -- ---- one commit more, where the stratum stands at x
 
-threads-more : (q : Rule) (x : StratumState) (k : ℕ) (p : Share) → set (map thread_in x.shares) k (q.settle (next_run q x.memory p).thread) ≡ map thread_in (slice_set x.shares k (share_more q x.memory p))
+pub threads-more : (q : Rule) (x : StratumState) (k : ℕ) (p : Share) → set (map thread_in x.shares) k (q.settle (next_run q x.memory p).thread) ≡ map thread_in (slice_set x.shares k (share_more q x.memory p))
 unfolding share_more
 threads-more q x k p = sym (map-set thread_in x.shares k (share_more q x.memory p))
 
@@ -254,7 +254,7 @@ good-now log y done k t is miss good =
     (agree-others (next_seen (q k) base p) y.memory ps k p (alone-get q y.memory y.threads done k t is) miss))
     good)
 
-commit-is : (q : ℕ → Rule) (x : StratumState) (k : ℕ) (p : Share) → slice_get x.shares k ≡ Some p → with_more q x k (Some p) ≡ commit_more q x k
+pub commit-is : (q : ℕ → Rule) (x : StratumState) (k : ℕ) (p : Share) → slice_get x.shares k ≡ Some p → with_more q x k (Some p) ≡ commit_more q x k
 unfolding commit_more
 commit-is q x k p is = ap (with_more q x k) (sym is)
 

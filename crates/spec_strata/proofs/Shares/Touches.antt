@@ -1,17 +1,17 @@
 -- Who has touched each word tells conflicts, and follows the commits.
-use Rattle.std.proofs.Common.{◌≡◌, ◌≢◌, ℕ, zero, suc, inl, inr, ◌⊎◌, Bool, true, false, cond, ◌||◌, List, [], ◌∷◌, ◌++◌, map, Option, Some, None, refl, sym, ap, ◌∙◌, subst}
+use Rattle.std.proofs.Common.{◌≡◌, ◌≢◌, ℕ, inl, inr, Bool, true, false, ◌||◌, List, [], ◌∷◌, ◌++◌, map, Option, Some, refl, sym, ap, ◌∙◌, subst}
 use Rattle.std.specs.Prelude.{slice_get, slice_set, nat_eq, if◌then◌else◌}
 use Rattle.std.proofs.lemmas.Bool.{cases_Bool, cases_eq, eq-eqb, ne_eqb, or_left, or_right, or_cases}
-use Rattle.std.proofs.lemmas.Option.{none-some}
 use Rattle.spec_isa.specs.declared.thread.Parts.{Parts}
 use Rattle.spec_isa.specs.Words.{Stored, holds}
 use Rattle.spec_strata.specs.Footprints.{Unseen, looks}
-use Rattle.spec_strata.specs.Shares.{Rule, Share, empty_share, next_run, next_seen, share_more, StratumState, stratum_start, with_more, commit_more}
-use Rattle.spec_strata.specs.Parallel.{OthersMiss, OthersBlind, IsClear}
-use Rattle.spec_strata.specs.Touches.{Touch, Untouched, SeenBy, Shared, StoredBy, is_other, bars_look, bars_store, looked_at, touched, IsFree, HasShare, EachShare, OtherShares, SeveralHaveSeen, IsTouch, AreTouches, TouchesBegin, TouchesTell, TouchesFollow}
+use Rattle.spec_strata.specs.Shares.{Share, empty_share, next_run, next_seen, share_more, with_more, commit_more}
+use Rattle.spec_strata.specs.Parallel.{OthersMiss, OthersBlind}
+use Rattle.spec_strata.specs.declared.touch.Touch.{Touch}
+use Rattle.spec_strata.specs.declared.touch.Touch.TheVariants.{Untouched, SeenBy, Shared, StoredBy}
+use Rattle.spec_strata.specs.Touches.{is_other, bars_look, bars_store, looked_at, touched, IsFree, HasShare, EachShare, OtherShares, IsTouch, AreTouches, TouchesBegin, TouchesTell, TouchesFollow}
 use Rattle.spec_strata.proofs.Shares.Steps.{get-set_same, get-set_other, same_some, mapped}
 use Rattle.spec_strata.proofs.Shares.Testing.{clear_is_tested}
-use Rattle.spec_strata.proofs.Local.Footprints.{or_neither}
 use Rattle.spec_strata.proofs.Plays.Strata.{get-map}
 
 -- ---- truth

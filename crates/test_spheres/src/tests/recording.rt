@@ -1,5 +1,5 @@
 //! The bytes of logs that were recorded.
-ghost use Rattle.std.specs.Prelude.{◌≡◌, ◌+◌, ◌<◌, [], Contains, IfOk, IfSome, OnOk};
+ghost use Rattle.std.specs.Prelude.{◌≡◌, ◌+◌, ◌<◌, [], Contains, None, IfOk, IfSome, OnOk};
 ghost use Rattle.dl_entry.specs.Numbers.{plain_threads};
 ghost use Rattle.spec_log.specs.Log.{IsActor, IsInput, AreFewBytes, input_kinds};
 ghost use Rattle.dl_record.specs.Recording.{CanCommit};
@@ -70,6 +70,7 @@ fn log_of<M: Noting>(
     requires s { recorder.old.kept.s ≡ row.now.s }
     requires none { recorder.old.kept.count ≡ 0 }
     requires interrupts { recorder.old.interrupts ≡ [] }
+    requires epochs { recorder.old.epochs ≡ None }
     requires version { recorder.old.version ≡ 1 }
 {
     assert!(rt; row.steps.len() < 100);
@@ -100,7 +101,9 @@ fn note<M: Noting>(
     requires s { recorder.old.kept.s ≡ s }
     requires few { recorder.old.kept.count < 100 }
     requires version { recorder.old.version ≡ 1 }
+    requires epochs { recorder.old.epochs ≡ None }
     ensures version { recorder.new.version ≡ 1 }
+    ensures epochs { recorder.new.epochs ≡ None }
     ensures s { OnOk result (recorder.new.kept.s ≡ s) }
     ensures count { OnOk result (recorder.new.kept.count ≡ recorder.old.kept.count + 1) }
     ensures interrupts { OnOk result (recorder.new.interrupts ≡ recorder.old.interrupts) }
@@ -123,9 +126,11 @@ fn note_commit<M: Noting>(
     dma: Option<&[u8]>,
 ) -> Result<(), OutOfMemory>
     requires commit { CanCommit recorder.old.version recorder.old.kept commit.now early }
+    requires epochs { recorder.old.epochs ≡ None }
     requires input { IfSome input (λ i. IsInput i.now) }
     requires dma { IfSome dma (λ bytes. AreFewBytes bytes.now) }
     ensures version { recorder.new.version ≡ recorder.old.version }
+    ensures epochs { recorder.new.epochs ≡ None }
     ensures s { OnOk result (recorder.new.kept.s ≡ recorder.old.kept.s) }
     ensures count { OnOk result (recorder.new.kept.count ≡ recorder.old.kept.count + 1) }
     ensures interrupts { OnOk result (recorder.new.interrupts ≡ recorder.old.interrupts) }

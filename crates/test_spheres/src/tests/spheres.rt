@@ -7,7 +7,7 @@ mod beginnings;
 mod moves;
 
 use dl_logfmt::read_log;
-use dl_sphere::{Replay, Role, Sphere, SphereSetup};
+use dl_sphere::{Epochs, Replay, Role, Sphere, SphereSetup};
 use spec_log::ModeName;
 use std::alloc::Global;
 use std::test::Fail;
@@ -16,6 +16,8 @@ use std::test::Fail;
 enum Begins {
     Plain,
     Recorded(ModeName),
+    /// In epochs of two commits, of which the last is kept.
+    InEpochs(ModeName),
     Replayed(&'static [u8]),
 }
 
@@ -38,7 +40,16 @@ fn role(alloc: Global, begins: Begins) -> Result<Role, Fail>
 {
     match begins {
         Begins::Plain => Ok(Role::Plain),
-        Begins::Recorded(mode) => Ok(Role::Record { version: 1, mode }),
+        Begins::Recorded(mode) => Ok(Role::Record {
+            version: 1,
+            mode,
+            epochs: None,
+        }),
+        Begins::InEpochs(mode) => Ok(Role::Record {
+            version: 2,
+            mode,
+            epochs: Some(Epochs { size: 2, keep: 1 }),
+        }),
         Begins::Replayed(bytes) => Ok(Role::Replay(Replay {
             log: read_log(alloc, bytes)?,
             begun: None,

@@ -49,6 +49,8 @@ const OTHER: &str = "cores = 8\n\
       mode = \"picolog\"\n\
       version = 2\n\
       log = \"b.log\"\n\
+      epoch = 8\n\
+      keep = 2\n\
       [[sphere]]\n\
       image = \"b.elf\"\n\
       memory = 16777216\n\
@@ -91,7 +93,7 @@ fn reads_each_key(rt: HostRuntime) -> Result<(), Fail> {
 const PLAN_SHOWN: &str = concat!(
     "Plan { sizes: Sizes { cores: 1, chunk: 100, buffer: 16, window: 2, depth: 1, signature: 64, seed: 0 }, schedule: Script(\"s.txt\"), ",
     "input: None, console: None, report: Some(\"r.txt\"), spheres: [",
-    "Sphere { image: \"a.elf\", memory: 4096, role: Record { mode: OrderSize, version: 1, log: \"a.log\" }, account: Some(\"a.txt\") }",
+    "Sphere { image: \"a.elf\", memory: 4096, role: Record { mode: OrderSize, version: 1, log: \"a.log\", epochs: None }, account: Some(\"a.txt\") }",
     "] }"
 );
 
@@ -99,7 +101,8 @@ const OTHER_SHOWN: &str = concat!(
     "Plan { sizes: Sizes { cores: 8, chunk: 64, buffer: 8, window: 1, depth: 2, signature: 128, seed: 9 }, schedule: Seeded { events: 20000 }, ",
     "input: Some(\"i.bin\"), console: Some(\"c.bin\"), report: None, spheres: [",
     "Sphere { image: \"a.elf\", memory: 4096, role: Plain, account: None }, ",
-    "Sphere { image: \"b.elf\", memory: 8192, role: Record { mode: Picolog, version: 2, log: \"b.log\" }, account: None }, ",
+    "Sphere { image: \"b.elf\", memory: 8192, role: Record { mode: Picolog, version: 2, log: \"b.log\", epochs: Some(Epochs { size: 8, keep: 2 }) }, ",
+    "account: None }, ",
     "Sphere { image: \"b.elf\", memory: 16777216, role: Replay { log: \"a.log\", from: Some(2), to: Some(4) }, account: Some(\"c.txt\") }",
     "] }"
 );
@@ -185,6 +188,11 @@ const LIMITS: &[(&str, &str)] = &[
     (RECORDED_ROLE, "role = \"replay\"\nfrom = 16777216"),
     (RECORDED_ROLE, "role = \"replay\"\nto = 16777216"),
     (RECORDED_ROLE, "role = \"replay\"\nfrom = 3\nto = 3"),
+    ("account", "version = 2\nepoch = 1\nkeep = 1\naccount"),
+    (
+        "account",
+        "version = 2\nepoch = 16777216\nkeep = 64\naccount",
+    ),
     ("cores", "input = \"s.txt\"\nconsole = \"c.bin\"\ncores"),
 ];
 
@@ -284,6 +292,14 @@ const OUTSIDE_LIMITS: &[(&str, &str, u8)] = &[
     (RECORDED_ROLE, "role = \"replay\"\nfrom = 16777217", 4),
     (RECORDED_ROLE, "role = \"replay\"\nto = -1", 4),
     (RECORDED_ROLE, "role = \"replay\"\nto = 16777217", 4),
+    ("account", "version = 2\nepoch = 0\nkeep = 1\naccount", 4),
+    (
+        "account",
+        "version = 2\nepoch = 16777217\nkeep = 1\naccount",
+        4,
+    ),
+    ("account", "version = 2\nepoch = 1\nkeep = 0\naccount", 4),
+    ("account", "version = 2\nepoch = 1\nkeep = 65\naccount", 4),
     (SPHERE, "", 4),
     (SPHERE, "sphere = []", 4),
 ];
@@ -440,6 +456,24 @@ const INTERVALS: &[(&str, &str, u8)] = &[
         RECORDED_ROLE,
         "role = \"replay\"\nfrom = 16777216\nto = 0",
         9,
+    ),
+];
+
+#[test]
+fn refuses_epochs_that_lack_something_or_are_not_recorded(rt: HostRuntime) -> Result<(), Fail> {
+    are_refused(&rt, rt.alloc(), EPOCHS)
+}
+
+const EPOCHS: &[(&str, &str, u8)] = &[
+    ("account", "version = 2\nepoch = 8\naccount", 10),
+    ("account", "version = 2\nkeep = 2\naccount", 10),
+    ("account", "epoch = 8\nkeep = 2\naccount", 10),
+    ("account", "version = 1\nepoch = 8\nkeep = 2\naccount", 10),
+    (RECORDED_ROLE, "role = \"replay\"\nepoch = 8\nkeep = 2", 10),
+    (
+        "role = \"record\"\nmode = \"order-size\"\nlog = \"a.log\"",
+        "role = \"plain\"\nepoch = 8",
+        10,
     ),
 ];
 

@@ -1,7 +1,7 @@
 //! Which words mean a command, and which command.
 ghost use Rattle.std.specs.Prelude.{◌≤◌, ◌^◌};
 
-use dl_words::{Command, Interval, OutOfMemory, Pair, Query, Question, read_words};
+use dl_words::{Command, Interval, OutOfMemory, Playback, Query, Question, read_words};
 use std::alloc::Global;
 use std::process::Abort;
 
@@ -36,6 +36,8 @@ const NONE: &[&[&str]] = &[
     &["interval", "a", "4096", "l", "1", "4", "2"],
     &["interval", "a", "4096", "l", "1", "2", "16777217"],
     &["interval", "a", "4096", "l", "1", "2", "4", "6"],
+    &["tail"],
+    &["tail", "a", "b"],
     &["watch", "a", "4096", "l"],
     &["watch", "a", "4096", "l", "2"],
     &["watch", "a", "4096", "l", "4096"],
@@ -75,28 +77,43 @@ fn words_mean_their_command_or_none(rt: HostRuntime) {
         &["inspect", "a.log", "--"],
         Command::Inspect { log },
     );
-    let pair = Pair {
+    let playback = Playback {
         image: "a.elf",
         memory: 16_777_216,
         log,
     };
     let walk = &["walk", "a.elf", "16777216", "a.log"];
-    mean(&rt, alloc, walk, Command::Walk(pair));
+    mean(&rt, alloc, walk, Command::Walk(playback));
     let interval = &["interval", "a.elf", "16777216", "a.log", "1", "0", "0"];
-    mean(&rt, alloc, interval, sliced(pair, 1, 0, 0));
+    mean(&rt, alloc, interval, sliced(playback, 1, 0, 0));
     let last = 16_777_216;
     let interval = &[
         "interval", "a.elf", "16777216", "a.log", "16777216", "16777216", "16777216",
     ];
-    mean(&rt, alloc, interval, sliced(pair, last, last, last));
+    mean(&rt, alloc, interval, sliced(playback, last, last, last));
     let watch = &["watch", "a.elf", "16777216", "a.log", "16777212"];
-    mean(&rt, alloc, watch, asked(pair, 16_777_212, Question::Watch));
+    mean(
+        &rt,
+        alloc,
+        watch,
+        asked(playback, 16_777_212, Question::Watch),
+    );
     let who = &["who", "a.elf", "16777216", "a.log", "0", "16777216"];
     let before = 16_777_216;
-    mean(&rt, alloc, who, asked(pair, 0, Question::Who { before }));
+    mean(
+        &rt,
+        alloc,
+        who,
+        asked(playback, 0, Question::Who { before }),
+    );
     let when = &["when", "a.elf", "16777216", "a.log", "4", "4294967295"];
     let value = 4_294_967_295;
-    mean(&rt, alloc, when, asked(pair, 4, Question::When { value }));
+    mean(
+        &rt,
+        alloc,
+        when,
+        asked(playback, 4, Question::When { value }),
+    );
     let number = 4_294_967_295;
     let name = "x.elf";
     mean(
@@ -122,6 +139,8 @@ fn words_mean_their_command_or_none(rt: HostRuntime) {
         &["asm", "a.s", "x.elf"],
         Command::Asm { source, name },
     );
+    let tail = &["tail", "x.elf"];
+    mean(&rt, alloc, tail, Command::Tail { name });
     let migrate = &["migrate", "a.log", "x.elf"];
     mean(&rt, alloc, migrate, Command::Migrate { log, name });
     for words in NONE {
@@ -129,21 +148,21 @@ fn words_mean_their_command_or_none(rt: HostRuntime) {
     }
 }
 
-fn sliced(pair: Pair<'static>, every: u32, from: u32, to: u32) -> Command<'static>
+fn sliced(playback: Playback<'static>, every: u32, from: u32, to: u32) -> Command<'static>
     requires kept { (1 ≤ every) × (every ≤ 2 ^ 24) }
     requires order { from ≤ to }
 {
     Command::Interval(Interval {
-        pair,
+        playback,
         every,
         from,
         to,
     })
 }
 
-fn asked(pair: Pair<'static>, address: u32, question: Question) -> Command<'static> {
+fn asked(playback: Playback<'static>, address: u32, question: Question) -> Command<'static> {
     Command::Query(Query {
-        pair,
+        playback,
         address,
         question,
     })

@@ -22,6 +22,6 @@ begun-more xs ys x more is all = subst (All HasBegun) (sym more) (All-push HasBe
 pub loop-preserved : goal.loop-preserved
 loop-preserved c =
     record {
-      recorded = pushed c.loop.spheres _ _ c.in_ok-push.ensures.ok (inl (refl, refl), (omega arith, omega arith)) c.loop.invariant.recorded;
+      recorded = pushed c.loop.spheres _ _ c.in_ok-push.ensures.ok (inl (refl, refl), (omega arith, omega arith), tt) c.loop.invariant.recorded;
       begun = begun-more c.loop.spheres _ _ c.in_ok-push.ensures.ok tt c.loop.invariant.begun;
     }

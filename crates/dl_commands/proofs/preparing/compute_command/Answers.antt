@@ -1,5 +1,5 @@
 use Rattle.std.proofs.Common.{◌≡◌, ◌∙◌, ℕ, ap, refl, sym}
-use Rattle.dl_words.specs.Commands.{CommandValues, Run, Inspect, Walk, Query, Interval, Make, Drill, Asm, Migrate, command_view}
+use Rattle.dl_words.specs.Commands.{CommandValues, Run, Inspect, Walk, Query, Interval, Tail, Make, Drill, Asm, Migrate, command_view}
 use Rattle.spec_program.specs.commands.Drill.{finish}
 use Rattle.dl_commands.proofs.preparing.compute_command.Goals as goal
 
@@ -18,6 +18,9 @@ returns-in-Query-clause-halt g c = rw c.in-Query.is c.answer_query.ensures.halt
 pub returns-in-Interval-clause-halt : goal.returns-in-Interval-clause-halt
 returns-in-Interval-clause-halt g c = rw c.in-Interval.is c.tell_interval.ensures.halt
 
+pub returns-in-Tail-clause-halt : goal.returns-in-Tail-clause-halt
+returns-in-Tail-clause-halt g c = rw c.in-Tail.is c.play_tail.ensures.halt
+
 pub returns-in-Asm-clause-halt : goal.returns-in-Asm-clause-halt
 returns-in-Asm-clause-halt g c = rw c.in-Asm.is c.assemble_source.ensures.halt
 
@@ -28,9 +31,10 @@ returns-in-Migrate-clause-halt g c = rw c.in-Migrate.is c.migrate.ensures.halt
 abbrev drilled : CommandValues → ℕ
 drilled (Run plan) = 0
 drilled (Inspect log) = 0
-drilled (Walk pair) = 0
+drilled (Walk playback) = 0
 drilled (Query asked) = 0
 drilled (Interval asked) = 0
+drilled (Tail name) = 0
 drilled (Make number name) = 0
 drilled (Drill number) = number
 drilled (Asm source name) = 0

@@ -1,6 +1,6 @@
 use Rattle.std.proofs.Common.{[], length}
 use Rattle.dl_plan.specs.declared.Product.{Product}
-use Rattle.spec_program.specs.Runs.{product_for}
+use Rattle.spec_program.specs.Runs.{is_log, product_for}
 use Rattle.spec_program.specs.Writes.{filled}
 use Rattle.dl_commands.proofs.Planned.{one_written, product_at}
 use Rattle.dl_commands.proofs.running.writes_to.Goals as goal
@@ -12,5 +12,5 @@ write_to-requires c =
 
 pub loop-output-preserved : goal.loop-output-preserved
 loop-output-preserved c es over =
-    one_written c.loop-output.writes.items c.in_ok-write.write c.push.new.self.items (filled (product_for c.args.run.now.setup es)) c.args.outputs.now c.loop-output.output-index
+    one_written c.loop-output.writes.items c.in_ok-write.write c.push.new.self.items (filled (product_for c.args.run.now.setup es) (is_log c.args.run.now.setup)) c.args.outputs.now c.loop-output.output-index
     (record { name = record { ref_ptr = (0, 0); now = [] }; product = Product.Log 0 }) _ c.loop-output-test.true c.in-Ok.ensures.items (c.in_ok-write.ensures es over) (c.loop-output.invariant es over)

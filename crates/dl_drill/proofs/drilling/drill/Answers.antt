@@ -1,4 +1,4 @@
-use Rattle.std.proofs.Common.{◌≡◌, ◌∙◌, ◌++◌, List, [], codes, ap}
+use Rattle.std.proofs.Common.{◌≡◌, ◌∙◌, ◌++◌, List, [], None, codes, ap, refl}
 use Rattle.std.proofs.lemmas.Result.{IfOk-weaker}
 use Rattle.dl_run.specs.Ran.{IsOver}
 use Rattle.spec_protocol.specs.declared.event.Event.{Event}
@@ -11,13 +11,13 @@ use Rattle.spec_program.specs.Lines.{line}
 use Rattle.dl_drill.proofs.drilling.drill.Goals as goal
 
 pub recording-requires-clause-recorded : goal.recording-requires-clause-recorded
-recording-requires-clause-recorded c = (record { version = 1; mode = ModeName.OrderOnly }, ap (λ (s : Setup). (image_at s 0).role) c.in_ok-recorded.ensures.setup)
+recording-requires-clause-recorded c = (record { version = 1; mode = ModeName.OrderOnly; epochs = None }, ap (λ (s : Setup). (image_at s 0).role) c.in_ok-recorded.ensures.setup, refl)
 
 pub replay-requires : goal.replay-requires
 replay-requires c =
     let es = recording_events c.args.number in
-    c.in_ok-log.ensures es (record { version = 1; mode = ModeName.OrderOnly }) c.in_ok-recorded.ensures.over (ap (λ (s : Setup). (image_at s 0).role) c.in_ok-recorded.ensures.setup)
-    ∙ ap (λ (s : Setup). log_of_points s es 0 (record { version = 1; mode = ModeName.OrderOnly })) c.in_ok-recorded.ensures.setup
+    c.in_ok-log.ensures es (record { version = 1; mode = ModeName.OrderOnly; epochs = None }) c.in_ok-recorded.ensures.over (ap (λ (s : Setup). (image_at s 0).role) c.in_ok-recorded.ensures.setup) refl
+    ∙ ap (λ (s : Setup). log_of_points s es 0 (record { version = 1; mode = ModeName.OrderOnly; epochs = None })) c.in_ok-recorded.ensures.setup
 
 pub returns : goal.returns
 returns c =

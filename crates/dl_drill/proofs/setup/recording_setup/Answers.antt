@@ -21,6 +21,6 @@ returns-clause-within c =
       most_depth = omega arith;
       recorded =
           subst (λ (xs : List SphereSetup). All (λ image. IsRecordableIf 64 image.role) xs) (sym c.in_ok-spheres.ensures.value)
-          (one_recordable 64 _ (inl (refl, refl), (omega arith, omega arith)));
+          (one_recordable 64 _ (inl (refl, refl), (omega arith, omega arith), tt));
       begun = c.in_ok-spheres.ensures.begun;
     }

@@ -10,11 +10,11 @@ use Rattle.spec_play.specs.Spawned.{AreNew}
 use Rattle.spec_play.proofs.Threads.{KeepsCommits, serve-keeps}
 use Rattle.dl_kernel.proofs.Rows.{room-more}
 use Rattle.dl_kernel.specs.StepResults.{result_in}
+use Rattle.spec_protocol.specs.promises.Sound.{IsSoundIf}
 use Rattle.dl_replay.specs.Judging.{given_by, step_verdict}
 use Rattle.dl_replay.specs.declared.judging.Done.{Done}
 use Rattle.dl_replay.proofs.Advancing.{some-same}
-use Rattle.dl_replay.specs.Replays.{IsInside}
-use Rattle.dl_replay.proofs.Requests.{serve-inside}
+use Rattle.dl_replay.proofs.Requests.{serve-request}
 use Rattle.dl_replay.proofs.Verdicts.{serial-is, refused-is, step-is}
 use Rattle.dl_replay.proofs.judging.judge_step.Goals as goal
 
@@ -89,8 +89,8 @@ returns-in-Ok-clause-room g c =
 pub returns-in-Ok-clause-request : goal.returns-in-Ok-clause-request
 returns-in-Ok-clause-request g c =
     let s = c.args.state.now in
-    let inside = serve-inside c.threads.result c.args.number s.threads s.request c.thread_at-thread.result s.memory (option_copied c.in-Some-given.given.input) c.requires.request in
-    subst (λ (v : StepResult). IsInside (length s.memory) v.request) (sym c.in_ok-left.ensures.served) inside
+    let sound = serve-request c.threads.result c.args.number s.threads s.request c.thread_at-thread.result s.memory (option_copied c.in-Some-given.given.input) c.requires.request in
+    subst (λ (v : StepResult). IsSoundIf (length s.memory) v.request) (sym c.in_ok-left.ensures.served) sound
 
 pub returns-in-Err-clause-verdict : goal.returns-in-Err-clause-verdict
 returns-in-Err-clause-verdict g c p t a is =

@@ -6,7 +6,7 @@ use Rattle.spec_play.specs.Verdicts.{chunk_verdict}
 use Rattle.spec_protocol.specs.promises.Sound.{IsSoundIf}
 use Rattle.spec_engine.specs.Flights.{AreInside}
 use Rattle.spec_query.specs.Stores.{stores_of}
-use Rattle.dl_kernel.specs.declared.state.State.{State}
+use Rattle.dl_kernel.specs.States.{PlayState as State}
 use Rattle.dl_replay.specs.Following.{Following}
 use Rattle.dl_replay.specs.Replays.{Agrees}
 use Rattle.dl_replay.proofs.Answered.{failed, fails, gone}

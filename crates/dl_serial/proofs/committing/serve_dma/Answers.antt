@@ -3,7 +3,7 @@ use Rattle.dl_entry.specs.declared.Commit.{Commit}
 use Rattle.spec_engine.specs.Flights.{AreInside}
 use Rattle.spec_play.specs.Transfers.{dma_verdict}
 use Rattle.spec_query.specs.Stores.{stores_of}
-use Rattle.dl_kernel.specs.declared.state.State.{State}
+use Rattle.dl_kernel.specs.States.{PlayState as State}
 use Rattle.dl_replay.specs.Following.{Following}
 use Rattle.dl_replay.specs.Replays.{Agrees}
 use Rattle.dl_replay.proofs.Answered.{dma-failed, dma-fails, dma-gone}

@@ -5,7 +5,7 @@ use Rattle.spec_engine.specs.Flights.{AreInside}
 use Rattle.spec_play.specs.Effects.{serial_commit}
 use Rattle.spec_play.specs.Verdicts.{serial_verdict}
 use Rattle.spec_query.specs.Stores.{stores_of}
-use Rattle.dl_kernel.specs.declared.state.State.{State}
+use Rattle.dl_kernel.specs.States.{PlayState as State}
 use Rattle.dl_replay.specs.Following.{Following}
 use Rattle.dl_replay.specs.Left.{Served, served_by}
 use Rattle.dl_replay.specs.Replays.{Agrees}

@@ -3,21 +3,23 @@ use Rattle.std.proofs.lemmas.Bool.{cases_lt}
 use Rattle.std.proofs.lemmas.List.{length-append}
 use Rattle.spec_log.specs.declared.LogParts.{LogParts}
 use Rattle.spec_play.specs.Progress.{position}
-use Rattle.spec_play.specs.States.{State, state_after}
+use Rattle.spec_play.specs.States as play
+use Rattle.spec_play.specs.States.{state_after}
 use Rattle.spec_play.specs.Resuming.{HasDone}
 use Rattle.spec_play.specs.Intervals.{without_commits}
-use Rattle.dl_kernel.specs.States.{state_in}
+use Rattle.dl_kernel.specs.States.{PlayState as State, state_in}
 use Rattle.dl_serial.specs.Playing.{Playing, played_more}
 use Rattle.dl_serial.proofs.Laps.{IsAt, all-kept, at-first, at-next, done-at, each-pushed}
-use Rattle.dl_serial.proofs.Resumed.{first-state}
+use Rattle.dl_serial.proofs.Resumed.{can-go-on, first-state}
 use Rattle.dl_serial.proofs.keeping.keep_in.Goals as goal
 
 pub at-requires-clause-state : goal.at-requires-clause-state
 at-requires-clause-state g c =
     let log = c.args.log.now in
     let i = c.args.image.now in
-    first-state log i.bytes i.entry (state_in c.first-first.result)
-    (c.first-first.ensures log ∙ (λ x. state_after log (c.in_ok-new.ensures x) (c.entry.ensures.value x) 0))
+    can-go-on log (state_in c.first-first.result)
+    (first-state log i.bytes i.entry (state_in c.first-first.result)
+    (c.first-first.ensures log ∙ (λ x. state_after log (c.in_ok-new.ensures x) (c.entry.ensures.value x) 0)))
 
 pub loop-next-init : goal.loop-next-init
 loop-next-init g c =
@@ -75,7 +77,7 @@ returns g c =
     let now = c.loop-next in
     let over : HasDone log i.bytes i.entry (length now.kept.items * c.args.every) → ⊥ =
     λ done.
-    let at = ap (λ (s : State). s.commits) now.invariant.at.state in
+    let at = ap (λ (s : play.State). s.commits) now.invariant.at.state in
     let there = subst (HasDone log i.bytes i.entry) (sym now.invariant.place) done in
     c.loop-next-test.false (c.from.ensures ∙ c.commits.ensures ∙ at ∙ there)
     in

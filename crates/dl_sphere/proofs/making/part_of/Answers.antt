@@ -7,7 +7,7 @@ use Rattle.dl_sphere.specs.Roles.{Replaying}
 use Rattle.dl_sphere.specs.Setups.{IsBegunAs, IsBegunIf, replay_setup, role_setup, setup_of}
 use Rattle.dl_sphere.specs.Starting.{keeping_at, start_as}
 use Rattle.dl_sphere.specs.declared.setup.Role.{Role}
-use Rattle.dl_sphere.proofs.Standing.Start.{follows_start, role_of_replay, start_bounded, start_inside}
+use Rattle.dl_sphere.proofs.Standing.Start.{follows_start, role_of_replay, start_bounded, start_request}
 use Rattle.dl_sphere.proofs.making.part_of.Goals as goal
 
 pub player_of-requires-clause-bounded : goal.player_of-requires-clause-bounded
@@ -25,7 +25,7 @@ player_of-requires-clause-request c =
     let begun : IsBegunIf image (replay_setup r) r.begun = subst (λ (x : Role). IsBegunAs image x) c.in-Replay.is c.requires.begun in
     let role : image.role ≡ IsReplayed (replay_setup r) = ap role_setup c.in-Replay.is in
     let whole : IsImage c.args.s image = c.requires.image (subst (IsRole c.args.s) (sym role) (role_of_replay c.args.s image r c.parts.ensures.good begun)) in
-    start_inside c.args.s image (replay_setup r) (state_in c.args.state.now) whole role start
+    start_request c.args.s image (replay_setup r) (state_in c.args.state.now) whole role start
 
 pub returns-in_ok-player_of-in-Replay-clause-kept : goal.returns-in_ok-player_of-in-Replay-clause-kept
 returns-in_ok-player_of-in-Replay-clause-kept c =

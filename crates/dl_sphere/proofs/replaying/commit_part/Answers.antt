@@ -6,7 +6,7 @@ use Rattle.spec_protocol.specs.machine.Commits.{Diverged, Granted, Piece, is_pie
 use Rattle.spec_protocol.specs.machine.Spheres.{Cursor, Replay}
 use Rattle.spec_protocol.proofs.Logs.Growing.{pushed_length}
 use Rattle.spec_log.proofs.Threads.{log-among}
-use Rattle.dl_kernel.specs.declared.state.State.{State}
+use Rattle.dl_kernel.specs.States.{PlayState as State}
 use Rattle.dl_replay.specs.Judged.{Judged}
 use Rattle.dl_sphere.specs.Inside.{cursor_in, replayed_at}
 use Rattle.dl_sphere.proofs.Replays.Judging.{chunk_is}

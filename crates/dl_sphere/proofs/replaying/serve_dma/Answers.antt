@@ -4,7 +4,7 @@ use Rattle.spec_play.specs.Transfers.{dma_verdict}
 use Rattle.spec_protocol.specs.machine.Commits.{Diverged, Granted, MovedSphere, dma_moved}
 use Rattle.spec_protocol.specs.machine.Spheres.{Replay}
 use Rattle.spec_protocol.proofs.Logs.Growing.{pushed_length}
-use Rattle.dl_kernel.specs.declared.state.State.{State}
+use Rattle.dl_kernel.specs.States.{PlayState as State}
 use Rattle.dl_replay.specs.Judged.{Judged}
 use Rattle.dl_sphere.specs.Inside.{cursor_in, replayed_at}
 use Rattle.dl_sphere.proofs.Replays.Moved.{HasCounted, agreed, dma_counted, dma_goes, dma_left, dma_log, dma_stores, in_state, made_of}

@@ -21,7 +21,7 @@ serve-requires c =
     let n = need s.thread s.memory.now in
     let is = c.as_ref.ensures.value ∙ c.in_ok-input.ensures.left ∙ record_taken c.args.moment d n in
     if_copied (λ r. length r.bytes ≤ 4096) c.as_ref.result
-    (subst (λ o. IfSome o (λ r. length r.bytes ≤ 4096)) (sym is) (few_bytes (taken n d c.args.moment).input (input_taken s.thread s.memory.now d c.args.moment c.size.ensures.memory.bytes c.requires.devices)))
+    (subst (λ o. IfSome o (λ r. length r.bytes ≤ 4096)) (sym is) (few_bytes (taken n d c.args.moment).input (input_taken s.thread s.memory.now d c.args.moment c.size.ensures.memory.bytes c.input_left.ensures.bytes)))
 
 pub note_reserved-requires-clause-input : goal.note_reserved-requires-clause-input
 note_reserved-requires-clause-input c =
@@ -30,7 +30,7 @@ note_reserved-requires-clause-input c =
     let n = need s.thread s.memory.now in
     let is = c.as_ref-2.ensures.value ∙ c.in_ok-input.ensures.left ∙ record_taken c.args.moment d n in
     if_copied IsInput c.as_ref-2.result
-    (subst (λ o. IfSome o IsInput) (sym is) (input_taken s.thread s.memory.now d c.args.moment c.size.ensures.memory.bytes c.requires.devices))
+    (subst (λ o. IfSome o IsInput) (sym is) (input_taken s.thread s.memory.now d c.args.moment c.size.ensures.memory.bytes c.input_left.ensures.bytes))
 
 pub returns-clause-thread : goal.returns-clause-thread
 returns-clause-thread c =

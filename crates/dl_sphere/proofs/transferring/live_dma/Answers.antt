@@ -18,7 +18,7 @@ note-requires-clause-dma c =
     let d = c.args.devices.now in
     let request = c.args.request.now in
     let bytes = taken d request c.input.result.now c.input_left.result c.min-count.result c.input.ensures.value c.input_left.ensures.value c.min-count.ensures in
-    subst AreFewBytes (sym bytes) (dma-bytes d request c.requires.request.few c.requires.devices)
+    subst AreFewBytes (sym bytes) (dma-bytes d request c.requires.request.few c.input_left.ensures.bytes)
 
 pub returns-clause-words : goal.returns-clause-words
 returns-clause-words c =

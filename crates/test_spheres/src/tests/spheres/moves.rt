@@ -1,7 +1,6 @@
 //! What a chunk, a serial step, a DMA and an interrupt make of a sphere.
 ghost use Rattle.std.specs.Prelude.{◌≡◌, Some, IfOk, slice_get};
 ghost use Rattle.spec_protocol.specs.machine.Commits.{is_piece};
-ghost use Rattle.spec_protocol.specs.promises.Sound.{HaveByteInput};
 ghost use Rattle.dl_sphere.specs.Moving.{IsTurnOf, IsTurnOfDma};
 
 use super::{Begins, begin};
@@ -47,7 +46,8 @@ const HANDLES: [u8; 108] = [
 type Line = (Actor, CommitKind, u32);
 
 /// What a sphere of a file has done after a chunk, a serial step, and then the DMA that the step asks for or, unless the
-/// sphere is replayed, an interrupt with the value 5: its commits, its thread's pc and x10, its log, and its end.
+/// sphere is replayed, an interrupt with the value 5; in epochs one begins before each of them if it is due. Its commits, its
+/// thread's pc and x10, its log, and its end.
 #[derive(Clone, Copy)]
 struct Scene {
     file: &'static [u8],
@@ -72,11 +72,14 @@ fn moves_are_done_in_each_role(rt: HostRuntime) -> Result<(), Fail> {
 }
 
 fn moves(rt: &impl Abort, alloc: Global, sphere: &mut Sphere, scene: &Scene) -> Result<(), Fail> {
+    begin_due(rt, alloc, sphere)?;
     let chunk = run(alloc, sphere)?;
     let committed = commit_chunk(rt, sphere, &chunk, scene.closed);
     drop(chunk);
     committed?;
+    begin_due(rt, alloc, sphere)?;
     serial_step(rt, alloc, sphere)?;
+    begin_due(rt, alloc, sphere)?;
     if sphere.request().is_some() {
         dma(rt, alloc, sphere)?;
     } else if !sphere.replays() {
@@ -112,6 +115,16 @@ fn first(sphere: &Sphere) -> Thread
 {
     let _ = sphere.threads().len();
     thread_at(sphere.threads(), 0)
+}
+
+/// An epoch begins if one is due.
+fn begin_due(rt: &impl Abort, alloc: Global, sphere: &mut Sphere) -> Result<(), Fail> {
+    let flights: Flights<PlainSet> = Flights::new(alloc, 1, 1)?;
+    let begun = sphere.begin_epoch(&flights, 0);
+    drop(flights);
+    begun?;
+    assert!(rt; !sphere.due());
+    Ok(())
 }
 
 /// A chunk of thread 0, which has run until it was closed.
@@ -156,8 +169,7 @@ fn commit_chunk<G: Sig>(
     assert!(rt; chunk.n() >= 1);
     assert!(rt; chunk.n() <= limit);
     is_turn(rt, sphere);
-    assert!(rt; sphere.commits().is_empty());
-    assert!(rt; sphere.done() == 0);
+    assert!(rt; sphere.done() == 0 && !sphere.due());
     assert!(rt; sphere.request().is_none());
     let moved = sphere.commit_chunk(0, chunk)?;
     assert!(rt; matches!(&moved, Moved::Granted(words) if words.is_empty()));
@@ -186,9 +198,7 @@ fn is_turn_of_dma(rt: &impl Abort, sphere: &Sphere)
 }
 
 /// Devices whose input is the bytes 41 and 42.
-fn devices(alloc: Global) -> Result<Devices, Fail>
-    ensures { IfOk result HaveByteInput }
-{
+fn devices(alloc: Global) -> Result<Devices, Fail> {
     Ok(Devices::new(alloc, b"AB", 0)?)
 }
 
@@ -197,8 +207,7 @@ fn serial_step(rt: &impl Abort, alloc: Global, sphere: &mut Sphere) -> Result<()
     let mut devices = devices(alloc)?;
     let _ = first(sphere);
     is_turn(rt, sphere);
-    assert!(rt; sphere.commits().len() == 1);
-    assert!(rt; sphere.done() == 1);
+    assert!(rt; sphere.done() == 1 && !sphere.due());
     let moved = sphere.serial_step(0, &mut devices, 5)?;
     assert!(rt; matches!(&moved, Moved::Granted(words) if words.is_empty()));
     Ok(())
@@ -208,10 +217,8 @@ fn serial_step(rt: &impl Abort, alloc: Global, sphere: &mut Sphere) -> Result<()
 fn dma(rt: &impl Abort, alloc: Global, sphere: &mut Sphere) -> Result<(), Fail> {
     let mut devices = devices(alloc)?;
     assert!(rt; sphere.request() == Some(Request { buf: 0x100, len: 4 }));
-    assert!(rt; sphere.memory().size() == 4096);
     is_turn_of_dma(rt, sphere);
-    assert!(rt; sphere.commits().len() == 2);
-    assert!(rt; sphere.done() == 2);
+    assert!(rt; sphere.done() == 2 && !sphere.due());
     let moved = sphere.dma(&mut devices)?;
     assert!(rt; sphere.request().is_none());
     let Moved::Granted(words) = moved else {
@@ -237,7 +244,7 @@ fn raise(rt: &impl Abort, sphere: &mut Sphere) -> Result<(), Fail> {
     let thread = first(sphere);
     assert!(rt; thread.status() == ThreadStatus::Live);
     assert!(rt; thread.handler() != 0 && !thread.mask());
-    assert!(rt; !sphere.replays());
+    assert!(rt; !sphere.replays() && !sphere.due());
     sphere.raise(0, 5)?;
     Ok(())
 }
@@ -258,6 +265,18 @@ const TRANSFERRED: &[u8] = b"\x44\x4C\x52\x4E\x01\x02\x00\x00\x64\x00\x00\x00\x0
 const INTERRUPTED: &[u8] = b"\x44\x4C\x52\x4E\x01\x00\x00\x00\x64\x00\x00\x00\x02\x00\x00\x00\
     \x02\x00\x00\x00\x00\
     \x02\x00\x00\x00\x02\x00\x00\x00\
+    \x01\x00\x00\x00\x00\x02\x00\x00\x00\x05\x00\x00\x00\
+    \x00\x00\x00\x00\x00\x00\x00\x00";
+
+// After the second commit an epoch begins, and the first is given up. The DMA is the third commit of the recording.
+const TRANSFERRED_SINCE: &[u8] = b"\x44\x4C\x52\x4E\x02\x02\x3F\x00\x64\x00\x00\x00\x01\x00\x00\x00\
+    \x00\x00\x00\x00\x00\x00\x00\x00\
+    \x00\x00\x00\x00\x00\x00\x00\x00\
+    \x01\x00\x00\x00\x02\x00\x00\x00\x02\x00\x41\x42";
+
+// The interrupt is raised after it, before any commit.
+const INTERRUPTED_SINCE: &[u8] = b"\x44\x4C\x52\x4E\x02\x00\x3F\x00\x64\x00\x00\x00\x00\x00\x00\x00\
+    \x00\x00\x00\x00\x00\x00\x00\x00\
     \x01\x00\x00\x00\x00\x02\x00\x00\x00\x05\x00\x00\x00\
     \x00\x00\x00\x00\x00\x00\x00\x00";
 
@@ -310,6 +329,26 @@ const SCENES: &[Scene] = &[
         pc: 0x14,
         x10: 5,
         log: Some(INTERRUPTED),
+        end: None,
+    },
+    Scene {
+        file: &TRANSFERS,
+        role: Begins::InEpochs(ModeName::Picolog),
+        closed: How::Serial,
+        commits: &[DMA],
+        pc: 0x10,
+        x10: 0,
+        log: Some(TRANSFERRED_SINCE),
+        end: None,
+    },
+    Scene {
+        file: &HANDLES,
+        role: Begins::InEpochs(ModeName::OrderSize),
+        closed: How::Serial,
+        commits: &[],
+        pc: 0x14,
+        x10: 5,
+        log: Some(INTERRUPTED_SINCE),
         end: None,
     },
     Scene {

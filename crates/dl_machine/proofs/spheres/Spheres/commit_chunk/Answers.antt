@@ -14,6 +14,7 @@ use Rattle.dl_machine.proofs.Rows.Spheres.{row_says, said_of_row, others_left, s
 use Rattle.dl_machine.proofs.spheres.Spheres.commit_chunk.Goals as goal
 use Rattle.spec_play.specs.Progress.{position}
 use Rattle.spec_protocol.specs.machine.Placing.{replays}
+use Rattle.spec_protocol.specs.promises.Kept.{has_due}
 
 pub commit_chunk-requires : goal.commit_chunk-requires
 commit_chunk-requires g c =
@@ -28,7 +29,10 @@ commit_chunk-requires g c =
         said (λ p. c.args.thread < length p.sphere.threads) c.requires.thread,
         (
           said (λ p. CanCommit p.s p.sphere c.args.thread (how_of ch.closed) ch) (can_commit_so _ _ _ ch c.requires.chunk),
-          said (λ p. replays p.sphere.role ≡ false → position p.sphere.progress < 2 ^ 24) c.requires.few,
+          (
+            said (λ p. replays p.sphere.role ≡ false → position p.sphere.progress < 2 ^ 24) c.requires.few,
+            said (λ p. has_due p.sphere ≡ false) c.requires.ready,
+          ),
         ),
       ),
     )

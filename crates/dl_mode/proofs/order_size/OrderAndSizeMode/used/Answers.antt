@@ -12,16 +12,16 @@ loop-thread-preserved c =
     let t = c.loop-thread.thread in
     let p = λ (thread : ℕ). nat_le (length (sizes_of_thread thread c.log.inside.order.items c.log.inside.sizes.items)) (slice_index c.args.done.now thread) in
     let next = range-next t (most_threads - t) (most_threads - (t + 1)) (omega arith) in
-    let yes : p t ≡ true = le-leb _ _ (omega (arith, w.counted t, c.done.ensures, c.count_of.ensures, c.if-done-count_of.false)) in
+    let yes : p t ≡ true = le-leb _ _ (omega (arith, w.counted t, c.count_of-past.ensures, c.done.ensures, c.count_of.ensures, c.if-done-past.false)) in
     c.loop-thread.invariant ∙ (ap (list_all p) next ∙ rw yes refl)
 
-pub returns-then-done-count_of : goal.returns-then-done-count_of
-returns-then-done-count_of c =
+pub returns-then-done-past : goal.returns-then-done-past
+returns-then-done-past c =
     let w = c.log.invariant in
     let t = c.loop-thread.thread in
     let p = λ (thread : ℕ). nat_le (length (sizes_of_thread thread c.log.inside.order.items c.log.inside.sizes.items)) (slice_index c.args.done.now thread) in
     let next = range-next t (most_threads - t) (most_threads - (t + 1)) (omega arith) in
-    let no : p t ≡ false = lt-leb _ _ (omega (arith, w.counted t, c.done.ensures, c.count_of.ensures, c.if-done-count_of.true)) in
+    let no : p t ≡ false = lt-leb _ _ (omega (arith, w.counted t, c.count_of-past.ensures, c.done.ensures, c.count_of.ensures, c.if-done-past.true)) in
     rw (← c.log.view_is) (sym (c.loop-thread.invariant ∙ (ap (list_all p) next ∙ rw no refl)))
 
 pub returns : goal.returns

@@ -22,12 +22,13 @@ invariant_of-self g c =
       elim (either c.note.result c.note.ensures.ok c.note.ensures.err) [
         | inl e ↦ let few : length (insert_tracked new entries) < 2 ^ 32 = rw e at c.note.ensures.few in
             rw (e, insert-map new entries)
-            (IsRecording-interrupt c.self.inside.version g.M.Mode.mode (g.M.Mode.logged c.self.inside.log).kept (map interrupt_of entries) c.self.inside.inputs.inputs c.self.inside.dmas.dmas
+            (IsRecording-interrupt c.self.inside.version g.M.Mode.mode _ _ (g.M.Mode.logged c.self.inside.log).kept (map interrupt_of entries) c.self.inside.inputs.inputs c.self.inside.dmas.dmas
             (interrupt c.args.thread c.args.index c.args.value) i.0 (within, c.ranges.index.fits, c.ranges.value.fits)
             (rw (← insert-map new entries, length-map (insert_tracked new entries) interrupt_of) few))
         | inr e ↦ rw e i.0
       ],
       i.1,
+      i.2,
     )
 
 pub returns-clause-ok : goal.returns-clause-ok

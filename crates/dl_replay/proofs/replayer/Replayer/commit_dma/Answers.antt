@@ -1,10 +1,10 @@
 use Rattle.std.proofs.Common.{◌<◌, length, sym, subst, arith}
 use Rattle.spec_play.specs.Resuming.{IsBounded}
 use Rattle.spec_play.specs.States.{progress_from}
-use Rattle.dl_kernel.specs.declared.state.State.{State}
-use Rattle.dl_kernel.specs.States.{state_in}
+use Rattle.spec_protocol.specs.promises.Sound.{IsSoundIf}
+use Rattle.dl_kernel.specs.States.{PlayState as State, state_in}
 use Rattle.dl_replay.specs.Following.{Following}
-use Rattle.dl_replay.specs.Replays.{IsInside, IsReplaying}
+use Rattle.dl_replay.specs.Replays.{IsReplaying}
 use Rattle.dl_replay.proofs.Advancing.{agrees-self, goes-on}
 use Rattle.dl_replay.proofs.replayer.Replayer.commit_dma.Goals as goal
 
@@ -23,6 +23,6 @@ returns-clause-at g c =
       interrupts = omega (arith, was.interrupts);
     })
     in
-    let inside = subst (λ (x : State). IsInside (length x.memory) x.request) (sym c.go_on.ensures.state) tt in
+    let inside = subst (λ (x : State). IsSoundIf (length x.memory) x.request) (sym c.go_on.ensures.state) tt in
     let went = c.go_on.ensures.replay (progress_from (state_in t)) (agrees-self t) in
     subst (λ (x : Following). IsReplaying x t) (sym went) (goes-on r.log r.interval t c.requires.at.is_log bounded inside)

@@ -1,6 +1,6 @@
 use Rattle.std.proofs.Common.{◌≡◌, Ok, ap, subst, ◌∙◌}
 use Rattle.spec_play.specs.Transfers.{dma_verdict}
-use Rattle.dl_kernel.specs.declared.state.State.{State}
+use Rattle.dl_kernel.specs.States.{PlayState as State}
 use Rattle.dl_replay.specs.Following.{Following}
 use Rattle.dl_replay.specs.Judged.{dma_judged}
 use Rattle.dl_replay.specs.Judging.{transfer_verdict}

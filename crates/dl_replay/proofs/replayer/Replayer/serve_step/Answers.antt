@@ -2,7 +2,7 @@ use Rattle.std.proofs.Common.{◌≡◌, Ok, refl, ap, subst, ◌∙◌}
 use Rattle.spec_play.specs.Effects.{Effect, serial_effect}
 use Rattle.spec_play.specs.Verdicts.{serial_verdict}
 use Rattle.dl_kernel.specs.StepResults.{result_in}
-use Rattle.dl_kernel.specs.declared.state.State.{State}
+use Rattle.dl_kernel.specs.States.{PlayState as State}
 use Rattle.dl_replay.specs.Following.{Following}
 use Rattle.dl_replay.specs.Judged.{judged}
 use Rattle.dl_replay.specs.Judging.{step_verdict}

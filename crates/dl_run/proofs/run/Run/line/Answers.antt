@@ -1,6 +1,6 @@
 use Rattle.std.proofs.Common.{◌∙◌, ap, sym}
 use Rattle.dl_entry.specs.declared.SphereLine.{SphereLine}
-use Rattle.dl_sphere.specs.Setups.{replay_setup, role_setup}
+use Rattle.dl_sphere.specs.Setups.{record_setup, replay_setup, role_setup}
 use Rattle.spec_run.specs.Texts.{replay_line}
 use Rattle.dl_run.proofs.Over.{line-plain, line-recorded, line-replayed}
 use Rattle.dl_run.proofs.run.Run.line.Goals as goal
@@ -13,7 +13,7 @@ returns-in-Plain c es over =
 pub returns-in-Record : goal.returns-in-Record
 returns-in-Record c es over =
     ap SphereLine.Record c.commits-in-Record.ensures
-    ∙ line-recorded es c.args.self.now c.args.sphere (record { version = c.in-Record.version; mode = c.in-Record.mode }) over c.requires
+    ∙ line-recorded es c.args.self.now c.args.sphere (record_setup c.in-Record.version c.in-Record.mode c.in-Record.epochs) over c.requires
     (sym c.role.ensures.value ∙ ap role_setup c.in-Record.is)
 
 pub returns-in-Replay : goal.returns-in-Replay

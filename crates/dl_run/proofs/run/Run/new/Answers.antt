@@ -22,11 +22,13 @@ invariant_of-result c =
     let s = setup_in c.args.setup in
     let es = events_in c.args.schedule.now in
     let run = c.in_ok-drive.ensures s c.in_ok-machine.ensures.run in
-    (es, run_over s es c.drive.new.machine c.finish.new.machine run c.requires.few (c.in_ok-finish.ensures.run s es run))
+    let last = c.in_ok-begin_epochs.ensures in
+    (es, run_over s es c.drive.new.machine c.finish.new.machine c.begin_epochs.new.self run c.requires.few (c.in_ok-finish.ensures.run s es run) last.run last.begun)
 
 pub returns-clause-over : goal.returns-clause-over
 returns-clause-over c =
     let s = setup_in c.args.setup in
     let es = events_in c.args.schedule.now in
     let run = c.in_ok-drive.ensures s c.in_ok-machine.ensures.run in
-    run_over s es c.drive.new.machine c.finish.new.machine run c.requires.few (c.in_ok-finish.ensures.run s es run)
+    let last = c.in_ok-begin_epochs.ensures in
+    run_over s es c.drive.new.machine c.finish.new.machine c.begin_epochs.new.self run c.requires.few (c.in_ok-finish.ensures.run s es run) last.run last.begun

@@ -2,19 +2,17 @@ use Rattle.std.proofs.Common.{List, length, sym, ap, ◌∙◌, arith}
 use Rattle.dl_entry.specs.declared.Commit.{Commit}
 use Rattle.spec_log.specs.declared.LogParts.{LogParts}
 use Rattle.spec_play.specs.States.{progress_from}
-use Rattle.spec_play.proofs.Bounds.{states_are_bounded}
 use Rattle.dl_wbuf.specs.Buffers.{Words}
 use Rattle.dl_kernel.specs.States.{state_in}
 use Rattle.dl_replay.specs.Following.{Following}
-use Rattle.dl_serial.proofs.Requests.{request-inside, state-request}
 use Rattle.dl_serial.proofs.Settling.{named}
 use Rattle.dl_serial.proofs.player.Player.at.Goals as goal
 
 pub at-requires-clause-state : goal.at-requires-clause-state
-at-requires-clause-state g c = states_are_bounded c.args.log.now (state_in c.args.state) c.requires.state
+at-requires-clause-state g c = c.requires.state.bounded
 
 pub at-requires-clause-request : goal.at-requires-clause-request
-at-requires-clause-request g c = request-inside _ _ (state-request c.args.log.now (state_in c.args.state) c.requires.state)
+at-requires-clause-request g c = c.requires.state.request
 
 pub invariant_of-result : goal.invariant_of-result
 invariant_of-result g c =
@@ -28,7 +26,7 @@ invariant_of-result g c =
         whole = ap (λ (r : Following). r.total) begun;
         turn = λ k e. named log (progress_from s) s.used s.threads k (sym (ap (λ (r : Following). r.now) begun) ∙ e);
         counted = omega (arith, ap (λ (cs : List Commit). length cs) c.new-2.ensures.items);
-        request = state-request log s c.requires.state;
+        request = c.requires.state.request;
         room = ap (λ (w : Words). w.capacity) c.in_ok-words.ensures ∙ ap (λ (l : LogParts). l.s) parts;
       },
       ap (λ (l : LogParts). l.count) parts,

@@ -6,7 +6,7 @@ use Rattle.spec_isa.specs.declared.thread.Parts.{Parts}
 use Rattle.spec_play.specs.Progress.{Progress}
 use Rattle.spec_play.specs.Verdicts.{serial_verdict}
 use Rattle.dl_kernel.specs.declared.serving.StepResult.{StepResult}
-use Rattle.dl_kernel.specs.declared.state.State.{State}
+use Rattle.dl_kernel.specs.States.{PlayState as State}
 use Rattle.dl_replay.specs.Following.{Following}
 use Rattle.dl_replay.specs.Judged.{judged}
 use Rattle.dl_replay.specs.Left.{served_by, served_left, verdict_left}

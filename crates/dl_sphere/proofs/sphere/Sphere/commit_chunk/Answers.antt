@@ -45,6 +45,7 @@ invariant_of-self-2 g c =
           ∙ ap (λ (v : Parts). v.commits + 1) c.state.ensures
           ∙ ap (λ n. n + 1) (c.requires.1.1.0.commits t start);
       new = tt;
+      first = refl;
       position_ =
           let count : length c.push_reserved.new.self.items ≡ suc (length a.past.commits.items) = ap length (c.push_reserved.ensures.items ∙ ap (λ xs. xs ++ c.in_ok-commit.commit ∷ []) c.in_ok-reserve.ensures.items) ∙ pushed_length a.past.commits.items commit (length a.past.commits.items) refl in
           omega arith;
@@ -57,6 +58,7 @@ invariant_of-self-2 g c =
     record {
       size = h.size;
       counted = omega (arith, was, more);
+      request = h.request;
       kept = kept_live a.s past (keeping_of c.note.new.part)
           (subst (IsLiveOf a.s q) (sym c.in_ok-note.ensures.noted)
           (commits_stand (sphere_in a) q k t u [] commit d a.s c.is_short.result None (keeping_of a.part)

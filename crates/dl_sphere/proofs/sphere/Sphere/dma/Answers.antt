@@ -1,4 +1,4 @@
-use Rattle.std.proofs.Common.{◌≡◌, ◌+◌, ◌∷◌, ◌++◌, [], false, length, Option, Some, None, refl, sym, ap, ◌∙◌, subst, arith, suc}
+use Rattle.std.proofs.Common.{◌≡◌, ◌^◌, ◌+◌, ◌∷◌, ◌++◌, [], false, length, Option, Some, None, refl, sym, ap, ◌∙◌, subst, arith, suc}
 use Rattle.std.specs.Prelude.{IsSome}
 use Rattle.std.proofs.lemmas.Bool.{true≢false}
 use Rattle.dl_entry.specs.declared.Request.{Request}
@@ -7,6 +7,7 @@ use Rattle.spec_kernel.specs.Answers.{dma_bytes}
 use Rattle.spec_play.specs.Effects.{dma_commit}
 use Rattle.spec_protocol.specs.machine.Commits.{Granted, MovedSphere, dma_moved}
 use Rattle.spec_protocol.specs.machine.Spheres.{Sphere}
+use Rattle.spec_protocol.specs.promises.Sound.{IsSoundIf}
 use Rattle.spec_protocol.proofs.Logs.Growing.{pushed_length}
 use Rattle.dl_sphere.specs.declared.part.Part.{Part}
 use Rattle.dl_sphere.specs.Inside.{sphere_in}
@@ -17,7 +18,7 @@ use Rattle.dl_sphere.specs.SizedSpheres.{SizedSphere}
 use Rattle.dl_sphere.specs.Setups.{standard_in}
 use Rattle.dl_sphere.proofs.Standing.Sizes.{noted_size}
 use Rattle.dl_sphere.proofs.Standing.Moves.{transferred_stand}
-use Rattle.dl_sphere.proofs.Replays.Limits.{alone, kept_live, replayed, stands_replayed, live_part}
+use Rattle.dl_sphere.proofs.Replays.Limits.{sound-within, alone, kept_live, replayed, stands_replayed, live_part}
 use Rattle.dl_sphere.proofs.Live.Moved.{none_moved, dma_is_moved}
 use Rattle.dl_sphere.proofs.sphere.Sphere.dma.Goals as goal
 
@@ -32,6 +33,11 @@ unreachable-requires c =
     ∙ none_moved a.past.first a.past.state.memory a.past.state.used a.past.state.threads a.past.commits.items a.past.state.last d (keeping_of a.part) live
     in
     absurd (true≢false (sym (subst (λ (x : Option MovedSphere). IsSome x) none some)))
+
+pub live_dma-requires-clause-request : goal.live_dma-requires-clause-request
+live_dma-requires-clause-request c =
+    let a = c.self.inside in
+    subst (IsSoundIf (2 ^ 24)) c.in-Some.is (sound-within (length a.past.state.memory) (2 ^ 24) a.past.state.request c.size.ensures.memory.size.most c.self.invariant.request)
 
 pub invariant_of-self-2 : goal.invariant_of-self-2
 invariant_of-self-2 c =
@@ -48,9 +54,10 @@ invariant_of-self-2 c =
     record {
       size = c.self.invariant.size;
       counted = omega (arith, was, count);
+      request = tt;
       kept = kept_live a.s past (keeping_of c.live_dma.new.part)
           (subst (IsLiveOf a.s q) (sym e.noted)
-          (transferred_stand (sphere_in a) q a.s (dma_bytes c.args.devices.now request) (keeping_of a.part) refl (omega (arith, count)) (alone a live c.self.invariant)));
+          (transferred_stand (sphere_in a) q a.s (dma_bytes c.args.devices.now request) (keeping_of a.part) refl refl (omega (arith, count)) (alone a live c.self.invariant)));
     }
 
 pub returns : goal.returns

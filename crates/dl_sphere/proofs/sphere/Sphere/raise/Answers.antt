@@ -11,6 +11,8 @@ use Rattle.dl_sphere.specs.Pasts.{sphere_with}
 use Rattle.dl_sphere.specs.SizedSpheres.{SizedSphere}
 use Rattle.dl_sphere.specs.Setups.{standard_in}
 use Rattle.dl_sphere.proofs.Standing.Sizes.{raised_size}
+use Rattle.spec_protocol.specs.promises.Kept.{has_due}
+use Rattle.dl_sphere.proofs.Begins.Due.{ready}
 use Rattle.dl_sphere.proofs.Standing.Moves.{can_raise, raised_stand, raised_role}
 use Rattle.dl_sphere.proofs.Replays.Limits.{alone, kept_live, live_role}
 use Rattle.dl_sphere.proofs.sphere.Sphere.raise.Goals as goal
@@ -25,7 +27,8 @@ note_interrupt-requires c =
     in
     subst (λ n. CanRaise k n (keeping_of a.part)) (sym c.commits.ensures)
     (can_raise (sphere_in a) k t a.s (keeping_of a.part) c.thread_at-found.ensures.thread (c.requires.there t start)
-    (alone a (live_role a.past.state.used (keeping_of a.part) (ap (λ (v : SizedSphere). replays v.sphere.role) c.self.view_is ∙ c.requires.recorded)) c.self.invariant))
+    (alone a (live_role a.past.state.used (keeping_of a.part) (ap (λ (v : SizedSphere). replays v.sphere.role) c.self.view_is ∙ c.requires.recorded)) c.self.invariant)
+    (ready a.past a.past.state.used (keeping_of a.part) (ap (λ (v : SizedSphere). has_due v.sphere) c.self.view_is ∙ c.requires.ready)))
 
 pub invariant_of-self-2 : goal.invariant_of-self-2
 invariant_of-self-2 c =
@@ -42,6 +45,7 @@ invariant_of-self-2 c =
     record {
       size = c.self.invariant.size;
       counted = c.self.invariant.counted;
+      request = c.self.invariant.request;
       kept = kept_live a.s past (keeping_of c.note_interrupt.new.part)
           (subst (IsLiveOf a.s q) (sym noted)
           (raised_stand (sphere_in a) q k c.args.value t a.s (keeping_of a.part) c.thread_at-found.ensures.thread (c.requires.there t start)

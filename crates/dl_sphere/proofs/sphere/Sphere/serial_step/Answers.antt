@@ -14,9 +14,11 @@ use Rattle.spec_play.specs.Effects.{counted, serial_commit}
 use Rattle.spec_protocol.specs.machine.Spheres.{Sphere, Role}
 use Rattle.dl_sphere.specs.declared.part.Part.{Part}
 use Rattle.spec_protocol.specs.machine.Commits.{Granted, MovedSphere, serial_moved}
+use Rattle.spec_protocol.specs.promises.Sound.{IsSoundIf}
 use Rattle.spec_protocol.proofs.Logs.Growing.{commits_if, pushed_length}
 use Rattle.spec_protocol.proofs.Moves.Threads.{serve-keeps}
 use Rattle.dl_kernel.specs.Calls.{spawned_list}
+use Rattle.dl_replay.proofs.Requests.{serve-request}
 use Rattle.dl_sphere.specs.Roles.{Keeping, keeping_of, role_in, role_of, most_of, with_noted, IsLiveOf}
 use Rattle.dl_sphere.specs.Inside.{sphere_in}
 use Rattle.dl_sphere.specs.Pasts.{sphere_with}
@@ -69,6 +71,7 @@ invariant_of-self-2 c =
           ∙ ap (λ (x : Parts). x.commits + 1) c.in_ok-left.ensures.thread
           ∙ ap (λ n. n + 1) keeps.commits;
       new = keeps.fresh;
+      first = refl;
       position_ =
           let count : length c.push_reserved.new.self.items ≡ suc (length a.past.commits.items) = ap length commits ∙ pushed_length a.past.commits.items commit (length a.past.commits.items) refl in
           omega arith;
@@ -82,6 +85,9 @@ invariant_of-self-2 c =
     record {
       size = h.size;
       counted = omega (arith, was, more);
+      request =
+          subst (IsSoundIf (length a.past.state.memory)) (sym c.in_ok-left.ensures.request)
+          (serve-request (most_of (keeping_of a.part)) k a.past.state.threads a.past.state.request t a.past.state.memory g.input h.request);
       kept = kept_live a.s past (keeping_of c.live_step.new.part)
           (subst (IsLiveOf a.s q) (sym c.in_ok-left.ensures.noted)
           (commits_stand (sphere_in a) q k t u v.spawned commit d a.s false g.input (keeping_of a.part)

@@ -14,10 +14,10 @@ returns c =
     let start = c.start-start.result.now in
     let from : State = state_after t.log t.memory t.entry start.commits in
     let log : c.self.inside.log ≡ t.log = ap (λ (v : Trail). v.log) c.self.view_is in
-    let state : state_in c.in_ok-state.field-0 ≡ from = c.in_ok-state.ensures ∙ c.start-start.ensures.state in
+    let state : state_in c.in_ok-resumed.field-0 ≡ from = ap state_in c.in_ok-resumed.ensures ∙ c.start-start.ensures.state in
     let walked : walked_in c.in_ok-walked.walked ≡ walked_from t.log from c.args.j =
     c.in_ok-walked.ensures.walked ∙ (λ x. walked_from (log x) (state x) c.args.j)
     in
-    let number : c.commits.result ≡ from.commits = c.commits.ensures ∙ ap (λ (s : State). s.commits) c.start-start.ensures.state in
+    let number : start.commits ≡ from.commits = ap (λ (s : State). s.commits) c.start-start.ensures.state in
     let same = (λ x. slice_of i (drop (i - number x) (walked x).commits) (walked x)) ∙ slices_resume t.log t.memory t.entry start.commits i c.args.j c.start-start.ensures.done c.start-start.ensures.before c.requires in
     subst (λ (s : Slice). IfOk c.text_of.result (λ text. slice_in text ≡ s)) same c.text_of.ensures

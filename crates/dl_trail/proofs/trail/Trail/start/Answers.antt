@@ -1,6 +1,7 @@
 use Rattle.std.proofs.Common.{◌≡◌, ◌<◌, length, sym, ap, ◌∙◌, subst, arith}
 use Rattle.spec_play.specs.States.{state_after}
 use Rattle.spec_play.specs.Resuming.{HasDone}
+use Rattle.dl_kernel.specs.States.{state_in}
 use Rattle.dl_trail.specs.Trails.{Trail}
 use Rattle.dl_trail.proofs.Places.{commits-kept, found-there, place-before, some-kept}
 use Rattle.dl_trail.proofs.trail.Trail.start.Goals as goal
@@ -49,5 +50,5 @@ returns-clause-state c =
     let below : n < length t.kept.items = omega (arith, some, c.len-last.ensures, c.min-index.ensures, t.kept.ok.0) in
     let there = found-there t.kept.items n s below c.index.ensures in
     let is = commits-kept _ _ _ _ t.kept.items are n s there in
-    subst (λ (v : Trail). s ≡ state_after v.log v.memory v.entry s.commits) c.self.view_is
+    subst (λ (v : Trail). state_in s ≡ state_after v.log v.memory v.entry s.commits) c.self.view_is
     (are.each n s there ∙ ap (state_after _ _ _) (sym is))

@@ -2,9 +2,8 @@ use Rattle.std.proofs.Common.{◌≡◌, sym, ap, subst, ◌∙◌, length}
 use Rattle.spec_play.specs.Resuming.{IsBounded}
 use Rattle.spec_play.specs.States as play
 use Rattle.spec_play.proofs.Bounds.{after-bounded}
-use Rattle.dl_kernel.specs.States.{state_in}
-use Rattle.dl_replay.specs.Replays.{IsInside}
-use Rattle.dl_kernel.specs.declared.state.State.{State}
+use Rattle.spec_protocol.specs.promises.Sound.{IsSoundIf}
+use Rattle.dl_kernel.specs.States.{PlayState as State, state_in}
 use Rattle.test_spheres.specs.Replaying.{IsFirst}
 use Rattle.test_spheres.proofs.tests.replaying.ended_in.Goals as goal
 
@@ -19,7 +18,7 @@ pub at-requires-clause-request : goal.at-requires-clause-request
 at-requires-clause-request g c =
     let s = c.in_ok-state.state in
     let first : IsFirst s = subst IsFirst (sym c.in_ok-state.ensures) c.requires.start in
-    subst (IsInside (length s.memory)) (sym (ap (λ (x : play.State). x.request) (first c.args.log.now))) tt
+    subst (IsSoundIf (length s.memory)) (sym (ap (λ (x : play.State). x.request) (first c.args.log.now))) tt
 
 pub ask-requires-clause-threads : goal.ask-requires-clause-threads
 ask-requires-clause-threads g c =

@@ -1,0 +1,148 @@
+use Rattle.std.proofs.Common.{◌≡◌, ◌<◌, ◌≤◌, List, [], length, sym, ap, ◌∙◌, subst, arith}
+use Rattle.dl_entry.specs.declared.Actor.{Actor}
+use Rattle.spec_isa.specs.declared.thread.Parts.{Parts}
+use Rattle.spec_isa.specs.Words.{Stored, holds}
+use Rattle.spec_isa.specs.Runs.{Run, run}
+use Rattle.spec_play.specs.Plays.{settled}
+use Rattle.spec_play.specs.Verdicts.{chunk_verdict, serial_verdict}
+use Rattle.spec_play.specs.Turns.{Turn}
+use Rattle.spec_protocol.specs.machine.Spheres.{whole_limit}
+use Rattle.spec_protocol.proofs.Moves.Threads.{run-keeps}
+use Rattle.spec_protocol.proofs.Sound.Limits.{whole-positive}
+use Rattle.spec_query.specs.Stores.{words_gone}
+use Rattle.spec_engine.specs.Flights.{AreInside}
+use Rattle.spec_strata.specs.Footprints.{looks}
+use Rattle.dl_replay.specs.Following.{cursor_of}
+use Rattle.dl_serial.specs.declared.chunk.Chunk.{Chunk}
+use Rattle.dl_serial.specs.declared.footprint.Footprint.{Footprint}
+use Rattle.dl_serial.specs.Playing.{Playing, HasLooked, HaveCome, played_in, with_stores}
+use Rattle.dl_serial.proofs.Runs.{chunk-inside}
+use Rattle.dl_serial.proofs.Sizes.{whole-is}
+use Rattle.dl_serial.proofs.WholeLooks.{ok-of, has-looked}
+use Rattle.dl_serial.proofs.Turning.{chunk-next, step-next, thread_stores, seen-played, on-ok}
+use Rattle.dl_serial.proofs.player.Player.look_thread.Goals as goal
+
+pub look-requires-clause-least : goal.look-requires-clause-least
+look-requires-clause-least g c =
+    let r = c.self.inside.replayer in
+    let s = c.self.inside.sphere.past.state in
+    let k = c.args.number in
+    let t = c.thread_at-thread.result in
+    let h = c.self.invariant.0 in
+    let some : 0 < whole_limit r.log k t.commits = whole-positive r.log k t.commits h.replaying.is_log in
+    let size : c.limit-limit.result ≡ whole_limit r.log k t.commits =
+    c.limit-limit.ensures.of_thread 0 s.used [] t (sym c.commits.ensures) ∙ whole-is 0 (cursor_of r s.used []) k t h.whole some
+    in
+    omega (arith, some, size)
+
+pub returns-then-chunk-eq0-clause-played : goal.returns-then-chunk-eq0-clause-played
+returns-then-chunk-eq0-clause-played g c =
+    let r = c.self.inside.replayer in
+    let s = c.self.inside.sphere in
+    let log = r.log in
+    let k = c.args.number in
+    let t = c.thread_at-thread.result in
+    let there = c.thread_at-thread.ensures.thread in
+    let y = played_in r s.past in
+    let v = serial_verdict log y.progress y.used k y.threads t y.memory in
+    let turn : y.now ≡ Turn k = ap (λ (p : Playing). p.played.now) c.self.view_is ∙ c.requires in
+    let same : c.new-chunk.result.thread ≡ t = ap (λ (x : Chunk). x.thread) c.new-chunk.ensures in
+    let serial = rw same at (c.in_ok-look.ensures.ran.serial c.if-chunk-eq0.true) in
+    let new = c.serve_step.new in
+    on-ok c.serve_step.result (HaveCome log (settled log y k v) (with_stores s.stores.items y (Actor.Thread k) (words_gone v)) new.replayer new.sphere) _
+    (seen-played log y (settled log y k v) s.stores.items (thread_stores y k v) new.replayer new.sphere c.args.self.now (step-next log y k t turn there serial) c.self.view_is)
+    (c.serve_step.ensures.came t there)
+
+pub commit_chunk-requires-clause-few : goal.commit_chunk-requires-clause-few
+commit_chunk-requires-clause-few g c =
+    let s = c.self.inside.sphere.past.state in
+    let t = c.thread_at-thread.result in
+    let few : t.commits ≤ s.commits = c.self.invariant.0.replaying.bounded.threads c.args.number t c.thread_at-thread.ensures.thread in
+    let kept : c.look.new.self.thread.commits ≡ t.commits =
+    ap (λ (x : Chunk). x.thread.commits) c.in_ok-look.ensures.ran.chunk
+    ∙ run-keeps s.memory c.new-chunk.result.thread c.limit-limit.result
+    ∙ ap (λ (x : Chunk). x.thread.commits) c.new-chunk.ensures
+    in
+    omega (arith, few, kept)
+
+pub commit_chunk-requires-clause-inside : goal.commit_chunk-requires-clause-inside
+commit_chunk-requires-clause-inside g c =
+    chunk-inside c.self.inside.sphere.past.state.memory c.new-chunk.result.thread c.limit-limit.result c.look.new.self c.look.new.words.words c.in_ok-look.ensures.ran
+
+pub returns-clause-played : goal.returns-clause-played
+returns-clause-played g c =
+    let r = c.self.inside.replayer in
+    let s = c.self.inside.sphere in
+    let log = r.log in
+    let k = c.args.number in
+    let t = c.thread_at-thread.result in
+    let there = c.thread_at-thread.ensures.thread in
+    let h = c.self.invariant.0 in
+    let y = played_in r s.past in
+    let m = s.past.state.memory in
+    let limit = c.limit-limit.result in
+    let size = c.look.new.self.n in
+    let same : c.new-chunk.result.thread ≡ t = ap (λ (x : Chunk). x.thread) c.new-chunk.ensures in
+    let ran = rw same at c.in_ok-look.ensures.ran in
+    let ran_ : Run = run m t limit in
+    let v = chunk_verdict log y.progress y.used k ran_ in
+    let turn : y.now ≡ Turn k = ap (λ (p : Playing). p.played.now) c.self.view_is ∙ c.requires in
+    let whole : limit ≡ whole_limit log k t.commits =
+    c.limit-limit.ensures.of_thread 0 s.past.state.used [] t (sym c.commits.ensures) ∙ whole-is 0 (cursor_of r s.past.state.used []) k t h.whole (whole-positive log k t.commits h.replaying.is_log)
+    in
+    let some : 0 < size = (let ne = c.if-chunk-eq0.false in omega arith) in
+    let full : (run m t size).n ≡ size = sym (ap (λ (x : Chunk). x.n) ran.chunk ∙ ap (λ (x : Run). x.n) ran.ran) in
+    let new = c.commit_chunk.new in
+    on-ok c.commit_chunk.result (HaveCome log (settled log y k v) (with_stores s.stores.items y (Actor.Thread k) (words_gone v)) new.replayer new.sphere) _
+    (seen-played log y (settled log y k v) s.stores.items (thread_stores y k v) new.replayer new.sphere c.args.self.now (chunk-next log y k t size limit turn there whole some ran.ran full) c.self.view_is)
+    (c.commit_chunk.ensures.came ran_ ran.chunk ran.words_stored)
+
+pub returns-clause-footprint : goal.returns-clause-footprint
+returns-clause-footprint g c =
+    let r = c.self.inside.replayer in
+    let s = c.self.inside.sphere in
+    let log = r.log in
+    let k = c.args.number in
+    let t = c.thread_at-thread.result in
+    let h = c.self.invariant.0 in
+    let y = played_in r s.past in
+    let m = s.past.state.memory in
+    let limit = c.limit-limit.result in
+    let f : Footprint = record { looked = c.look.new.looked; stored = c.note_words.new.numbers } in
+    let same : c.new-chunk.result.thread ≡ t = ap (λ (x : Chunk). x.thread) c.new-chunk.ensures in
+    let ran = rw same at c.in_ok-look.ensures.ran in
+    ok-of c.commit_chunk.result (HasLooked c.args.self.now f)
+    (has-looked log y s.stores.items c.args.self.now k t limit f c.self.view_is
+    (record {
+      turn = ap (λ (p : Playing). p.played.now) c.self.view_is ∙ c.requires;
+      there = c.thread_at-thread.ensures.thread;
+      whole = c.limit-limit.ensures.of_thread 0 s.past.state.used [] t (sym c.commits.ensures) ∙ whole-is 0 (cursor_of r s.past.state.used []) k t h.whole (whole-positive log k t.commits h.replaying.is_log);
+      looked = λ a. c.in_ok-look.ensures.looked a ∙ ap (λ (u : Parts). looks m u limit a) same;
+      stored = λ a. c.in_ok-note_words.ensures a ∙ ap (λ (ws : List Stored). holds ws a) ran.words_stored;
+      inside = subst (AreInside (length m)) ran.words_stored (chunk-inside m t limit c.look.new.self c.look.new.words.words ran);
+    }))
+
+pub returns-then-chunk-eq0-clause-footprint : goal.returns-then-chunk-eq0-clause-footprint
+returns-then-chunk-eq0-clause-footprint g c =
+    let r = c.self.inside.replayer in
+    let s = c.self.inside.sphere in
+    let log = r.log in
+    let k = c.args.number in
+    let t = c.thread_at-thread.result in
+    let h = c.self.invariant.0 in
+    let y = played_in r s.past in
+    let m = s.past.state.memory in
+    let limit = c.limit-limit.result in
+    let f : Footprint = record { looked = c.look.new.looked; stored = c.note_words.new.numbers } in
+    let same : c.new-chunk.result.thread ≡ t = ap (λ (x : Chunk). x.thread) c.new-chunk.ensures in
+    let ran = rw same at c.in_ok-look.ensures.ran in
+    ok-of c.serve_step.result (HasLooked c.args.self.now f)
+    (has-looked log y s.stores.items c.args.self.now k t limit f c.self.view_is
+    (record {
+      turn = ap (λ (p : Playing). p.played.now) c.self.view_is ∙ c.requires;
+      there = c.thread_at-thread.ensures.thread;
+      whole = c.limit-limit.ensures.of_thread 0 s.past.state.used [] t (sym c.commits.ensures) ∙ whole-is 0 (cursor_of r s.past.state.used []) k t h.whole (whole-positive log k t.commits h.replaying.is_log);
+      looked = λ a. c.in_ok-look.ensures.looked a ∙ ap (λ (u : Parts). looks m u limit a) same;
+      stored = λ a. c.in_ok-note_words.ensures a ∙ ap (λ (ws : List Stored). holds ws a) ran.words_stored;
+      inside = subst (AreInside (length m)) ran.words_stored (chunk-inside m t limit c.look.new.self c.look.new.words.words ran);
+    }))

@@ -1,0 +1,9 @@
+-- What recordings in epochs have of earlier commits makes no difference to events.
+pub mod Forgetting
+pub mod Events
+pub mod Good
+pub mod Beginning
+pub mod Sound
+pub mod Shown
+pub mod All
+pub mod Whole
