@@ -68,8 +68,13 @@ def recorded(mode, version=1):
     return f'role = "record"\nmode = "{mode}"\nversion = {version}\nlog = "a.log"\naccount = "a.txt"\n'
 
 
+def recorded_in_epochs(mode, epoch, keep):
+    return recorded(mode, 2).replace("a.log", "a.tail") + f"epoch = {epoch}\nkeep = {keep}\n"
+
+
 REPLAYED = 'role = "replay"\nlog = "a.log"\naccount = "b.txt"\n'
 RECORDING = ["a.log", "a.txt", "r.txt"]
+RECORDING_IN_EPOCHS = ["a.tail", "a.txt", "r.txt"]
 
 # addi x17, x0, 0; addi x10, x0, 7; ecall: a chunk of two, and an exit
 EXIT = image(0x00000893, 0x00700513, 0x00000073)
@@ -114,6 +119,11 @@ RACE = Machine(
 # the same in version 2 of logs, whose order and sizes have other entries
 WIDE = Machine("version-2", {**RACE.files, "plan.toml": plan(recorded("order-size", 2), cores=2)}, RECORDING)
 
+# and in epochs of two commits, of which the last two are kept
+EPOCHS = Machine(
+    "epochs", {**RACE.files, "plan.toml": plan(recorded_in_epochs("order-size", 2, 2), cores=2)}, RECORDING_IN_EPOCHS,
+)
+
 # a store, LR and SC, and an exit; with a buffer of one word the chunk of five is replayed in two pieces
 PIECES = Machine(
     "replayed-in-pieces",
@@ -149,6 +159,14 @@ DMA = Machine(
     spared=1,
 )
 
+# the same in epochs of one commit, of which the last four are kept: the request is outstanding where they begin
+DMA_EPOCHS = Machine(
+    "dma-in-epochs",
+    {**DMA.files, "plan.toml": plan(recorded_in_epochs("picolog", 1, 4), top='input = "in"\n')},
+    RECORDING_IN_EPOCHS,
+    spared=1,
+)
+
 # a handler is set, the thread is interrupted, and a second interrupt is masked
 INTERRUPT = Machine(
     "interrupt",
@@ -158,6 +176,11 @@ INTERRUPT = Machine(
         "s.txt": script(*STEPS, *CALL, "raise 0 0 5", "raise 0 0 6"),
     },
     RECORDING,
+)
+
+# the same in epochs of two commits, of which the last is kept: the interrupt comes right after the state where it begins
+INTERRUPT_EPOCHS = Machine(
+    "interrupt-in-epochs", {**INTERRUPT.files, "plan.toml": plan(recorded_in_epochs("order-only", 2, 1))}, RECORDING_IN_EPOCHS,
 )
 
 # loads of the moment and of an input byte, which is put on the console; then a load of a byte there, which faults
@@ -213,6 +236,36 @@ PIPE = Machine(
     spared=1,
 )
 
+
+
+def tail(request, registers, handler, code, log):
+    """A tail of one thread that has committed twice, with a request, or (0, 0) for none, and its code alone in its memory."""
+    header = struct.pack("<4sBBHIBBHIII", b"DLRT", 1, 0, 1, 2, 0, request != (0, 0), 0, *request, 4096)
+    words = [registers.get(number, 0) for number in range(1, 32)]
+    thread = struct.pack("<BBHI6I31I", 0, 0, 0, 0, registers["pc"], handler, 0, 0, 0, 2, *words)
+    return header + thread + struct.pack("<II", 1, 0) + code.ljust(32, b"\0") + log
+
+
+# those of DMA_EPOCHS and INTERRUPT_EPOCHS, and the first with a byte more than the request has room for
+REGISTERS = {"pc": 16, 11: 4, 17: 8}
+DMA_TAIL, LONG_DMA_TAIL = (
+    tail((256, 4), REGISTERS, 0, DMA.files["a.elf"][84:], struct.pack("<4sBBHII", b"DLRN", 2, 2, 63, 100, 3) + bytes(16) + dma)
+    for dma in (struct.pack("<IIH", 1, 2, 2) + b"AB", struct.pack("<IIH", 1, 2, 5) + b"ABCDE")
+)
+INTERRUPT_TAIL = tail(
+    (0, 0), {"pc": 12, 17: 6}, 20, INTERRUPT.files["a.elf"][84:],
+    struct.pack("<4sBBHII", b"DLRN", 2, 1, 63, 100, 0) + struct.pack("<IIIBIIII", 0, 0, 1, 0, 2, 5, 0, 0),
+)
+EIGHT_TAIL = (EXAMPLES / "last-part" / "expected" / "a.tail").read_bytes()
+
+
+def played(name, data, status=0, spared=0):
+    return Machine(name, {"a.tail": data}, [], ["tail", "a.tail"], status, spared=spared)
+
+
+SHORT_TAILS = [played("tail", DMA_TAIL, spared=1), played("tail-interrupted", INTERRUPT_TAIL)]
+TAILS = [*SHORT_TAILS, played("tail-of-eight", EIGHT_TAIL), played("tail-diverged", LONG_DMA_TAIL, 1, spared=1)]
+
 SOURCE = (EXAMPLES / "two-threads" / "a.s").read_bytes()
 INSPECT = Machine("inspect", {"a.log": LOG}, [], ["inspect", "a.log"])
 WALK = Machine("walk", {"a.elf": EXIT, "a.log": LOG}, [], ["walk", "a.elf", "4096", "a.log"])
@@ -237,8 +290,9 @@ MIGRATE = Machine("migrate", {"a.log": FULL_LOG}, ["b.log"], ["migrate", "a.log"
 MIGRATE_WIDE = Machine("migrate-version-2", {"a.log": WIDE_LOG}, ["b.log"], ["migrate", "a.log", "b.log"])
 
 MACHINES = [
-    THREE, TWO_CHUNKS, RACE, WIDE, PIECES, WIDE_PIECES, DMA, INTERRUPT, CONSOLE, DIVERGED, PART, LATE, PIPE, INSPECT,
-    INSPECT_WIDE, WALK, WATCH, WHO, WHEN, INTERVAL, LATE_INTERVAL, MIGRATE, MIGRATE_WIDE, MAKE, ASM,
+    THREE, TWO_CHUNKS, RACE, WIDE, EPOCHS, PIECES, WIDE_PIECES, DMA, DMA_EPOCHS, INTERRUPT, INTERRUPT_EPOCHS, CONSOLE, DIVERGED,
+    PART, LATE, PIPE, INSPECT, INSPECT_WIDE, WALK, WATCH, WHO, WHEN, INTERVAL, LATE_INTERVAL, *TAILS, MIGRATE, MIGRATE_WIDE, MAKE,
+    ASM,
 ]
 
 
@@ -252,10 +306,12 @@ REFUSED = [
     Machine("usage", {}, [], ["walk", "a.elf"], 2),
     refused("wrong-plan", 3, plan_toml=THREE.files["plan.toml"].replace(b"cores = 1", b"cores = 9")),
     refused("long-chunks", 3, plan_toml=THREE.files["plan.toml"].replace(b"chunk = 100", b"chunk = 8192")),
+    refused("wrong-epochs", 3, plan_toml=EPOCHS.files["plan.toml"].replace(b"keep = 2\n", b"")),
     refused("wrong-part", 3, plan_toml=PART.files["plan.toml"].replace(b"to = 4", b"to = 1")),
     refused("wrong-image", 4, a_elf=EXIT[:51]),
     Machine("wrong-log", {"a.log": LOG + b"\0"}, [], ["inspect", "a.log"], 5),
     Machine("wrong-threads", {"a.log": WIDE_LOG[:6] + b"\x10" + WIDE_LOG[7:]}, ["b.log"], ["migrate", "a.log", "b.log"], 5),
+    Machine("wrong-tail", {"a.tail": DMA_TAIL + b"\0"}, [], ["tail", "a.tail"], 5),
     refused("wrong-script", 5, s_txt=b"step 0\nstep x\n"),
     Machine("failed-write", THREE.files, RECORDING, status=6, folders=["a.txt"]),
     Machine("wrong-source", {"a.s": b"addi x1, x0, 2048\n"}, ["x.elf"], ["asm", "a.s", "x.elf"], 9),

@@ -20,7 +20,7 @@ class Malformed(Exception):
     """args: the number of what is wrong, and the offset."""
 
 
-class _Fields:
+class Fields:
     def __init__(self, data):
         self.data, self.at = data, 0
 
@@ -58,7 +58,7 @@ class _Fields:
 
 
 def read_log(data):
-    f = _Fields(bytes(data))
+    f = Fields(bytes(data))
     f.one_of(4, (0x4E524C44,), 2)
     version = f.one_of(1, (1, 2), 3)
     mode = f.number(1, 2, wrong=4)
