@@ -289,9 +289,33 @@ INSPECT_WIDE = Machine("inspect-version-2", {"a.log": WIDE_LOG}, [], ["inspect",
 MIGRATE = Machine("migrate", {"a.log": FULL_LOG}, ["b.log"], ["migrate", "a.log", "b.log"])
 MIGRATE_WIDE = Machine("migrate-version-2", {"a.log": WIDE_LOG}, ["b.log"], ["migrate", "a.log", "b.log"])
 
+# a log cut into strata, and one that isn't since its play diverges
+STRATA = Machine(
+    "strata", {"a.elf": RACE.files["a.elf"], "a.log": RACE_LOG}, ["a.strata"], ["strata", "a.elf", "4096", "a.log", "a.strata"],
+)
+NO_STRATA = Machine(
+    "strata-diverged", {"a.elf": EXIT, "a.log": SHORT_LOG}, [], ["strata", "a.elf", "4096", "a.log", "a.strata"], 1,
+)
+
+# those strata replayed, in pieces, by two cores
+IN_STRATA = Machine(
+    "in-strata",
+    {
+        "plan.toml": plan(REPLAYED.replace('log = "a.log"', 'strata = "a.strata"'), cores=2, buffer=1),
+        "a.elf": RACE.files["a.elf"],
+        "a.strata": bytes.fromhex(
+            "44 4C 52 53 01 02 0F 00 64 00 00 00 06 00 00 00  00 01 00  01 00  00 00 01  00 01 00  01 00  01 01"
+            "03 00 00 00  00 00 00 00 00 03 00 00 00  00 02 00 00 00 02 00 00 00  01 00 00 00 00 03 00 00 00" + "00" * 12
+        ),
+        "s.txt": script("step 0", "place 1 0 1", "step 1"),
+    },
+    ["b.txt", "r.txt"],
+)
+
 MACHINES = [
     THREE, TWO_CHUNKS, RACE, WIDE, EPOCHS, PIECES, WIDE_PIECES, DMA, DMA_EPOCHS, INTERRUPT, INTERRUPT_EPOCHS, CONSOLE, DIVERGED,
-    PART, LATE, PIPE, INSPECT, INSPECT_WIDE, WALK, WATCH, WHO, WHEN, INTERVAL, LATE_INTERVAL, *TAILS, MIGRATE, MIGRATE_WIDE, MAKE,
+    PART, LATE, PIPE, INSPECT, INSPECT_WIDE, WALK, WATCH, WHO, WHEN, INTERVAL, LATE_INTERVAL, *TAILS, MIGRATE, MIGRATE_WIDE,
+    STRATA, NO_STRATA, IN_STRATA, MAKE,
     ASM,
 ]
 

@@ -14,6 +14,7 @@ mod plans;
 mod preparing;
 mod querying;
 mod running;
+mod stratifying;
 mod tails;
 mod telling;
 mod top;

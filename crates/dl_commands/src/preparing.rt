@@ -17,6 +17,7 @@ use crate::making::make_image;
 use crate::migrating::migrate;
 use crate::plans::run_plan;
 use crate::querying::answer_query;
+use crate::stratifying::cut_log;
 use crate::tails::play_tail;
 use crate::walking::walk_log;
 use dl_files::Files;
@@ -73,5 +74,6 @@ fn compute_command<F: Files>(
         Command::Drill { number } => Ok(drill_number(alloc, number)?),
         Command::Asm { source, name } => assemble_source(alloc, files, source, name),
         Command::Migrate { log, name } => migrate(alloc, files, log, name),
+        Command::Strata { playback, name } => cut_log(alloc, files, &playback, name),
     }
 }

@@ -1,7 +1,7 @@
 //! The two machines of a drill.
 ghost use Rattle.std.specs.Prelude.{◌≡◌, ◌∷◌, [], All, None, IfOk, length, map};
 ghost use Rattle.dl_machine.specs.Setups.{IsWithin, setup_in};
-ghost use Rattle.dl_sphere.specs.Setups.{HasBegun, begun_as, role_setup, setup_of};
+ghost use Rattle.dl_sphere.specs.Setups.{HasBegun, begun_as, role_setup, setup_of, strata_as};
 ghost use Rattle.spec_program.specs.Drills.{drill_image, drill_sphere, recorded_log, recording, replaying};
 
 use dl_elf::{ElfError, Image, load};
@@ -42,7 +42,11 @@ pub fn replaying_setup(alloc: Global, number: u32, log: Log) -> Result<Setup, Ou
     ensures value { IfOk result (λ s. setup_in s ≡ replaying number) }
     ensures within { IfOk result IsWithin }
 {
-    let role = Role::Replay(Replay { log, begun: None });
+    let role = Role::Replay(Replay {
+        log,
+        begun: None,
+        strata: None,
+    });
     let spheres = one_sphere(alloc, number, role)?;
     Ok(Setup {
         cores: 1,
@@ -59,7 +63,8 @@ pub fn replaying_setup(alloc: Global, number: u32, log: Log) -> Result<Setup, Ou
 
 // A sphere in that role, with the image of the number.
 fn one_sphere(alloc: Global, number: u32, role: Role) -> Result<Sequence<SphereSetup>, OutOfMemory>
-    requires { begun_as role ≡ None }
+    requires begun { begun_as role ≡ None }
+    requires strata { strata_as role ≡ None }
     ensures value { IfOk result (λ spheres. map setup_of spheres ≡ drill_sphere number (role_setup role) ∷ []) }
     ensures count { IfOk result (λ spheres. length spheres ≡ 1) }
     ensures begun { IfOk result (λ spheres. All HasBegun spheres) }

@@ -1,3 +1,4 @@
+pub mod Checked
 pub mod Begins
 pub mod Loading
 pub mod Memories

@@ -5,7 +5,7 @@ use Rattle.dl_files.specs.Contents.{Contents}
 use Rattle.dl_files.specs.Seen.{Seen}
 use Rattle.dl_plan.specs.declared.Source.{Source}
 use Rattle.dl_plan.specs.Files.{InputValues, from, script_read, log_read, read_by, read_from, input_names}
-use Rattle.dl_plan.specs.Values.{ScheduleValues, Script, Seeded, RoleValues, Plain, Record, Replay, SphereValues, PlanValues}
+use Rattle.dl_plan.specs.Values.{ScheduleValues, Script, Seeded, RoleValues, Plain, Record, Replay, InStrata, SphereValues, PlanValues}
 use Rattle.dl_gather.specs.declared.halt.Halt.{Halt}
 use Rattle.dl_gather.specs.Halts.{Unread}
 use Rattle.dl_gather.specs.Reads.{read_for_schedule, read_for_role, read_for_sphere}
@@ -29,6 +29,7 @@ of_role : (i : ℕ) (role : RoleValues) → names (log_read i role) ≡ read_for
 of_role i Plain = refl
 of_role i (Record values) = refl
 of_role i (Replay values) = refl
+of_role i (InStrata strata) = refl
 
 of_sphere : (i : ℕ) (s : SphereValues) → names (read_by i s) ≡ read_for_sphere s
 of_sphere i s = ap (λ (ns : List (List ℕ)). s.image ∷ ns) (of_role i s.role)

@@ -5,12 +5,15 @@ use Rattle.std.proofs.lemmas.List.Elements.{All-nil, All-cons}
 use Rattle.dl_elf.specs.Images.{Image}
 use Rattle.dl_plan.specs.declared.Sphere.{Sphere}
 use Rattle.dl_plan.specs.Limits.{longest_chunk}
-use Rattle.dl_plan.specs.Values.{EpochValues, AreEpochs, CanBeInEpochs, CanAllBeInEpochs, RoleValues, Plain, Record, Replay, SphereValues, PlanValues, IsPlan, IsRole, AreRoles, CanHave, CanAllHave, AreOrdered as ArePlannedInOrder, IsOrdered as IsPlannedInOrder, AreAllOrdered as AllPlannedInOrder, sphere_view as planned}
+use Rattle.dl_plan.specs.Values.{EpochValues, AreEpochs, CanBeInEpochs, CanAllBeInEpochs, RoleValues, Plain, Record, Replay, InStrata, SphereValues, PlanValues, IsPlan, IsRole, AreRoles, CanHave, CanAllHave, AreOrdered as ArePlannedInOrder, IsOrdered as IsPlannedInOrder, AreAllOrdered as AllPlannedInOrder, sphere_view as planned}
 use Rattle.dl_sphere.specs.Setups.{IsRecordableIf}
 use Rattle.spec_log.specs.declared.ModeName.{ModeName}
 use Rattle.spec_play.specs.Intervals.{AreOrdered}
-use Rattle.spec_program.specs.Built.{bad_log, epoch_setup, mode_named, record_setup, role_of, sphere_of, spheres_of}
-use Rattle.spec_program.specs.Files.{ReplayInputs, RoleRead, PlainRead, RecordRead, ReplayRead, SphereRead}
+use Rattle.spec_program.specs.Built.{bad_log, bad_strata, epoch_setup, mode_named, record_setup, role_in_strata, role_of, sphere_of, spheres_of}
+use Rattle.spec_program.specs.Files.{ReplayInputs, RoleRead, PlainRead, RecordRead, ReplayRead, StrataRead, SphereRead}
+use Rattle.spec_strata.specs.declared.strata.StrataParts.{StrataParts}
+use Rattle.spec_strata.specs.Checking.{StrataAnswer, Parallel, Unfit, Conflict, answer_of}
+use Rattle.spec_log.specs.declared.fault.Fault.{Fault}
 use Rattle.spec_program.specs.Stages.{Refused, refusing}
 use Rattle.spec_program.proofs.Made.{then_ok}
 use Rattle.spec_protocol.specs.machine.Machine.{EpochSetup, RoleSetup, IsPlain, IsRecorded, SphereSetup}
@@ -50,6 +53,7 @@ role_planned s Plain least is can order epochs = tt
 role_planned s (Record values) least is can order epochs =
     by_version s values.version (mode_named values.mode) (option_map epoch_setup values.epochs) (one_or_two values.version is.0 is.1) least can (epochs_planned values.version values.epochs is.2 epochs)
 role_planned s (Replay values) least is can order epochs = numbers_ordered values.from values.to order
+role_planned s (InStrata strata) least is can order epochs = tt
 
 roles_planned : (s : ℕ) (spheres : List SphereValues) → 16 ≤ s → AreRoles spheres → CanAllHave s spheres → AllPlannedInOrder spheres → CanAllBeInEpochs spheres → ArePlannedRoles s spheres
 roles_planned s [] least are can order epochs = tt
@@ -74,6 +78,7 @@ role_in_order : (s : ℕ) (role : RoleRead) → IsReadRole s role → IsOrdered 
 role_in_order s PlainRead is = tt
 role_in_order s (RecordRead inputs) is = tt
 role_in_order s (ReplayRead inputs) is = is
+role_in_order s (StrataRead read) is = tt
 
 -- what is replayed is in order
 pub all_in_order : (s : ℕ) (spheres : List SphereRead) → AreReadRoles s spheres → AreAllOrdered spheres
@@ -91,15 +96,26 @@ same_sphere x y e = cc
 same_spheres : (xs ys : List SphereSetup) → ◌≡◌ {A = Result (List SphereSetup) Refused} (Ok xs) (Ok ys) → xs ≡ ys
 same_spheres xs ys e = cc
 
-log_set_up : (s i : ℕ) (inputs : ReplayInputs) (role : RoleSetup) → role_of i (ReplayRead inputs) ≡ Ok role → IsRecordableIf s role
-log_set_up s i inputs role e =
+log_set_up : (s i : ℕ) (image : Image) (inputs : ReplayInputs) (role : RoleSetup) → role_of i image (ReplayRead inputs) ≡ Ok role → IsRecordableIf s role
+log_set_up s i image inputs role e =
     let log = then_ok (refusing (bad_log i) inputs.log) _ role e in
     subst (IsRecordableIf s) (same_role _ role log.2) tt
 
-role_set_up : (s i : ℕ) (read : RoleRead) (role : RoleSetup) → IsReadRole s read → role_of i read ≡ Ok role → IsRecordableIf s role
-role_set_up s i PlainRead role is e = subst (IsRecordableIf s) (same_role IsPlain role e) tt
-role_set_up s i (RecordRead inputs) role is e = subst (IsRecordableIf s) (same_role (IsRecorded (record_setup inputs)) role e) is
-role_set_up s i (ReplayRead inputs) role is e = log_set_up s i inputs role e
+answer_set_up : (s i : ℕ) (v : StrataParts) (answer : StrataAnswer) (role : RoleSetup) → role_in_strata i v answer ≡ Ok role → IsRecordableIf s role
+answer_set_up s i v Parallel role e = subst (IsRecordableIf s) (same_role _ role e) tt
+answer_set_up s i v (Conflict commit) role e = absurd cc
+answer_set_up s i v (Unfit commit) role e = absurd cc
+
+strata_set_up : (s i : ℕ) (image : Image) (read : Result StrataParts Fault) (role : RoleSetup) → role_of i image (StrataRead read) ≡ Ok role → IsRecordableIf s role
+strata_set_up s i image read role e =
+    let v = then_ok (refusing (bad_strata i) read) _ role e in
+    answer_set_up s i v.0 (answer_of v.0 image.bytes image.entry) role v.2
+
+role_set_up : (s i : ℕ) (image : Image) (read : RoleRead) (role : RoleSetup) → IsReadRole s read → role_of i image read ≡ Ok role → IsRecordableIf s role
+role_set_up s i image PlainRead role is e = subst (IsRecordableIf s) (same_role IsPlain role e) tt
+role_set_up s i image (RecordRead inputs) role is e = subst (IsRecordableIf s) (same_role (IsRecorded (record_setup inputs)) role e) is
+role_set_up s i image (ReplayRead inputs) role is e = log_set_up s i image inputs role e
+role_set_up s i image (StrataRead read) role is e = strata_set_up s i image read role e
 
 -- so it is of the spheres that are set up
 pub set_up_recordable : (s i : ℕ) (read : List SphereRead) (images : List Image) (spheres : List SphereSetup) → AreReadRoles s read → spheres_of i read images ≡ Ok spheres → All (λ (x : SphereSetup). IsRecordableIf s x.role) spheres
@@ -110,8 +126,8 @@ set_up_recordable s i (x ∷ read) [] spheres are e =
 set_up_recordable s i (x ∷ read) (image ∷ images) spheres are e =
     let here = then_ok (sphere_of i x image) _ spheres e in
     let rest = then_ok (spheres_of (suc i) read images) _ spheres here.2 in
-    let role = then_ok (role_of i x.role) _ here.0 here.1 in
+    let role = then_ok (role_of i image x.role) _ here.0 here.1 in
     let made : SphereSetup = record { memory = image.bytes; entry = image.entry; role = role.0 } in
-    let first = subst (λ (y : SphereSetup). IsRecordableIf s y.role) (same_sphere made here.0 role.2) (role_set_up s i x.role role.0 are.0 role.1) in
+    let first = subst (λ (y : SphereSetup). IsRecordableIf s y.role) (same_sphere made here.0 role.2) (role_set_up s i image x.role role.0 are.0 role.1) in
     subst (All (λ (y : SphereSetup). IsRecordableIf s y.role)) (same_spheres (here.0 ∷ rest.0) spheres rest.2)
     (All-cons (λ (y : SphereSetup). IsRecordableIf s y.role) here.0 rest.0 first (set_up_recordable s (suc i) read images rest.0 are.1 rest.1))

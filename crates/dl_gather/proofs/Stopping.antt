@@ -4,9 +4,9 @@ use Rattle.std.specs.Prelude.{IfErr, IsErrAnd}
 use Rattle.std.specs.FinMap.{get}
 use Rattle.dl_files.specs.Contents.{Contents}
 use Rattle.dl_files.specs.Seen.{Seen, IsKept}
-use Rattle.dl_plan.specs.Values.{PlanValues, ScheduleValues, Script, Seeded, RoleValues, Plain, Record, Replay, SphereValues}
+use Rattle.dl_plan.specs.Values.{PlanValues, ScheduleValues, Script, Seeded, RoleValues, Plain, Record, Replay, InStrata, SphereValues}
 use Rattle.spec_program.specs.Ends.{IsReadNext}
-use Rattle.spec_program.specs.Files.{ScheduleRead, RoleRead, SphereRead, log_at, read_at, script_at, schedule_read, input_read, role_read, sphere_read}
+use Rattle.spec_program.specs.Files.{ScheduleRead, RoleRead, SphereRead, log_at, read_at, script_at, strata_at, schedule_read, input_read, role_read, sphere_read}
 use Rattle.spec_program.specs.Stages.{Refused, refusing, ◌>>◌}
 use Rattle.spec_program.specs.Tasks.{absent, plan_at}
 use Rattle.spec_program.specs.declared.status.Refusal.{Refusal}
@@ -157,8 +157,12 @@ role_there m (Replay values) r e =
     let read = then_ok (log_at m values.log) _ r e in
     let t = then_ok (read_at m values.log) _ read.0 read.1 in
     (file_there m values.log t.0 t.1, tt)
+role_there m (InStrata name) r e =
+    let read = then_ok (strata_at m name) _ r e in
+    let t = then_ok (read_at m name) _ read.0 read.1 in
+    (file_there m name t.0 t.1, tt)
 
--- once a sphere is read, its image is there, and so is the log that it replays
+-- once a sphere is read, its image is there, and so are the log or the strata that it replays
 pub sphere_there : (m : Contents) (s : SphereValues) (r : SphereRead) → sphere_read m s ≡ Ok r → AreThere m (read_for_sphere s)
 sphere_there m s r e =
     let image = then_ok (read_at m s.image) _ r e in

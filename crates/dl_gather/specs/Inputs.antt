@@ -3,11 +3,12 @@ use Rattle.std.specs.Prelude.{◌≡◌, ℕ, ◌≤◌, ◌^◌, ⊤, List, map
 use Rattle.std.specs.List.{AllByRecursion}
 use Rattle.dl_logio.specs.Files.{read_view}
 use Rattle.dl_scriptio.specs.Files.{read_view as script_view}
-use Rattle.dl_plan.specs.Values.{PlanValues, RecordValues, RoleValues, Plain, Record, Replay, SphereValues, IsMemory, epochs_view}
+use Rattle.dl_plan.specs.Values.{PlanValues, RecordValues, RoleValues, Plain, Record, Replay, InStrata, SphereValues, IsMemory, epochs_view}
 use Rattle.spec_play.specs.Intervals.{AreOrdered}
 use Rattle.spec_protocol.specs.promises.Sound.{IsRecordable}
 use Rattle.spec_program.specs.Built.{record_setup}
-use Rattle.spec_program.specs.Files.{ScheduleRead, ScriptRead, EventsDrawn, RecordInputs, RoleRead, PlainRead, RecordRead, ReplayRead, SphereRead, PlanRead}
+use Rattle.spec_program.specs.Files.{ScheduleRead, ScriptRead, EventsDrawn, RecordInputs, RoleRead, PlainRead, RecordRead, ReplayRead, StrataRead, SphereRead, PlanRead}
+use Rattle.spec_strata.specs.Reading as strata
 use Rattle.dl_gather.specs.declared.inputs.ScheduleInputs.{ScheduleInputs}
 use Rattle.dl_gather.specs.declared.inputs.RoleInputs.{RoleInputs}
 use Rattle.dl_gather.specs.declared.inputs.SphereInputs.{SphereInputs}
@@ -24,6 +25,7 @@ role_view RoleInputs.Plain = PlainRead
 role_view (RoleInputs.Record version mode epochs) =
     RecordRead (record { version = version; mode = mode; epochs = option_map epochs_view epochs })
 role_view (RoleInputs.Replay log from to) = ReplayRead (record { log = read_view log; from = from; to = to })
+role_view (RoleInputs.InStrata bytes) = StrataRead (strata.read_of bytes.items)
 
 abbrev pub sphere_view : SphereInputs → SphereRead
 sphere_view s = record { image = s.image.items; memory = s.memory; role = role_view s.role }
@@ -56,11 +58,13 @@ abbrev pub IsPlannedRole : (s : ℕ) → RoleValues → Type 0
 IsPlannedRole s Plain = ⊤
 IsPlannedRole s (Record values) = IsRecordable s (record_setup (recorded_as values))
 IsPlannedRole s (Replay values) = AreOrdered values.from values.to
+IsPlannedRole s (InStrata strata) = ⊤
 
 abbrev pub IsReadRole : (s : ℕ) → RoleRead → Type 0
 IsReadRole s PlainRead = ⊤
 IsReadRole s (RecordRead inputs) = IsRecordable s (record_setup inputs)
 IsReadRole s (ReplayRead inputs) = AreOrdered inputs.from inputs.to
+IsReadRole s (StrataRead read) = ⊤
 
 abbrev pub ArePlannedRoles : (s : ℕ) → List SphereValues → Type 0
 ArePlannedRoles s spheres = AllByRecursion (λ (x : SphereValues). IsPlannedRole s x.role) spheres

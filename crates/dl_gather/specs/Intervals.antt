@@ -7,7 +7,7 @@ use Rattle.dl_entry.specs.declared.Why.{Why}
 use Rattle.spec_play.specs.declared.walk_end.WalkEnd.{WalkEnd}
 use Rattle.spec_play.specs.Intervals.{AreOrdered}
 use Rattle.spec_protocol.specs.machine.Machine.{RoleSetup, SphereSetup}
-use Rattle.spec_program.specs.Files.{RoleRead, PlainRead, RecordRead, ReplayRead, SphereRead}
+use Rattle.spec_program.specs.Files.{RoleRead, PlainRead, RecordRead, ReplayRead, StrataRead, SphereRead}
 
 -- a walk that ended so has diverged before that commit for this reason, or hasn't
 abbrev pub HasDivergedBefore : (first : ℕ) → WalkEnd → Option Why → Type 0
@@ -23,6 +23,7 @@ abbrev pub IsOrdered : RoleRead → Type 0
 IsOrdered PlainRead = ⊤
 IsOrdered (RecordRead inputs) = ⊤
 IsOrdered (ReplayRead inputs) = AreOrdered inputs.from inputs.to
+IsOrdered (StrataRead read) = ⊤
 
 abbrev pub AreAllOrdered : List SphereRead → Type 0
 AreAllOrdered spheres = AllByRecursion (λ (s : SphereRead). IsOrdered s.role) spheres

@@ -17,7 +17,7 @@ use dl_files::Files;
 use dl_plan::{Plan, Role, Schedule, Sphere};
 use std::alloc::Global;
 
-/// The files that the plan has read: the script, the input, and of each sphere its image and its log.
+/// The files that the plan has read: the script, the input, and of each sphere its image and its log or strata.
 pub fn read_inputs<F: Files>(alloc: Global, files: &mut F, plan: &Plan) -> Result<Inputs, Halt>
     requires { IsPlan (plan_view plan.now) }
     ensures read { IfOk result (λ r. (m : Contents) → (F.seen files.old).known ≡ Some m
@@ -154,6 +154,10 @@ fn read_role<F: Files>(alloc: Global, files: &mut F, role: &Role) -> Result<Role
                 from: *from,
                 to: *to,
             })
+        }
+        Role::InStrata { strata } => {
+            let strata = read_file(alloc, files, strata.as_str())?;
+            Ok(RoleInputs::InStrata { strata })
         }
     }
 }

@@ -46,6 +46,10 @@ pub enum RoleInputs {
         from: Option<u32>,
         to: Option<u32>,
     },
+    /// The bytes of strata.
+    InStrata {
+        strata: Vec<u8>,
+    },
 }
 
 /// An image and a log, which is played on it.

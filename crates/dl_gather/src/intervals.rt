@@ -1,5 +1,5 @@
 //! The interval of a log that a plan names, and where its replay begins.
-ghost use Rattle.std.specs.Prelude.{◌≡◌, Some, IfOk};
+ghost use Rattle.std.specs.Prelude.{◌≡◌, Some, None, IfOk};
 ghost use Rattle.spec_play.specs.Intervals.{interval_of, IsWithin, IsWithinIf};
 ghost use Rattle.spec_protocol.specs.machine.Machine.{RoleSetup};
 ghost use Rattle.dl_sphere.specs.Setups.{IsBegun, IsBegunIf, interval_in};
@@ -36,7 +36,7 @@ pub fn begun_of(
     requires { IsWithinIf log.now.count interval }
     ensures interval { IfOk result (λ b. interval_in b ≡ interval) }
     ensures begun { (role : RoleSetup) → IfOk result (IsBegunIf (sphere_on image.now role)
-        (record { log = log.now; interval = interval })) }
+        (record { log = log.now; interval = interval; strata = None })) }
 {
     match interval {
         Some(interval) => Ok(Some(begin(alloc, image, log, interval)?)),
@@ -49,7 +49,7 @@ fn begin(alloc: Global, image: &Image, log: &Log, interval: Interval) -> Result<
     requires { IsWithin log.now.count interval }
     ensures interval { IfOk result (λ b. b.interval ≡ interval) }
     ensures begun { (role : RoleSetup) → IfOk result (IsBegun (sphere_on image.now role)
-        (record { log = log.now; interval = Some interval })) }
+        (record { log = log.now; interval = Some interval; strata = None })) }
 {
     let walked = walk(alloc, image, log, interval.first)?;
     Ok(Begun {

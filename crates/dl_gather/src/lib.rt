@@ -14,13 +14,15 @@ mod planning;
 mod playbacks;
 mod reading;
 mod setups;
+mod strata;
 mod tails;
 mod task;
 
 pub use halt::Halt;
 pub use inputs::PlaybackRead;
 pub use lines::{
-    absent_line, assembled_line, fault_line, made_line, migrated_line, source_line, usage_line,
+    absent_line, assembled_line, fault_line, made_line, migrated_line, source_line, strata_line,
+    usage_line,
 };
 pub use logs::read_good_log;
 pub use planning::load_plan;

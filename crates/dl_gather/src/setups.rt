@@ -11,13 +11,14 @@ use crate::halt::Halt;
 use crate::inputs::{RoleInputs, SphereInputs};
 use crate::intervals::{begun_of, interval_of};
 use crate::logs::good_log;
+use crate::strata::role_in_strata;
 use dl_elf::Image;
 use dl_logfmt::ModeName;
 use dl_plan::Mode;
 use dl_sphere::{Epochs, Replay, Role, SphereSetup};
 use std::alloc::Global;
 
-/// Each sphere with its image and its role; the first log that has a bad field is refused.
+/// Each sphere with its image and its role; the first log or strata that can't be replayed are refused.
 pub fn setups_of(
     alloc: Global,
     images: Vec<Image>,
@@ -66,9 +67,9 @@ fn setup_of(
 // Its role, on its image.
 fn role_of(alloc: Global, number: usize, image: &Image, role: RoleInputs) -> Result<Role, Halt>
     requires { IsOrdered (role_view role) }
-    ensures role { IfOk result (λ r. role_of number (role_view role) ≡ Ok (role_setup r)) }
+    ensures role { IfOk result (λ r. role_of number image.now (role_view role) ≡ Ok (role_setup r)) }
     ensures begun { IfOk result (λ r. IsBegunAs (sphere_on image.now (role_setup r)) r) }
-    ensures halt { IfErr result (Refuses (role_of number (role_view role))) }
+    ensures halt { IfErr result (Refuses (role_of number image.now (role_view role))) }
 {
     match role {
         RoleInputs::Plain => Ok(Role::Plain),
@@ -84,8 +85,13 @@ fn role_of(alloc: Global, number: usize, image: &Image, role: RoleInputs) -> Res
         RoleInputs::Replay { log, from, to } => {
             let log = good_log(alloc, number, log)?;
             let begun = begun_of(alloc, image, &log, interval_of(from, to, log.parts().count))?;
-            Ok(Role::Replay(Replay { log, begun }))
+            Ok(Role::Replay(Replay {
+                log,
+                begun,
+                strata: None,
+            }))
         }
+        RoleInputs::InStrata { strata } => role_in_strata(alloc, number, image, &strata),
     }
 }
 

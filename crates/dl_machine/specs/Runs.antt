@@ -6,14 +6,16 @@ use Rattle.spec_protocol.specs.declared.event.Event.{Event}
 use Rattle.spec_protocol.specs.machine.Spheres.{Recording, Cursor, Record, Replay, Sphere, is_over}
 use Rattle.spec_protocol.specs.machine.Placing.{replays}
 use Rattle.spec_protocol.specs.machine.World.{World, sphere_at}
-use Rattle.spec_protocol.specs.machine.Machine.{last_played, first_played, ReplaySetup, EpochSetup, RecordSetup, IsRecorded, IsReplayed, Setup, SphereSetup}
+use Rattle.spec_protocol.specs.machine.Machine.{last_played, first_played, ReplaySetup, EpochSetup, RecordSetup, IsRecorded, IsReplayed, Setup, SphereSetup, in_strata}
 use Rattle.spec_protocol.specs.machine.Serial.{CanDoAll, serial, serial_start}
 use Rattle.spec_protocol.specs.machine.Shown.{shown_of}
 use Rattle.spec_protocol.specs.promises.Alike.{IsAlike}
 use Rattle.spec_protocol.specs.promises.Kept.{IsKept, Shows, WillKeep}
 use Rattle.spec_protocol.specs.promises.PlayingBack.{PlaysBack}
 use Rattle.spec_protocol.specs.promises.Sound.{IsWithinLimits}
+use Rattle.spec_strata.specs.declared.strata.StrataParts.{StrataParts}
 use Rattle.spec_replay.specs.Following.{Follows}
+use Rattle.spec_replay.specs.InStrata.{FollowsInStrata}
 use Rattle.spec_replay.specs.Promises.{IsPlayed}
 
 -- the setup is within the limits, and the world shows what these events leave: all of it, but for what recordings in epochs
@@ -44,7 +46,8 @@ pub record IsNow (s : Setup) (i : ℕ) (w : World) (image : SphereSetup) (p : Sp
   pub shown : slice_get (shown_of w).spheres i ≡ Some p
 
 -- if sphere i is recorded, its log so far fits its image and plays back, or it has the end of what its points tell, if it is
--- recorded in epochs; if it is replayed, it is in the play of its log, and once it has stopped it has done all that was asked for
+-- recorded in epochs; if it is replayed, it is in the play of its log, in strata with commits of the present stratum in any order,
+-- and once it has stopped it has done all that was asked for
 pub record IsPromised (s : Setup) (i : ℕ) (w : World) : Type 0 where
   pub recorded : (image : SphereSetup) (asked : RecordSetup) (p : Sphere) (recording : Recording)
       → IsNow s i w image p
@@ -58,7 +61,12 @@ pub record IsPromised (s : Setup) (i : ℕ) (w : World) : Type 0 where
   pub replayed : (image : SphereSetup) (asked : ReplaySetup) (p : Sphere)
       → IsNow s i w image p
       → image.role ≡ IsReplayed asked
+      → asked.strata ≡ None
       → Follows asked (plays asked.log (first_played image asked) (length p.progress.commits)) p
+  pub strata : (image : SphereSetup) (v : StrataParts) (p : Sphere)
+      → IsNow s i w image p
+      → image.role ≡ IsReplayed (in_strata v)
+      → FollowsInStrata v image p
   pub stopped : (image : SphereSetup) (asked : ReplaySetup) (p : Sphere) (b : Cursor)
       → IsNow s i w image p
       → image.role ≡ IsReplayed asked

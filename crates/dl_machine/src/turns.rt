@@ -12,6 +12,7 @@ pub(crate) fn turn_against(sphere: &Sphere, actor: Actor) -> Option<Actor>
 {
     match actor {
         Actor::Dma if !sphere.replays() => None,
+        Actor::Thread(_) if sphere.joins_in(actor) => None,
         Actor::Dma | Actor::Thread(_) => other_than(actor, sphere.head()),
     }
 }

@@ -8,8 +8,8 @@ use Rattle.dl_plan.specs.Entries.{SphereEntries}
 use Rattle.dl_plan.specs.Limits.{limited, count_of, memory_of, version_of}
 use Rattle.dl_plan.specs.Optional.{◌>>=◌, each_of}
 use Rattle.dl_plan.specs.Plans.{sphere_asked}
-use Rattle.dl_plan.specs.Roles.{made_of, role_made, role_of, has_role_keys, are_in_order, interval_stands, has_good_interval}
-use Rattle.dl_plan.specs.Values.{RoleValues, Plain, Record, Replay, RecordValues, ReplayValues, SphereValues, AreOrdered, IsOrdered, AreAllOrdered}
+use Rattle.dl_plan.specs.Roles.{made_of, replay_made, replay_stands, role_made, role_of, has_role_keys, are_in_order, interval_stands, has_good_interval}
+use Rattle.dl_plan.specs.Values.{RoleValues, Plain, Record, Replay, InStrata, RecordValues, ReplayValues, SphereValues, AreOrdered, IsOrdered, AreAllOrdered}
 
 -- ---- what is there
 
@@ -53,9 +53,22 @@ recorded r v e = absurd (cc)
 replayed : (u v : ReplayValues) → Some (Replay u) ≡ Some (Replay v) → AreOrdered u.from u.to → AreOrdered v.from v.to
 replayed u v e ordered = let is : u ≡ v = cc in subst (λ (r : ReplayValues). AreOrdered r.from r.to) is ordered
 
+in_strata : (name : List ℕ) (v : ReplayValues) → Some (InStrata name) ≡ Some (Replay v) → AreOrdered v.from v.to
+in_strata name v e = absurd (cc)
+
+replay_ordered : (strata : Option (List ℕ)) (s : SphereEntries) (values : ReplayValues) → replay_made strata s ≡ Some (Replay values) → replay_stands strata s.from s.to ≡ true
+    → AreOrdered values.from values.to
+replay_ordered None s values e good =
+    let log = then_some s.log _ (Replay values) e in
+    let from = then_some (count_of s.from) _ (Replay values) log.2 in
+    let to = then_some (count_of s.to) _ (Replay values) from.2 in
+    replayed _ values to.2 (counts_ordered s.from s.to from.0 to.0 from.1 to.1 good)
+replay_ordered (Some strata) s values e good = in_strata strata values e
+
 role_ordered : (role : RoleName) (s : SphereEntries) (made : RoleValues) → role_made role s ≡ Some made → interval_stands role s ≡ true → IsOrdered made
 role_ordered role s Plain e good = tt
 role_ordered role s (Record values) e good = tt
+role_ordered role s (InStrata strata) e good = tt
 role_ordered RoleName.Plain s (Replay values) e good = absurd (cc)
 role_ordered RoleName.Record s (Replay values) e good =
     let mode = then_some s.mode _ (Replay values) e in
@@ -63,11 +76,7 @@ role_ordered RoleName.Record s (Replay values) e good =
     let log = then_some s.log _ (Replay values) version.2 in
     let epochs = then_some (made_of s.epoch s.keep) _ (Replay values) log.2 in
     recorded _ values epochs.2
-role_ordered RoleName.Replay s (Replay values) e good =
-    let log = then_some s.log _ (Replay values) e in
-    let from = then_some (count_of s.from) _ (Replay values) log.2 in
-    let to = then_some (count_of s.to) _ (Replay values) from.2 in
-    replayed _ values to.2 (counts_ordered s.from s.to from.0 to.0 from.1 to.1 good)
+role_ordered RoleName.Replay s (Replay values) e good = replay_ordered s.strata s values e good
 
 sphere_ordered : (s : SphereEntries) (v : SphereValues) → sphere_asked s ≡ Some v → has_good_interval s ≡ true → IsOrdered v.role
 sphere_ordered s v e good =

@@ -1,15 +1,15 @@
 -- If the epochs of each sphere pass their test, what is recorded in epochs has a log of version 2.
-use Rattle.std.proofs.Common.{◌≡◌, ℕ, nat_eq, ℤ, Bool, true, false, if◌then◌else◌, List, [], ◌∷◌, Option, Some, None, IfSome, option_map, refl, subst, sym, ◌∙◌, arith}
+use Rattle.std.proofs.Common.{◌≡◌, ℕ, nat_eq, ℤ, true, false, List, [], ◌∷◌, Option, Some, None, IfSome, option_map, refl, subst, arith}
 use Rattle.std.proofs.lemmas.Bool.{and_parts}
 use Rattle.std.proofs.lemmas.Bool.Decides.{nat_tests}
 use Rattle.std.specs.List.{list_all}
 use Rattle.dl_plan.specs.declared.sphere.RoleName.{RoleName}
 use Rattle.dl_plan.specs.Entries.{SphereEntries}
 use Rattle.dl_plan.specs.Limits.{count_of, epoch_of, keep_of, memory_of, version_of}
-use Rattle.dl_plan.specs.Optional.{◌>>=◌, each_of}
+use Rattle.dl_plan.specs.Optional.{each_of}
 use Rattle.dl_plan.specs.Plans.{sphere_asked}
-use Rattle.dl_plan.specs.Roles.{epochs_made, made_of, role_made, role_of, has_role_keys, is_second, are_epochs, epochs_stand, has_good_epochs}
-use Rattle.dl_plan.specs.Values.{EpochValues, RoleValues, Plain, Record, Replay, RecordValues, ReplayValues, SphereValues, CanBeInEpochs, CanAllBeInEpochs}
+use Rattle.dl_plan.specs.Roles.{epochs_made, made_of, replay_made, role_made, role_of, has_role_keys, is_second, are_epochs, epochs_stand, has_good_epochs}
+use Rattle.dl_plan.specs.Values.{EpochValues, RoleValues, Plain, Record, Replay, InStrata, RecordValues, ReplayValues, SphereValues, CanBeInEpochs, CanAllBeInEpochs}
 use Rattle.dl_plan.proofs.Ordered.{then_some, passed, same}
 
 -- ---- the numbers
@@ -47,9 +47,21 @@ recorded r u e h = let is : r ≡ u = cc in subst (λ (x : RecordValues). CanBeI
 replayed : (r : ReplayValues) (u : RecordValues) → Some (Replay r) ≡ Some (Record u) → CanBeInEpochs (Record u)
 replayed r u e = absurd (cc)
 
+in_strata : (name : List ℕ) (u : RecordValues) → Some (InStrata name) ≡ Some (Record u) → CanBeInEpochs (Record u)
+in_strata name u e = absurd (cc)
+
+replay_parted : (strata : Option (List ℕ)) (s : SphereEntries) (values : RecordValues) → replay_made strata s ≡ Some (Record values) → CanBeInEpochs (Record values)
+replay_parted None s values e =
+    let log = then_some s.log _ (Record values) e in
+    let from = then_some (count_of s.from) _ (Record values) log.2 in
+    let to = then_some (count_of s.to) _ (Record values) from.2 in
+    replayed _ values to.2
+replay_parted (Some strata) s values e = in_strata strata values e
+
 role_parted : (role : RoleName) (s : SphereEntries) (made : RoleValues) → role_made role s ≡ Some made → epochs_stand role s ≡ true → CanBeInEpochs made
 role_parted role s Plain e good = tt
 role_parted role s (Replay values) e good = tt
+role_parted role s (InStrata strata) e good = tt
 role_parted RoleName.Plain s (Record values) e good = absurd (cc)
 role_parted RoleName.Record s (Record values) e good =
     let mode = then_some s.mode _ (Record values) e in
@@ -57,11 +69,7 @@ role_parted RoleName.Record s (Record values) e good =
     let log = then_some s.log _ (Record values) version.2 in
     let epochs = then_some (made_of s.epoch s.keep) _ (Record values) log.2 in
     recorded _ values epochs.2 (in_epochs s.version s.epoch s.keep version.0 epochs.0 version.1 epochs.1 good)
-role_parted RoleName.Replay s (Record values) e good =
-    let log = then_some s.log _ (Record values) e in
-    let from = then_some (count_of s.from) _ (Record values) log.2 in
-    let to = then_some (count_of s.to) _ (Record values) from.2 in
-    replayed _ values to.2
+role_parted RoleName.Replay s (Record values) e good = replay_parted s.strata s values e
 
 sphere_parted : (s : SphereEntries) (v : SphereValues) → sphere_asked s ≡ Some v → has_good_epochs s ≡ true → CanBeInEpochs v.role
 sphere_parted s v e good =

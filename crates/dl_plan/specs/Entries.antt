@@ -18,8 +18,8 @@ top_keys =
 -- the keys of a sphere
 abbrev pub sphere_keys : List (List ℕ)
 sphere_keys =
-    codes "image" ∷ codes "memory" ∷ codes "role" ∷ codes "mode" ∷ codes "version" ∷ codes "log" ∷ codes "from" ∷ codes "to"
-    ∷ codes "epoch" ∷ codes "keep" ∷ codes "account" ∷ []
+    codes "image" ∷ codes "memory" ∷ codes "role" ∷ codes "mode" ∷ codes "version" ∷ codes "log" ∷ codes "strata" ∷ codes "from"
+    ∷ codes "to" ∷ codes "epoch" ∷ codes "keep" ∷ codes "account" ∷ []
 
 -- where this is a table, its keys are those of a sphere
 abbrev pub has_sphere_keys : Data → Bool
@@ -58,6 +58,7 @@ pub record SphereEntries : Type 0 where
   pub mode : Option Mode
   pub version : Option ℤ
   pub log : Option (List ℕ)
+  pub strata : Option (List ℕ)
   pub from : Option ℤ
   pub to : Option ℤ
   pub epoch : Option ℤ
@@ -126,6 +127,7 @@ sphere_of ms =
     mode_at ms >>= λ mode.
     optional_number ms (codes "version") >>= λ version.
     optional_text ms (codes "log") >>= λ log.
+    optional_text ms (codes "strata") >>= λ strata.
     optional_number ms (codes "from") >>= λ from.
     optional_number ms (codes "to") >>= λ to.
     optional_number ms (codes "epoch") >>= λ epoch.
@@ -138,6 +140,7 @@ sphere_of ms =
       mode = mode;
       version = version;
       log = log;
+      strata = strata;
       from = from;
       to = to;
       epoch = epoch;

@@ -2,7 +2,7 @@
 use Rattle.std.specs.Prelude.{ℕ, suc, List, [], ◌∷◌, ◌++◌, map, Option, Some, None}
 use Rattle.dl_plan.specs.declared.inputs.Source.{Source}
 use Rattle.dl_plan.specs.declared.outputs.Product.{Product}
-use Rattle.dl_plan.specs.Values.{ScheduleValues, Script, Seeded, RoleValues, Plain, Record, Replay, SphereValues, PlanValues}
+use Rattle.dl_plan.specs.Values.{ScheduleValues, Script, Seeded, RoleValues, Plain, Record, Replay, InStrata, SphereValues, PlanValues}
 
 -- ---- those that are read
 
@@ -21,13 +21,14 @@ abbrev pub script_read : ScheduleValues → List InputValues
 script_read (Script name) = record { name = name; source = Source.Script } ∷ []
 script_read (Seeded events) = []
 
--- the log, where the sphere of that number replays one
+-- the log or the strata, where the sphere of that number replays one
 abbrev pub log_read : (sphere : ℕ) → RoleValues → List InputValues
 log_read i Plain = []
 log_read i (Record values) = []
 log_read i (Replay values) = record { name = values.log; source = Source.Log i } ∷ []
+log_read i (InStrata strata) = record { name = strata; source = Source.Strata i } ∷ []
 
--- of the sphere of that number, its image and then its log
+-- of the sphere of that number, its image and then its log or its strata
 abbrev pub read_by : (sphere : ℕ) → SphereValues → List InputValues
 read_by i s = record { name = s.image; source = Source.Image i } ∷ log_read i s.role
 
@@ -65,6 +66,7 @@ abbrev pub log_written : (sphere : ℕ) → RoleValues → List OutputValues
 log_written i Plain = []
 log_written i (Record values) = record { name = values.log; product = Product.Log i } ∷ []
 log_written i (Replay values) = []
+log_written i (InStrata strata) = []
 
 -- of the sphere of that number, its log and then its account
 abbrev pub written_by : (sphere : ℕ) → SphereValues → List OutputValues

@@ -12,7 +12,7 @@ use Rattle.dl_plan.specs.Names.{none_is_empty, all_differ, none_is_one_of}
 use Rattle.dl_plan.specs.Optional.{◌>>=◌, ◌>>◌, each_of}
 use Rattle.dl_plan.specs.Roles.{role_of, has_good_interval, has_good_epochs}
 use Rattle.dl_plan.specs.Sizes.{sizes_in, events_in}
-use Rattle.dl_plan.specs.Values.{ScheduleValues, Script, Seeded, RoleValues, Plain, Record, Replay, SphereValues, PlanValues}
+use Rattle.dl_plan.specs.Values.{ScheduleValues, Script, Seeded, RoleValues, Plain, Record, Replay, InStrata, SphereValues, PlanValues}
 
 -- ---- rule 1: a TOML document
 
@@ -48,6 +48,7 @@ abbrev pub can_have : (chunk : ℕ) → RoleValues → Bool
 can_have chunk Plain = true
 can_have chunk (Record values) = nat_le chunk (longest_chunk values.version)
 can_have chunk (Replay values) = true
+can_have chunk (InStrata strata) = true
 
 abbrev pub has_good_chunk : PlanValues → Bool
 has_good_chunk p = list_all (λ (s : SphereValues). can_have p.sizes.chunk s.role) p.spheres

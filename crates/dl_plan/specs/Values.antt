@@ -33,11 +33,12 @@ pub record ReplayValues : Type 0 where
   pub from : Option ℕ
   pub to : Option ℕ
 
--- what a sphere does: it runs plainly, is recorded, or replays a log
+-- what a sphere does: it runs plainly, is recorded, replays a log, or replays strata, whose name this is
 pub data RoleValues : Type 0 where
   Plain : RoleValues
   Record : RecordValues → RoleValues
   Replay : ReplayValues → RoleValues
+  InStrata : (strata : List ℕ) → RoleValues
 
 pub record SphereValues : Type 0 where
   pub image : List ℕ
@@ -68,6 +69,7 @@ role_view Role.Plain = Plain
 role_view (Role.Record mode version log epochs) =
     Record (record { mode = mode; version = version; log = string_bytes log; epochs = option_map epochs_view epochs })
 role_view (Role.Replay log from to) = Replay (record { log = string_bytes log; from = from; to = to })
+role_view (Role.InStrata strata) = InStrata (string_bytes strata)
 
 abbrev pub sphere_view : Sphere → SphereValues
 sphere_view s = record { image = string_bytes s.image; memory = s.memory; role = role_view s.role; account = option_map string_bytes s.account }
@@ -123,6 +125,7 @@ abbrev pub IsRole : RoleValues → Type 0
 IsRole Plain = ⊤
 IsRole (Record values) = (1 ≤ values.version) × (values.version ≤ 2) × IfSome values.epochs AreEpochs
 IsRole (Replay values) = IsCount values.from × IsCount values.to
+IsRole (InStrata strata) = ⊤
 
 abbrev pub AreRoles : List SphereValues → Type 0
 AreRoles spheres = AllByRecursion (λ (s : SphereValues). IsRole s.role) spheres
@@ -132,6 +135,7 @@ abbrev pub CanHave : (chunk : ℕ) → RoleValues → Type 0
 CanHave chunk Plain = ⊤
 CanHave chunk (Record values) = chunk ≤ longest_chunk values.version
 CanHave chunk (Replay values) = ⊤
+CanHave chunk (InStrata strata) = ⊤
 
 abbrev pub CanAllHave : (chunk : ℕ) → List SphereValues → Type 0
 CanAllHave chunk spheres = AllByRecursion (λ (s : SphereValues). CanHave chunk s.role) spheres
@@ -146,6 +150,7 @@ abbrev pub IsOrdered : RoleValues → Type 0
 IsOrdered Plain = ⊤
 IsOrdered (Record values) = ⊤
 IsOrdered (Replay values) = AreOrdered values.from values.to
+IsOrdered (InStrata strata) = ⊤
 
 abbrev pub AreAllOrdered : List SphereValues → Type 0
 AreAllOrdered spheres = AllByRecursion (λ (s : SphereValues). IsOrdered s.role) spheres
@@ -155,6 +160,7 @@ abbrev pub CanBeInEpochs : RoleValues → Type 0
 CanBeInEpochs Plain = ⊤
 CanBeInEpochs (Record values) = IfSome values.epochs (λ e. values.version ≡ 2)
 CanBeInEpochs (Replay values) = ⊤
+CanBeInEpochs (InStrata strata) = ⊤
 
 abbrev pub CanAllBeInEpochs : List SphereValues → Type 0
 CanAllBeInEpochs spheres = AllByRecursion (λ (s : SphereValues). CanBeInEpochs s.role) spheres

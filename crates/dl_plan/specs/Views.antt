@@ -33,6 +33,7 @@ entry_view s = record {
   mode = s.mode;
   version = s.version;
   log = option_copied s.log;
+  strata = option_copied s.strata;
   from = s.from;
   to = s.to;
   epoch = s.epoch;

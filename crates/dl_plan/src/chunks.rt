@@ -22,6 +22,6 @@ fn can_have(chunk: u32, role: &Role) -> bool
 {
     match role {
         Role::Record { version, .. } => chunk <= longest_chunk(*version),
-        Role::Plain | Role::Replay { .. } => true,
+        Role::Plain | Role::Replay { .. } | Role::InStrata { .. } => true,
     }
 }

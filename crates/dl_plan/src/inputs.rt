@@ -18,6 +18,8 @@ pub enum Source {
     Image(usize),
     /// The log that the sphere of that number replays.
     Log(usize),
+    /// The strata that the sphere of that number replays.
+    Strata(usize),
 }
 
 /// A file that is read.
@@ -27,7 +29,8 @@ pub struct Input<'a> {
     pub source: Source,
 }
 
-/// The files that the plan has read, in their order: the script, the input, and of each sphere its image and its log.
+/// The files that the plan has read, in their order: the script, the input, and of each sphere its image and its log or
+/// its strata.
 pub fn inputs_of(alloc: Global, plan: &Plan) -> Result<Vec<Input<'_>>, AllocError>
     ensures { IfOk result (λ inputs. map input_view inputs.items ≡ inputs_of (plan_view plan.now)) }
 {
@@ -72,6 +75,7 @@ fn add_sphere<'a>(
         Role::Plain => Ok(()),
         Role::Record { .. } => Ok(()),
         Role::Replay { log, .. } => add(inputs, Source::Log(number), log.as_str()),
+        Role::InStrata { strata } => add(inputs, Source::Strata(number), strata.as_str()),
     }
 }
 

@@ -6,7 +6,7 @@ ghost use Rattle.dl_plan.specs.Views.{entry_view};
 
 use crate::sphere::{RoleName, SphereEntries};
 
-/// Whether each sphere with `from` or `to` is replayed, and ends no earlier than it begins.
+/// Whether each sphere with `from` or `to` replays a log, and ends no earlier than it begins.
 pub(crate) fn have_good_intervals(spheres: &[SphereEntries<'_>]) -> bool
     ensures { result ≡ list_all has_good_interval (map entry_view spheres.now) }
 {
@@ -16,9 +16,9 @@ pub(crate) fn have_good_intervals(spheres: &[SphereEntries<'_>]) -> bool
 fn has_good_interval(sphere: &SphereEntries<'_>) -> bool
     ensures { result ≡ has_good_interval (entry_view sphere.now) }
 {
-    match sphere.role {
-        RoleName::Plain | RoleName::Record => sphere.from.is_none() && sphere.to.is_none(),
-        RoleName::Replay => are_in_order(sphere.from, sphere.to),
+    match (sphere.role, sphere.strata) {
+        (RoleName::Replay, None) => are_in_order(sphere.from, sphere.to),
+        _ => sphere.from.is_none() && sphere.to.is_none(),
     }
 }
 

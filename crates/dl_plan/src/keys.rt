@@ -29,8 +29,9 @@ const TOP_KEYS: [&str; 13] = [
 ];
 
 /// The keys of a sphere.
-const SPHERE_KEYS: [&str; 11] = [
-    "image", "memory", "role", "mode", "version", "log", "from", "to", "epoch", "keep", "account",
+const SPHERE_KEYS: [&str; 12] = [
+    "image", "memory", "role", "mode", "version", "log", "strata", "from", "to", "epoch", "keep",
+    "account",
 ];
 
 /// Whether each key is one of a plan, or of a sphere in its spheres.

@@ -60,7 +60,7 @@ fn add_sphere<'a>(
 {
     match &sphere.role {
         Role::Record { log, .. } => add(outputs, Product::Log(number), log.as_str())?,
-        Role::Plain | Role::Replay { .. } => (),
+        Role::Plain | Role::Replay { .. } | Role::InStrata { .. } => (),
     }
     add_optional(outputs, Product::Account(number), &sphere.account)
 }

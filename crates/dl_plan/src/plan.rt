@@ -77,6 +77,10 @@ pub enum Role {
         from: Option<u32>,
         to: Option<u32>,
     },
+    /// It replays the strata in the file `strata`.
+    InStrata {
+        strata: String,
+    },
 }
 
 /// The epochs of a recording: the commits of each, 1 to 2^24, and how many of them are kept, 1 to 64.

@@ -19,7 +19,7 @@ use std::alloc::Global;
 /// Reads the plan in `bytes`, the bytes of the file `name`. Refused is the first rule that the whole plan breaks:
 /// 1 it is no TOML, 2 it has another key, 3 a key is missing or its value is of another kind, 4 a number is outside
 /// its limits, 5 it has not one schedule, 6 a role has not what it needs, 7 its names conflict, 8 its chunk is too long for
-/// a log that is recorded, 9 a sphere that isn't replayed begins or ends within a log, or one that is ends before it begins,
+/// a log that is recorded, 9 a sphere that doesn't replay a log begins or ends within one, or one that does ends before it begins,
 /// 10 a sphere has one number of epochs without the other, or has both and isn't recorded into a log of version 2.
 #[tactic(auto, unfolding(crate::specs::Plans::plan_of))]
 pub fn read_plan(alloc: Global, name: &str, bytes: &[u8]) -> Result<Plan, PlanError>

@@ -21,20 +21,23 @@ pub(crate) fn role_of(alloc: Global, entry: &SphereEntries<'_>) -> Result<Role, 
     if !has_role_keys(entry) {
         return Err(PlanError::Refused(6));
     }
-    match (entry.role, entry.mode, entry.log) {
-        (RoleName::Plain, _, _) => Ok(Role::Plain),
-        (RoleName::Record, Some(mode), Some(log)) => Ok(Role::Record {
+    match (entry.role, entry.mode, entry.log, entry.strata) {
+        (RoleName::Plain, ..) => Ok(Role::Plain),
+        (RoleName::Record, Some(mode), Some(log), _) => Ok(Role::Record {
             mode,
             version: version_in(entry)?,
             log: String::from_str(alloc, log)?,
             epochs: epochs_in(entry)?,
         }),
-        (RoleName::Replay, _, Some(log)) => Ok(Role::Replay {
+        (RoleName::Replay, _, _, Some(strata)) => Ok(Role::InStrata {
+            strata: String::from_str(alloc, strata)?,
+        }),
+        (RoleName::Replay, _, Some(log), None) => Ok(Role::Replay {
             log: String::from_str(alloc, log)?,
             from: count_in(entry.from)?,
             to: count_in(entry.to)?,
         }),
-        (RoleName::Record | RoleName::Replay, _, _) => Err(PlanError::Refused(6)),
+        (RoleName::Record | RoleName::Replay, ..) => Err(PlanError::Refused(6)),
     }
 }
 
@@ -42,15 +45,12 @@ pub(crate) fn role_of(alloc: Global, entry: &SphereEntries<'_>) -> Result<Role, 
 fn has_role_keys(entry: &SphereEntries<'_>) -> bool
     ensures { result ≡ has_role_keys (entry_view entry.now) }
 {
-    let (mode, version, log) = (
-        entry.mode.is_some(),
-        entry.version.is_some(),
-        entry.log.is_some(),
-    );
+    let (mode, version) = (entry.mode.is_some(), entry.version.is_some());
+    let (log, strata) = (entry.log.is_some(), entry.strata.is_some());
     match entry.role {
-        RoleName::Plain => !mode && !version && !log,
-        RoleName::Record => mode && log,
-        RoleName::Replay => !mode && !version && log,
+        RoleName::Plain => !mode && !version && !log && !strata,
+        RoleName::Record => mode && log && !strata,
+        RoleName::Replay => !mode && !version && (log && !strata || !log && strata),
     }
 }
 

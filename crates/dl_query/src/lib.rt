@@ -11,4 +11,4 @@ pub use dl_serial::Walked;
 pub use image_word::word_of;
 pub use queries::{Lines, watch, when, who};
 pub use spec_query::{Line, When};
-pub use text::{last_text, lines_text, when_text};
+pub use text::{end_text, last_text, lines_text, when_text};

@@ -37,6 +37,15 @@ pub fn when_text(alloc: Global, when: When, end: End) -> Result<Vec<u8>, OutOfMe
     Ok(text.into_bytes())
 }
 
+/// Where and why the log diverges, or no text if it doesn't.
+pub fn end_text(alloc: Global, end: End) -> Result<Vec<u8>, OutOfMemory>
+    ensures { IfOk result (λ text. text.items ≡ end_text end) }
+{
+    let mut text = Text::new(alloc);
+    put_end(alloc, &mut text, end)?;
+    Ok(text.into_bytes())
+}
+
 fn put_lines(text: &mut Text, lines: &[Line]) -> Result<(), OutOfMemory>
     ensures { OnOk result (text.new ≡ text.old ++ lines_text lines.now) }
 {

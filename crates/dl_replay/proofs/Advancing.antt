@@ -1,14 +1,12 @@
 -- With one commit more, the replay and the state are what judging that commit makes of them.
 use Rattle.std.proofs.Common.{◌≡◌, ℕ, zero, suc, ◌+◌, ◌<◌, ◌≤◌, Bool, true, false, List, [], ◌∷◌, ◌++◌, length, slice_get, nat_lt, nat_le, ◌&&◌, cond, Option, Some, None, inl, inr, refl, ap, sym, ◌∙◌, arith}
-use Rattle.std.specs.Prelude.{slice_set, map}
+use Rattle.std.specs.Prelude.{slice_set}
 use Rattle.std.proofs.lemmas.Bool.{cases_Bool, ltb-true, true≢false}
 use Rattle.dl_entry.specs.declared.End.{End}
 use Rattle.dl_entry.specs.declared.commit.Commit.{Commit}
 use Rattle.spec_isa.specs.declared.thread.Parts.{Parts}
-use Rattle.spec_log.specs.Head.{head}
 use Rattle.spec_log.specs.Log.{IsLog}
 use Rattle.spec_log.specs.declared.log.LogParts.{LogParts}
-use Rattle.spec_kernel.specs.Interrupts.{is_live}
 use Rattle.spec_play.proofs.Positions.{position-more}
 use Rattle.spec_play.specs.declared.interval.Interval.{Interval}
 use Rattle.spec_play.specs.declared.used.Used.{Used}
@@ -22,23 +20,28 @@ use Rattle.spec_protocol.specs.machine.Spheres.{is_over}
 use Rattle.dl_kernel.specs.States.{PlayState as State, state_in}
 use Rattle.dl_kernel.specs.Calls.{spawned_list}
 use Rattle.spec_protocol.specs.promises.Sound.{IsSoundIf}
-use Rattle.dl_replay.specs.Following.{Following, followed_from}
+use Rattle.dl_replay.specs.Following.{Following, followed, followed_from}
+use Rattle.dl_replay.specs.Standings.{IsWithinIf, actor_next}
+use Rattle.spec_strata.specs.Standing.{Standing}
+use Rattle.spec_protocol.specs.machine.Commits.{now_by}
 use Rattle.dl_replay.specs.Replays.{Agrees, IsReplaying}
 
 -- ---- whose turn it is
 
--- The play of this log has come so far as this progress and these threads say.
+-- The play of this log, in strata if there are some, has come so far as this progress and these threads say.
 module _ (log : LogParts) (p : Progress) (u : Used) (ts : List Parts) where
   -- before the end of the log it is the turn of the actor that the log names
-  pub now-before : (n : ℕ) (last : Option ℕ) → position p ≡ n → p.last ≡ last → nat_lt n log.count ≡ true
-      → turn_of n ts (head log n last (map is_live ts)) ≡ now_at log p u ts
+  pub now-before : (o : Option Standing) (n : ℕ) (last : Option ℕ) → position p ≡ n → p.last ≡ last → nat_lt n log.count ≡ true
+      → turn_of n ts (actor_next o log n last ts) ≡ now_by o log p u ts
   unfolding now_at
-  now-before n last d l e = rw (d, l, e) refl
+  now-before None n last d l e = rw (d, l, e) refl
+  now-before (Some x) n last d l e = rw (d, e) refl
 
   -- at the end it is nobody's
-  pub now-past : (n : ℕ) → position p ≡ n → nat_lt n log.count ≡ false → at_end n (has_left_over log u ts) ≡ now_at log p u ts
+  pub now-past : (o : Option Standing) (n : ℕ) → position p ≡ n → nat_lt n log.count ≡ false → at_end n (has_left_over log u ts) ≡ now_by o log p u ts
   unfolding now_at
-  now-past n d e = rw (d, e) refl
+  now-past None n d e = rw (d, e) refl
+  now-past (Some x) n d e = rw (d, e) refl
 
 chosen-over : (c b : Bool) (n : ℕ) → is_over (cond c (Ended (End.At n)) (at_end_of_log (at_end n b))) ≡ true
 chosen-over true b n = refl
@@ -51,13 +54,13 @@ end-over None count n false = refl
 end-over (Some i) count n b = chosen-over (nat_le i.last n && nat_lt n count) b n
 
 -- a replay that isn't over has commits left
-pub now-left : (log : LogParts) (i : Option Interval) (p : Progress) (u : Used) (ts : List Parts)
-    → is_over (now_in i log.count (position p) (now_at log p u ts)) ≡ false → position p < log.count
-now-left log i p u ts e =
+pub now-left : (log : LogParts) (i : Option Interval) (o : Option Standing) (p : Progress) (u : Used) (ts : List Parts)
+    → is_over (now_in i log.count (position p) (now_by o log p u ts)) ≡ false → position p < log.count
+now-left log i o p u ts e =
     elim (cases_Bool (nat_lt (position p) log.count)) [
       | inl before ↦ ltb-true (position p) log.count before
       | inr past ↦
-          let end = now-past log p u ts (position p) refl past in
+          let end = now-past log p u ts o (position p) refl past in
           let over = end-over i log.count (position p) (has_left_over log u ts) in
           absurd (true≢false (sym over ∙ ap (λ now. is_over (now_in i log.count (position p) now)) end ∙ e))
     ]
@@ -69,24 +72,25 @@ pub agrees-self : (s : State) → Agrees s (progress_from (state_in s))
 agrees-self s = record { commits = omega arith; last = refl; request = refl }
 
 -- a replay from a state on has commits left unless it is over
-pub left-from : (log : LogParts) (i : Option Interval) (s : State) (r : Following) → r ≡ followed_from log i (state_in s) → is_over r.now ≡ false → s.commits < log.count
-left-from log i s r e going =
-    let p = progress_from (state_in s) in
-    omega (arith, now-left log i p s.used s.threads (sym (ap (λ (x : Following). is_over x.now) e) ∙ going))
+abbrev pub followed_at : LogParts → Option Interval → Option Standing → State → Following
+followed_at log i o s = followed log i o (progress_from (state_in s)) s.used s.threads
+
+left-from : (log : LogParts) (i : Option Interval) (o : Option Standing) (s : State) → is_over (followed_at log i o s).now ≡ false → s.commits < log.count
+left-from log i o s going = omega (arith, now-left log i o (progress_from (state_in s)) s.used s.threads going)
 
 -- a replay that goes on from a state within its log
-pub goes-on : (log : LogParts) (i : Option Interval) (s : State) → IsLog log → IsBounded log (state_in s) → IsSoundIf (length s.memory) s.request
-    → IsReplaying (followed_from log i (state_in s)) s
-goes-on log i s is bounded inside = record { is_log = is; bounded = bounded; left = left-from log i s (followed_from log i (state_in s)) refl; request = inside }
+pub goes-on : (log : LogParts) (i : Option Interval) (o : Option Standing) (s : State) → IsLog log → IsBounded log (state_in s) → IsSoundIf (length s.memory) s.request → IsWithinIf o s.commits
+    → IsReplaying (followed_at log i o s) s
+goes-on log i o s is bounded inside within = record { is_log = is; bounded = bounded; left = left-from log i o s; request = inside; strata = within }
 
 -- whose turn it is at a state, by the number of its commits
 pub followed-is : (log : LogParts) (i : Option Interval) (s : State) (now : TurnOrEnd)
     → now ≡ now_in i log.count s.commits (now_at log (progress_from (state_in s)) s.used s.threads)
-    → record { log = log; interval = i; now = now; total = 0 } ≡ followed_from log i (state_in s)
+    → record { log = log; interval = i; strata = None; now = now; total = 0 } ≡ followed_from log i (state_in s)
 followed-is log i s now e =
     let p = progress_from (state_in s) in
     let at : s.commits ≡ position p = omega arith in
-    ap (λ (n : TurnOrEnd). record { log = log; interval = i; now = n; total = 0 })
+    ap (λ (n : TurnOrEnd). record { log = log; interval = i; strata = None; now = n; total = 0 })
     (e ∙ ap (λ (n : ℕ). now_in i log.count n (now_at log p s.used s.threads)) at)
 
 -- one commit more is done

@@ -1,3 +1,4 @@
+pub mod Standings
 mod Rising
 mod Lookups
 pub mod Counts

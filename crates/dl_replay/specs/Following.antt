@@ -1,4 +1,4 @@
--- A replay: its log, which of its commits it does if not all, and whose turn it is.
+-- A replay: its log, which of its commits it does if not all, or in which strata it does them, and whose turn it is.
 use Rattle.std.specs.Prelude.{ℕ, List, Option, Some, None}
 use Rattle.dl_entry.specs.declared.End.{End}
 use Rattle.dl_entry.specs.declared.Why.{Why}
@@ -9,14 +9,17 @@ use Rattle.spec_play.specs.declared.used.Used.{Used}
 use Rattle.spec_play.specs.declared.interval.Interval.{Interval}
 use Rattle.spec_play.specs.Progress.{Progress, position}
 use Rattle.spec_play.specs.Turns as turns
+use Rattle.spec_strata.specs.Standing.{Standing}
 use Rattle.spec_play.specs.States.{State, progress_from}
 use Rattle.spec_play.specs.Intervals.{now_in}
 use Rattle.spec_protocol.specs.machine.Spheres.{Cursor}
+use Rattle.spec_protocol.specs.machine.Commits.{now_by}
 use Rattle.dl_replay.specs.declared.turn_or_end.TurnOrEnd.{TurnOrEnd}
 
 pub record Following : Type 0 where
   pub log : LogParts
   pub interval : Option Interval
+  pub strata : Option Standing
   pub now : turns.TurnOrEnd
   -- the instructions of the pieces of the present commit
   pub total : ℕ
@@ -27,22 +30,24 @@ now_seen (TurnOrEnd.Turn thread) = turns.Turn thread
 now_seen TurnOrEnd.TurnOfDma = turns.TurnOfDma
 now_seen (TurnOrEnd.Ended how) = turns.Ended how
 
-abbrev pub following : LogParts → Option Interval → TurnOrEnd → (total : ℕ) → Following
-following log interval turn total = record { log = log; interval = interval; now = now_seen turn; total = total }
+abbrev pub following : LogParts → Option Interval → Option Standing → TurnOrEnd → (total : ℕ) → Following
+following log interval strata turn total =
+    record { log = log; interval = interval; strata = strata; now = now_seen turn; total = total }
 
 -- between two commits: after this progress, with these threads
-abbrev pub followed : LogParts → Option Interval → Progress → Used → List Parts → Following
-followed log interval p u threads =
+abbrev pub followed : LogParts → Option Interval → Option Standing → Progress → Used → List Parts → Following
+followed log interval strata p u threads =
     record {
       log = log;
       interval = interval;
-      now = now_in interval log.count (position p) (turns.now_at log p u threads);
+      strata = strata;
+      now = now_in interval log.count (position p) (now_by strata log p u threads);
       total = 0;
     }
 
--- from a state of the log's play on
+-- from a state of the log's play on, in no strata
 abbrev pub followed_from : LogParts → Option Interval → State → Following
-followed_from log interval s = followed log interval (progress_from s) s.used s.threads
+followed_from log interval s = followed log interval None (progress_from s) s.used s.threads
 
 -- the replay ends after so many commits, diverged for this reason
 abbrev pub diverged : Why → (commits : ℕ) → Following → Following
@@ -51,7 +56,15 @@ diverged why commits r = record r { now = turns.Ended (End.Diverged commits why)
 -- the cursor of the replayed sphere, by what is used of the log and the loads of the pieces
 abbrev pub cursor_of : Following → Used → List Load → Cursor
 cursor_of r used loads =
-    record { log = r.log; interval = r.interval; used = used; now = r.now; total = r.total; loads = loads }
+    record {
+      log = r.log;
+      interval = r.interval;
+      strata = r.strata;
+      used = used;
+      now = r.now;
+      total = r.total;
+      loads = loads;
+    }
 
 -- how it ended, if it did
 abbrev pub end_of : turns.TurnOrEnd → Option End

@@ -1,3 +1,4 @@
+pub mod Standings
 pub mod Following
 pub mod Lists
 pub mod Counts

@@ -7,13 +7,16 @@ use Rattle.spec_protocol.specs.machine.Spheres.{is_over}
 use Rattle.spec_protocol.specs.promises.Sound.{IsSoundIf}
 use Rattle.dl_kernel.specs.States.{PlayState as State, state_in}
 use Rattle.dl_replay.specs.Following.{Following}
+use Rattle.dl_replay.specs.Standings.{IsWithinIf}
 
--- the state is within the log, unless the replay is over the log has a commit left, and the outstanding request is sound
+-- the state is within the log, unless the replay is over the log has a commit left, the outstanding request is sound, and
+-- strata count no more commits than are done
 pub record IsReplaying (r : Following) (s : State) : Type 0 where
   pub is_log : IsLog r.log
   pub bounded : IsBounded r.log (state_in s)
   pub left : is_over r.now ≡ false → s.commits < r.log.count
   pub request : IsSoundIf (length s.memory) s.request
+  pub strata : IsWithinIf r.strata s.commits
 
 -- the sphere has come as far as its state says
 pub record Agrees (s : State) (p : Progress) : Type 0 where

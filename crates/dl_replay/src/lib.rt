@@ -1,11 +1,14 @@
-//! Replaying: what a log, in any mode, makes of the requests of its sphere, one commit after another.
+//! Replaying: what a log, in any mode, makes of the requests of its sphere, one commit after another; also in strata, whose
+//! commits may come in another order.
 #![tactic(auto)]
 
 mod copying;
 mod counting;
+mod done;
 mod judging;
 mod lookup;
 mod replayer;
+mod standing;
 mod turn_or_end;
 mod turning;
 mod verdict;
@@ -18,4 +21,5 @@ pub use dl_wbuf::Buffer;
 pub use replayer::Replayer;
 pub use spec_log::Log;
 pub use spec_play::Interval;
+pub use spec_strata::Strata;
 pub use verdict::Verdict;

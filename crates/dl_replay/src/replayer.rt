@@ -1,7 +1,7 @@
 //! The replayer of a sphere. The sphere's state is the caller's, who hands it in. A commit is judged before anything
 //! changes. If it goes, it is taken into the state, except for the words that it stores, which are the caller's to lay.
-ghost use Rattle.std.specs.Prelude.{◌≡◌, ℕ, List, ◌+◌, ◌<◌, ◌≤◌, ◌^◌, false, length, slice_get, Some};
-ghost use Rattle.std.specs.Prelude.{IfOk, OnErr, OnSome};
+ghost use Rattle.std.specs.Prelude.{◌≡◌, ℕ, List, ◌+◌, ◌<◌, ◌≤◌, ◌^◌, false, length, slice_get, Some, option_map};
+ghost use Rattle.std.specs.Prelude.{IfOk, IfSome, OnOk, OnErr, OnSome};
 ghost use Rattle.dl_entry.specs.Numbers.{most_threads};
 ghost use Rattle.dl_entry.specs.declared.Why.{Why};
 ghost use Rattle.spec_isa.specs.Words.{Stored};
@@ -16,19 +16,22 @@ ghost use Rattle.spec_play.specs.Spawned.{AreNew};
 ghost use Rattle.spec_play.specs.Turns.{Turn, TurnOfDma};
 ghost use Rattle.spec_play.specs.Transfers.{DmaGoes, dma_verdict};
 ghost use Rattle.spec_play.specs.Verdicts.{Goes, chunk_verdict, serial_verdict};
-ghost use Rattle.spec_protocol.specs.machine.Spheres.{Replay, actor_of, is_over, pieces_of};
+ghost use Rattle.spec_protocol.specs.machine.Spheres.{Replay, actor_of, is_over, joins_in, pieces_of};
+ghost use Rattle.spec_strata.specs.Standing.{after_dma, after_thread, place_of, stratum_begun};
 ghost use Rattle.dl_kernel.specs.States.{PlayState, state_in};
 ghost use Rattle.dl_kernel.specs.Calls.{spawned_list};
 ghost use Rattle.spec_protocol.specs.promises.Sound.{IsSoundIf};
 ghost use Rattle.dl_replay.specs.Following.{cursor_of, diverged, end_of, followed, followed_from};
-ghost use Rattle.dl_replay.specs.Judged.{dma_judged, judged};
+ghost use Rattle.dl_replay.specs.Judged.{dma_judged, judged, last_by};
 ghost use Rattle.dl_replay.specs.Judging.{transfer_verdict};
 ghost use Rattle.dl_replay.specs.Left.{SaysSize, served_by, served_left, verdict_left, verdict_stored};
 ghost use Rattle.dl_replay.specs.Limits.{chunk_limit, chunk_limit_in};
 ghost use Rattle.dl_replay.specs.Replays.{Agrees, IsReplaying};
+ghost use Rattle.dl_replay.specs.Standings.{AreFewIf, IsWithinIf};
 
 use crate::judging::{Done, Finish, judge_chunk, judge_dma, judge_step, transfer_of};
 use crate::lookup::Lookup;
+use crate::standing::Standing;
 use crate::turn_or_end::TurnOrEnd;
 use crate::turning::now_in;
 use crate::verdict::Verdict;
@@ -39,15 +42,17 @@ use dl_thread::Thread;
 use dl_wbuf::Buffer;
 use spec_log::Log;
 use spec_play::Interval;
+use spec_strata::Strata;
 use std::alloc::Global;
 use std::marker::Model;
 
-/// Follows a log, or an interval of its commits, by which its sphere's commits are judged.
+/// Follows a log, or an interval of its commits, by which its sphere's commits are judged; or strata, with their log.
 #[derive(Drop)]
 pub struct Replayer<M: Mode> {
     alloc: Global,
     log: Lookup<M>,
     interval: Option<Interval>,
+    strata: Option<Standing>,
     turn: TurnOrEnd,
     total: u32,
 }
@@ -58,7 +63,7 @@ impl<M: Mode> Model for Replayer<M> {
 
     ghost Value = { Following };
 
-    ghost view = { λ r. following r.log r.interval r.turn r.total };
+    ghost view = { λ r. following r.log r.interval r.strata r.turn r.total };
 
     ghost invariant = { λ r. IsLog r.log };
 }
@@ -78,11 +83,12 @@ impl<M: Noting> Replayer<M> {
         ensures at { IfOk result (λ replayer. IsReplaying replayer state.now) }
     {
         let log = Lookup::new(alloc, log)?;
-        let turn = now_in(&log, interval, state);
+        let turn = now_in(&log, interval, None, state);
         Ok(Replayer {
             alloc,
             log,
             interval,
+            strata: None,
             turn,
             total: 0,
         })
@@ -90,6 +96,17 @@ impl<M: Noting> Replayer<M> {
 }
 
 impl<M: Mode> Replayer<M> {
+    /// The replay goes by these strata, of which nothing is done. Its log is the one that has their order.
+    pub fn go_by(&mut self, alloc: Global, strata: &Strata) -> Result<(), OutOfMemory>
+        ensures value { let x = stratum_begun strata.now.strata 0 in
+            OnOk result (self.new ≡ record self.old { strata = Some x }) }
+        ensures at { (s : PlayState) → IsReplaying self.old s → OnOk result (IsReplaying self.new s) }
+        ensures still { OnErr result (self.new ≡ self.old) }
+    {
+        self.strata = Some(Standing::new(alloc, strata)?);
+        Ok(())
+    }
+
     /// Whose commit is next, unless the replay has ended.
     pub fn head(&self) -> Option<Actor>
         ensures { result ≡ actor_of self.now.now }
@@ -124,6 +141,28 @@ impl<M: Mode> Replayer<M> {
         ensures { result ≡ self.now.log.s }
     {
         self.log.standard()
+    }
+
+    /// Whether a thread may commit although it isn't its turn: in strata, unless a part of a commit is done, while it has
+    /// chunks left in the present one.
+    pub fn joins_in(&self, thread: u8) -> bool
+        ensures { result ≡ joins_in self.now.strata thread self.now.total }
+    {
+        match &self.strata {
+            Some(standing) => self.total == 0 && standing.has_chunks_left(thread),
+            None => false,
+        }
+    }
+
+    /// How many commits come before a thread's next one, in strata; else all come before it.
+    pub fn place(&self, thread: u8) -> Option<u32>
+        ensures value { result ≡ option_map (place_of thread) self.now.strata }
+        ensures within { (s : PlayState) → IsReplaying self.now s → IfSome result (λ place. place ≤ s.commits) }
+    {
+        match &self.strata {
+            Some(standing) => Some(standing.place(thread)),
+            None => None,
+        }
     }
 
     /// The instructions of the present commit's pieces.
@@ -163,16 +202,19 @@ impl<M: Mode> Replayer<M> {
         }
     }
 
-    /// A piece of the present commit went, of `n` instructions. All pieces of a commit are less than a standard chunk.
-    pub fn accept_piece(&mut self, n: u32)
-        requires { self.old.total + n ≤ self.old.log.s }
-        ensures value { self.new ≡ record self.old { total = self.old.total + n } }
+    /// A piece of the thread's present commit went, of `n` instructions, and the turn is its own until the commit is whole.
+    /// All pieces of a commit are less than a standard chunk.
+    pub fn accept_piece(&mut self, thread: u8, n: u32)
+        requires going { is_over self.old.now ≡ false }
+        requires few { self.old.total + n ≤ self.old.log.s }
+        ensures value { self.new ≡ record self.old { now = Turn thread; total = self.old.total + n } }
         ensures at { (s : PlayState) → IsReplaying self.old s → IsReplaying self.new s }
     {
+        self.turn = TurnOrEnd::Turn(thread);
         self.total += n;
     }
 
-    /// Judges a chunk of so many instructions of the thread whose turn it is, which it left like this. If the replay diverges,
+    /// Judges a chunk of so many instructions of a thread that may commit, which it left like this. If the replay diverges,
     /// only its end is noted.
     pub fn end_chunk(
         &mut self,
@@ -182,7 +224,7 @@ impl<M: Mode> Replayer<M> {
         state: &mut State,
     ) -> Verdict
         requires at { IsReplaying self.old state.old }
-        requires turn { self.old.now ≡ Turn number }
+        requires going { is_over self.old.now ≡ false }
         requires thread { number < length state.old.threads }
         requires commits { thread.now.commits ≤ state.old.commits }
         ensures at { IsReplaying self.new state.new }
@@ -206,7 +248,7 @@ impl<M: Mode> Replayer<M> {
 
     // ---- serial steps
 
-    /// Judges the serial step of the thread whose turn it is, and does it. It gives what the step leaves, of which all but
+    /// Judges the serial step of a thread that may commit, and does it. It gives what the step leaves, of which all but
     /// the words is in the state already; or why the replay leaves its log, and then only its end is noted. If memory runs
     /// out, all is as before.
     pub fn serve_step(
@@ -215,7 +257,7 @@ impl<M: Mode> Replayer<M> {
         state: &mut State,
     ) -> Result<Result<StepResult, Why>, OutOfMemory>
         requires at { IsReplaying self.old state.old }
-        requires turn { self.old.now ≡ Turn number }
+        requires going { is_over self.old.now ≡ false }
         requires thread { number < length state.old.threads }
         ensures at { IsReplaying self.new state.new }
         ensures judged { (p : Progress) (t : Parts) → let s = state.old in Agrees s p → slice_get s.threads number ≡ Some t →
@@ -323,12 +365,30 @@ impl<M: Mode> Replayer<M> {
             change.spawned,
         );
         state.request = change.request;
-        state.last = Some(number);
+        self.note_thread(number, state);
         state.used = change.finish.used;
         self.go_on(state);
     }
 
-    // A DMA went, which moves no turn.
+    // The thread has committed, and is the last one unless in strata another comes after it.
+    fn note_thread(&mut self, number: u8, state: &mut State)
+        requires within { IsWithinIf self.old.strata state.old.commits }
+        requires few { state.old.commits + 1 < 2 ^ 32 }
+        ensures replay { self.new ≡ record self.old { strata = option_map (after_thread number) self.old.strata } }
+        ensures within { IsWithinIf self.new.strata (state.old.commits + 1) }
+        ensures state { state.new ≡ record state.old { last = last_by self.old.strata number state.old.last } }
+    {
+        let Some(standing) = &mut self.strata else {
+            state.last = Some(number);
+            return;
+        };
+        if standing.is_last(number) {
+            state.last = Some(number);
+        }
+        standing.after_thread(number);
+    }
+
+    // A DMA went, which moves no turn of threads.
     fn commit_dma(&mut self, state: &mut State)
         requires at { IsReplaying self.old state.old }
         requires left { is_over self.old.now ≡ false }
@@ -339,19 +399,30 @@ impl<M: Mode> Replayer<M> {
     {
         state.request = None;
         state.used.dmas += 1;
+        self.note_dma();
         self.go_on(state);
+    }
+
+    // A DMA is a stratum by itself.
+    fn note_dma(&mut self)
+        requires { AreFewIf self.old.strata }
+        ensures { self.new ≡ record self.old { strata = option_map after_dma self.old.strata } }
+    {
+        if let Some(standing) = &mut self.strata {
+            standing.after_dma();
+        }
     }
 
     // One commit more is done, after which the end is looked at.
     fn go_on(&mut self, state: &mut State)
         requires { state.old.commits + 1 < 2 ^ 32 }
         ensures state { state.new ≡ record state.old { commits = state.old.commits + 1 } }
-        ensures replay { (p : Progress) → Agrees state.new p →
-            self.new ≡ followed self.old.log self.old.interval p state.new.used state.new.threads }
+        ensures replay { (p : Progress) → Agrees state.new p → let r = self.old in
+            self.new ≡ followed r.log r.interval r.strata p state.new.used state.new.threads }
     {
         state.commits += 1;
         self.total = 0;
-        self.turn = now_in(&self.log, self.interval, state);
+        self.turn = now_in(&self.log, self.interval, self.strata.as_ref(), state);
     }
 }
 

@@ -1,15 +1,18 @@
 //! Whose turn it is, or how the replay ends: looked at before the first commit and after each whole one.
-ghost use Rattle.std.specs.Prelude.{◌≡◌, map};
+ghost use Rattle.std.specs.Prelude.{◌≡◌, map, option_map};
 ghost use Rattle.spec_log.specs.Head.{head};
 ghost use Rattle.spec_kernel.specs.Interrupts.{is_live};
 ghost use Rattle.spec_play.specs.Progress.{Progress};
-ghost use Rattle.spec_play.specs.Turns.{now_at, turn_of, at_end, has_left_over};
+ghost use Rattle.spec_play.specs.Turns.{turn_of, at_end, has_left_over};
 ghost use Rattle.spec_play.specs.Intervals.{at_end_of_log, now_in};
+ghost use Rattle.spec_protocol.specs.machine.Commits.{now_by};
 ghost use Rattle.dl_replay.specs.Following.{now_seen};
 ghost use Rattle.dl_replay.specs.Replays.{Agrees};
+ghost use Rattle.dl_replay.specs.Standings.{actor_next};
 
 use crate::counting::commits_of;
 use crate::lookup::Lookup;
+use crate::standing::Standing;
 use crate::turn_or_end::TurnOrEnd;
 use dl_entry::{Actor, End, Why};
 use dl_kernel::{State, live_of, lives};
@@ -17,18 +20,23 @@ use dl_mode::Mode;
 use dl_thread::Threads;
 use spec_play::{Interval, Used};
 
-/// Whose turn it is at a state of the log's play, if all commits are replayed or those of an interval.
-pub fn now_in<M: Mode>(log: &Lookup<M>, interval: Option<Interval>, state: &State) -> TurnOrEnd
-    ensures { (p : Progress) → Agrees state.now p →
-        let s = state.now in now_seen result ≡ now_in interval log.now.count s.commits (now_at log.now p s.used s.threads) }
+/// Whose turn it is at a state of the log's play, or of its strata, if all commits are replayed or those of an interval.
+pub fn now_in<M: Mode>(
+    log: &Lookup<M>,
+    interval: Option<Interval>,
+    strata: Option<&Standing>,
+    state: &State,
+) -> TurnOrEnd
+    ensures { (p : Progress) → Agrees state.now p → let s = state.now in let x = option_map (λ x. x.now) strata.entry in
+        now_seen result ≡ now_in interval log.now.count s.commits (now_by x log.now p s.used s.threads) }
 {
     match interval {
-        None => now_at(log, state),
+        None => now_by(log, strata, state),
         // the next turn isn't looked at if the log has more
         Some(interval) if interval.last <= state.commits && state.commits < log.count() => {
             TurnOrEnd::Ended(End::At(state.commits))
         }
-        Some(_) => at_end_of_log(now_at(log, state)),
+        Some(_) => at_end_of_log(now_by(log, strata, state)),
     }
 }
 
@@ -42,13 +50,14 @@ fn at_end_of_log(turn: TurnOrEnd) -> TurnOrEnd
     }
 }
 
-// In the log's own play.
-fn now_at<M: Mode>(log: &Lookup<M>, state: &State) -> TurnOrEnd
-    ensures { (p : Progress) → Agrees state.now p →
-        now_seen result ≡ now_at log.now p state.now.used state.now.threads }
+// In the log's own play, or in strata.
+fn now_by<M: Mode>(log: &Lookup<M>, strata: Option<&Standing>, state: &State) -> TurnOrEnd
+    ensures { (p : Progress) → Agrees state.now p → let s = state.now in let x = option_map (λ x. x.now) strata.entry in
+        now_seen result ≡ now_by x log.now p s.used s.threads }
 {
     if state.commits < log.count() {
-        turn_of(state.commits, &state.threads, next_actor(log, state))
+        let actor = next_actor(log, strata, state);
+        turn_of(state.commits, &state.threads, actor)
     } else {
         at_end(
             state.commits,
@@ -57,8 +66,19 @@ fn now_at<M: Mode>(log: &Lookup<M>, state: &State) -> TurnOrEnd
     }
 }
 
+// The actor that comes next: the head of strata, or the one that the log names.
+fn next_actor<M: Mode>(log: &Lookup<M>, strata: Option<&Standing>, state: &State) -> Option<Actor>
+    ensures { let s = state.now in let x = option_map (λ x. x.now) strata.entry in
+        result ≡ actor_next x log.now s.commits s.last s.threads }
+{
+    match strata {
+        Some(standing) => standing.head(),
+        None => named_actor(log, state),
+    }
+}
+
 // The actor that the log names next.
-fn next_actor<M: Mode>(log: &Lookup<M>, state: &State) -> Option<Actor>
+fn named_actor<M: Mode>(log: &Lookup<M>, state: &State) -> Option<Actor>
     ensures { let s = state.now in result ≡ head log.now s.commits s.last (map is_live s.threads) }
 {
     let live = live_of(&state.threads);

@@ -39,7 +39,7 @@ never-turn : {how : End} {k : ℕ} → Ended how ≡ Turn k → ⊥
 never-turn e = cc
 
 -- in a replay of all commits the turn is the play's
-pub all-now : (new : Following) (log : LogParts) (o : Option Interval) (p : Progress) (u : Used) (ts : List Parts) → new ≡ followed log o p u ts → o ≡ None → new.now ≡ now_at log p u ts
+pub all-now : (new : Following) (log : LogParts) (o : Option Interval) (p : Progress) (u : Used) (ts : List Parts) → new ≡ followed log o None p u ts → o ≡ None → new.now ≡ now_at log p u ts
 all-now new log o p u ts is all =
     ap (λ (x : Following). x.now) is ∙ ap (λ (i : Option Interval). now_in i log.count (position p) (now_at log p u ts)) all
 
@@ -53,6 +53,7 @@ sized r s m size at =
       bounded = record { commits = at.bounded.commits; threads = at.bounded.threads; interrupts = at.bounded.interrupts };
       left = at.left;
       request = subst (λ (n : ℕ). IsSoundIf n s.request) (sym size) at.request;
+      strata = at.strata;
     }
 
 -- a commit is noted
@@ -62,7 +63,7 @@ pub record IsNoted (s n : Sphere) (c : Commit) : Type 0 where
   pub capacity : n.words.capacity ≡ s.words.capacity
 
 -- a sphere plays on with one commit more, after which the turn is looked at, whatever its memory holds
-noted-playing : (r new : Following) (s n : Sphere) (left : State) (m : List ℕ) (c : Commit) (p : Progress) → new ≡ followed r.log r.interval p left.used left.threads → left.commits ≡ s.past.state.commits + 1 → IsReplaying new left
+noted-playing : (r new : Following) (s n : Sphere) (left : State) (m : List ℕ) (c : Commit) (p : Progress) → new ≡ followed r.log r.interval None p left.used left.threads → left.commits ≡ s.past.state.commits + 1 → IsReplaying new left
     → IsSoundIf (length left.memory) left.request → IsNoted s n c → n.past.state ≡ record left { memory = m } → length m ≡ length left.memory → IsPlaying r s → IsPlaying new n
 noted-playing r new s n left m c p is more at sound noted state size h =
     let count = position-more (progress_in s.past) c in
@@ -74,6 +75,7 @@ noted-playing r new s n left m c p is more at sound noted state size h =
     record {
       replaying = subst (IsReplaying new) (sym state) (sized new left m size at);
       all = ap (λ (x : Following). x.interval) is ∙ h.all;
+      order = ap (λ (x : Following). x.strata) is;
       whole = ap (λ (x : Following). x.total) is;
       turn = λ k e. subst (λ (x : State). k < length x.threads) (sym state)
           (named r.log p left.used left.threads k (sym (all-now new r.log r.interval p left.used left.threads is h.all) ∙ e));
@@ -84,7 +86,7 @@ noted-playing r new s n left m c p is more at sound noted state size h =
     }
 
 -- whether its words are laid into memory, or memory ran out before
-both-playing : {A E : Type 0} (result : Result A E) (r new : Following) (s n : Sphere) (left : State) (words : List Stored) (c : Commit) (p : Progress) → new ≡ followed r.log r.interval p left.used left.threads → left.commits ≡ s.past.state.commits + 1 → IsReplaying new left
+both-playing : {A E : Type 0} (result : Result A E) (r new : Following) (s n : Sphere) (left : State) (words : List Stored) (c : Commit) (p : Progress) → new ≡ followed r.log r.interval None p left.used left.threads → left.commits ≡ s.past.state.commits + 1 → IsReplaying new left
     → IsSoundIf (length left.memory) left.request → IsNoted s n c → OnOk result (n.past.state ≡ record left { memory = lays left.memory words }) → OnErr result (n.past.state ≡ left) → IsPlaying r s → IsPlaying new n
 both-playing (Ok x) r new s n left words c p is more at sound noted laid still h =
     noted-playing r new s n left (lays left.memory words) c p is more at sound noted laid (length_lays left.memory words) h
@@ -96,7 +98,7 @@ pub gone-playing : {A E : Type 0} (result : Result A E) (r new : Following) (s n
 gone-playing result r new s n left k v words c g at sound noted laid still h =
     let p = with_effect k g.effect (progress_in s.past) in
     both-playing result r new s n left words c p
-    (g.replay ∙ ap (λ (x : State). followed r.log r.interval p x.used x.threads) (sym g.state)) (ap (λ (x : State). x.commits) g.state) at
+    (g.replay ∙ ap (λ (x : State). followed r.log r.interval None p x.used x.threads) (sym g.state)) (ap (λ (x : State). x.commits) g.state) at
     (subst (λ (x : State). IsSoundIf (length x.memory) x.request) (sym g.state) sound) noted laid still h
 
 pub transferred-playing : {A E : Type 0} (result : Result A E) (r new : Following) (s n : Sphere) (left : State) (v : DmaVerdict) (words : List Stored) (c : Commit) → (g : HasTransferred r s.past.state (progress_in s.past) new left v) → IsReplaying new left
@@ -104,7 +106,7 @@ pub transferred-playing : {A E : Type 0} (result : Result A E) (r new : Followin
 transferred-playing result r new s n left v words c g at noted laid still h =
     let p = with_dma (progress_in s.past) in
     both-playing result r new s n left words c p
-    (g.replay ∙ ap (λ (x : State). followed r.log r.interval p x.used x.threads) (sym g.state)) (ap (λ (x : State). x.commits) g.state) at
+    (g.replay ∙ ap (λ (x : State). followed r.log r.interval None p x.used x.threads) (sym g.state)) (ap (λ (x : State). x.commits) g.state) at
     (subst (λ (x : State). IsSoundIf (length x.memory) x.request) (sym g.state) tt) noted laid still h
 
 -- no commit is noted, and the state is as it was left
@@ -123,6 +125,7 @@ same-playing r s n same h =
     record {
       replaying = subst (IsReplaying r) (sym same.state) h.replaying;
       all = h.all;
+      order = h.order;
       whole = h.whole;
       turn = λ k e. subst (λ (x : State). k < length x.threads) (sym same.state) (h.turn k e);
       counted = counts s n s.past.state same ∙ h.counted ∙ sym (ap (λ (x : State). x.commits) same.state);
@@ -137,6 +140,7 @@ failed-playing r new s n left why failed at l h =
     record {
       replaying = subst (IsReplaying new) (sym l.state) at;
       all = ap (λ (x : Following). x.interval) failed.replay ∙ h.all;
+      order = ap (λ (x : Following). x.strata) failed.replay ∙ h.order;
       whole = ap (λ (x : Following). x.total) failed.replay ∙ h.whole;
       turn = λ k e. absurd (never-turn (sym (ap (λ (x : Following). x.now) failed.replay) ∙ e));
       counted = counts s n left l ∙ h.counted ∙ sym (ap (λ (x : State). x.commits) same);

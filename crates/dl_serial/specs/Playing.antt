@@ -48,11 +48,12 @@ played_in r b =
       now = r.now;
     }
 
--- the replay is of all commits of its log, and in no piece of one; it names a thread that is there; the state counts the
+-- the replay is of all commits of its log, in no strata, and in no piece of one; it names a thread that is there; the state counts the
 -- commits; a DMA stays inside the memory; and there is room for the words of a standard chunk
 pub record IsPlaying (r : Following) (s : Sphere) : Type 0 where
   pub replaying : IsReplaying r s.past.state
   pub all : r.interval ≡ None
+  pub order : r.strata ≡ None
   pub whole : r.total ≡ 0
   pub turn : (k : ℕ) → r.now ≡ Turn k → k < length s.past.state.threads
   pub counted : position (progress_in s.past) ≡ s.past.state.commits

@@ -1,9 +1,10 @@
 -- What a role says of its sphere: how its replay ended, how much of a commit has gone in pieces, and the log so far.
-use Rattle.std.specs.Prelude.{ℕ, Option, Some, None}
+use Rattle.std.specs.Prelude.{ℕ, Bool, false, Option, Some, None}
+use Rattle.dl_entry.specs.declared.Actor.{Actor}
 use Rattle.dl_entry.specs.declared.End.{End}
 use Rattle.dl_entry.specs.declared.Request.{Request}
 use Rattle.spec_log.specs.declared.LogParts.{LogParts}
-use Rattle.spec_protocol.specs.machine.Spheres.{Role, Plain, Record, Replay}
+use Rattle.spec_protocol.specs.machine.Spheres.{Role, Plain, Record, Replay, joins_in}
 use Rattle.spec_play.specs.Transfers.{DmaGoes}
 use Rattle.spec_protocol.specs.machine.Commits.{MovedSphere}
 use Rattle.dl_replay.specs.Following.{end_of}
@@ -15,6 +16,13 @@ abbrev pub end_in : Role → Option End
 end_in Plain = None
 end_in (Record recording) = None
 end_in (Replay b) = end_of b.now
+
+-- whether an actor may commit although it isn't its turn
+abbrev pub joins : Role → Actor → Bool
+joins Plain actor = false
+joins (Record recording) actor = false
+joins (Replay b) (Actor.Thread k) = joins_in b.strata k b.total
+joins (Replay b) Actor.Dma = false
 
 -- the instructions of the pieces of a replay's present commit
 abbrev pub pieces_in : Role → ℕ

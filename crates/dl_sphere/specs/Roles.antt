@@ -1,5 +1,5 @@
 -- What a sphere keeps for its role, and how that stands to its threads and commits.
-use Rattle.std.specs.Prelude.{◌≡◌, ℕ, ◌+◌, ◌≤◌, Bool, true, List, length, slice_index, Option}
+use Rattle.std.specs.Prelude.{◌≡◌, ℕ, ◌+◌, ◌≤◌, Bool, true, List, length, slice_index, Option, Some, None}
 use Rattle.dl_entry.specs.declared.Commit.{Commit}
 use Rattle.dl_entry.specs.declared.Input.{Input}
 use Rattle.dl_entry.specs.Numbers.{most_threads, plain_threads}
@@ -11,6 +11,7 @@ use Rattle.dl_record.specs.Epochs.{InEpochs, base}
 use Rattle.spec_play.specs.Noted.{as_log}
 use Rattle.spec_log.specs.Versions.{new_threads}
 use Rattle.spec_isa.specs.declared.thread.Load.{Load}
+use Rattle.spec_strata.specs.Standing.{Standing}
 use Rattle.dl_kernel.specs.declared.past.Past.{Past}
 use Rattle.dl_replay.specs.Following.{Following, cursor_of}
 use Rattle.dl_replay.specs.Replays.{IsReplaying}
@@ -104,11 +105,16 @@ IsLiveOf s p Plain = HasFew p
 IsLiveOf s p (Recording r) = HasRecorded s p r
 IsLiveOf s p (Replaying r loads) = ⊥
 
+-- in strata the sphere has all commits
+abbrev pub HasAllIf : Option Standing → (first : ℕ) → Type 0
+HasAllIf None first = Unit {0}
+HasAllIf (Some x) first = first ≡ 0
+
 -- and for any: a replay is as far in its log as its sphere's state is
 abbrev pub IsKeepingOf : (s : ℕ) → Past → Keeping → Type 0
 IsKeepingOf s past Plain = HasFew (sphere_at past protocol.Plain)
 IsKeepingOf s past (Recording r) = HasRecorded s (sphere_at past (protocol.Record (recording_of r))) r
-IsKeepingOf s past (Replaying r loads) = IsReplaying r past.state
+IsKeepingOf s past (Replaying r loads) = IsReplaying r past.state × HasAllIf r.strata past.first
 
 -- the state counts the commits before the sphere's first one too
 abbrev pub IsCounted : Past → Type 0

@@ -1,5 +1,5 @@
 -- What a plan says of a sphere, as the definitions have it.
-use Rattle.std.specs.Prelude.{◌≡◌, ℕ, ◌<◌, Option, Some, None, option_map}
+use Rattle.std.specs.Prelude.{◌≡◌, ℕ, ◌<◌, List, Option, Some, None, option_map}
 use Rattle.dl_entry.specs.declared.End.{End}
 use Rattle.dl_entry.specs.declared.Why.{Why}
 use Rattle.spec_log.specs.declared.ModeName.{ModeName}
@@ -12,7 +12,9 @@ use Rattle.spec_play.specs.Turns.{Ended}
 use Rattle.spec_protocol.specs.machine.Machine as protocol
 use Rattle.spec_protocol.specs.machine.Machine.{first_played}
 use Rattle.spec_protocol.specs.machine.Spheres as machine
-use Rattle.spec_protocol.specs.promises.Sound.{IsRecordable}
+use Rattle.spec_protocol.specs.promises.Sound.{AreReplayableIf, IsRecordable}
+use Rattle.spec_strata.specs.declared.stratum.Stratum.{Stratum}
+use Rattle.spec_strata.specs.declared.strata.StrataParts.{StrataParts}
 use Rattle.dl_kernel.specs.States.{state_in}
 use Rattle.dl_sphere.specs.declared.setup.Begun.{Begun}
 use Rattle.dl_sphere.specs.declared.setup.Epochs.{Epochs}
@@ -35,8 +37,19 @@ begun_as Role.Plain = None
 begun_as (Role.Record version mode epochs) = None
 begun_as (Role.Replay replay) = replay.begun
 
+-- in which runs it may be replayed, if it is in strata
+abbrev pub strata_in : Option StrataParts → Option (List Stratum)
+strata_in None = None
+strata_in (Some v) = Some v.strata
+
+-- the strata of a role, if it replays some
+abbrev pub strata_as : Role → Option StrataParts
+strata_as Role.Plain = None
+strata_as (Role.Record version mode epochs) = None
+strata_as (Role.Replay replay) = replay.strata
+
 abbrev pub replay_setup : Replay → protocol.ReplaySetup
-replay_setup r = record { log = r.log; interval = interval_in r.begun }
+replay_setup r = record { log = r.log; interval = interval_in r.begun; strata = strata_in r.strata }
 
 abbrev pub epoch_setup : Epochs → protocol.EpochSetup
 epoch_setup e = record { size = e.size; keep = e.keep }
@@ -76,14 +89,26 @@ abbrev pub IsBegunIf : protocol.SphereSetup → protocol.ReplaySetup → Option 
 IsBegunIf image asked None = Unit {0}
 IsBegunIf image asked (Some b) = IsBegun image asked b
 
+-- strata, if there are some, are parallel on the image
+abbrev pub AreParallelIf : protocol.SphereSetup → Replay → Type 0
+AreParallelIf image r = AreReplayableIf image.memory image.entry (replay_setup r) (strata_in r.strata)
+
 abbrev pub IsBegunAs : protocol.SphereSetup → Role → Type 0
 IsBegunAs image Role.Plain = Unit {0}
 IsBegunAs image (Role.Record version mode epochs) = Unit {0}
-IsBegunAs image (Role.Replay replay) = IsBegunIf image (replay_setup replay) replay.begun
+IsBegunAs image (Role.Replay replay) =
+    IsBegunIf image (replay_setup replay) replay.begun × AreParallelIf image replay
 
--- if an interval of a log is replayed, it begins where the log's play on the image is
+-- if an interval of a log is replayed, it begins where the log's play on the image is; and if strata are, all of them are,
+-- and they are parallel on the image
 abbrev pub HasBegun : SphereSetup → Type 0
 HasBegun s = IsBegunAs (setup_of s) s.role
+
+-- what a role asks of its sphere's image
+abbrev pub IsParallelAs : protocol.SphereSetup → protocol.RoleSetup → Type 0
+IsParallelAs image protocol.IsPlain = Unit {0}
+IsParallelAs image (protocol.IsRecorded asked) = Unit {0}
+IsParallelAs image (protocol.IsReplayed asked) = AreReplayableIf image.memory image.entry asked asked.strata
 
 -- ---- standard sizes
 

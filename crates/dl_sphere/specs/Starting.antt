@@ -7,9 +7,9 @@ use Rattle.spec_play.specs.Plays.{Played}
 use Rattle.spec_play.specs.Progress.{nothing_used, position}
 use Rattle.spec_play.specs.States.{State, state_of}
 use Rattle.spec_protocol.specs.machine.Machine.{RecordSetup, ReplaySetup, RoleSetup, IsPlain, IsRecorded, IsReplayed, SphereSetup}
-use Rattle.spec_protocol.specs.machine.Machine.{first_played, first_threads, new_epochs}
+use Rattle.spec_protocol.specs.machine.Machine.{first_played, first_standing, first_threads, new_epochs}
 use Rattle.dl_record.specs.Epochs.{InEpochs}
-use Rattle.dl_replay.specs.Following.{Following, diverged}
+use Rattle.dl_replay.specs.Following.{Following, diverged, followed_from}
 use Rattle.dl_replay.specs.Replays.{IsReplaying}
 use Rattle.dl_kernel.specs.States.{PlayState as At}
 use Rattle.dl_sphere.specs.Roles.{Keeping, Plain, Recording, Replaying}
@@ -38,6 +38,7 @@ following_at asked y =
     record {
       log = asked.log;
       interval = asked.interval;
+      strata = first_standing asked;
       now = now_in asked.interval asked.log.count (position y.progress) y.now;
       total = 0;
     }
@@ -51,6 +52,10 @@ abbrev pub keeping_at : SphereSetup → (s : ℕ) → RoleSetup → Keeping
 keeping_at image s IsPlain = Plain
 keeping_at image s (IsRecorded asked) = Recording (nothing_yet asked s)
 keeping_at image s (IsReplayed asked) = Replaying (following_at asked (first_played image asked)) []
+
+-- the replay from a state of the log's play on, which in strata has done nothing of them
+abbrev pub started_from : ReplaySetup → State → Following
+started_from asked s = record (followed_from asked.log asked.interval s) { strata = first_standing asked }
 
 -- the replay, diverged where so many commits are done if there is a reason
 abbrev pub diverged_if : Option Why → (commits : ℕ) → Following → Following

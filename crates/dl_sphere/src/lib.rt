@@ -1,5 +1,5 @@
-//! A sphere: its memory, threads and commits, in one of three roles. It is plain, or recorded in a mode, or it replays a log or
-//! an interval of one.
+//! A sphere: its memory, threads and commits, in one of three roles. It is plain, or recorded in a mode, or it replays a log,
+//! an interval of one, or strata.
 #![tactic(auto)]
 
 mod commits;
@@ -34,4 +34,5 @@ pub use moved::{DmaSize, Moved};
 pub use setup::{Begun, Epochs, Replay, Role, SphereSetup};
 pub use spec_log::{Log, ModeName};
 pub use spec_play::Interval;
+pub use spec_strata::Strata;
 pub use sphere::Sphere;

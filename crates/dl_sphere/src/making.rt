@@ -5,11 +5,10 @@ ghost use Rattle.spec_play.specs.Resuming.{IsBounded};
 ghost use Rattle.spec_protocol.specs.machine.Machine.{sphere_of};
 ghost use Rattle.spec_protocol.specs.promises.Sound.{IsChunkSize, IsImage, IsRole, IsSoundIf};
 ghost use Rattle.dl_kernel.specs.States.{state_in};
-ghost use Rattle.dl_replay.specs.Following.{followed_from};
 ghost use Rattle.dl_replay.specs.Replays.{IsReplaying};
 ghost use Rattle.dl_sphere.specs.Roles.{keeping_of};
-ghost use Rattle.dl_sphere.specs.Setups.{HasBegun, IsRecordableIf, diverged_in, interval_in, role_setup, setup_of};
-ghost use Rattle.dl_sphere.specs.Starting.{IsReplayingIf, diverged_if, keeping_at, start_as};
+ghost use Rattle.dl_sphere.specs.Setups.{HasBegun, IsRecordableIf, diverged_in, replay_setup, role_setup, setup_of};
+ghost use Rattle.dl_sphere.specs.Starting.{IsReplayingIf, diverged_if, keeping_at, start_as, started_from};
 
 use crate::part::{Part, Replayed};
 use crate::player::Player;
@@ -24,7 +23,8 @@ use std::alloc::Global;
 
 impl Sphere {
     /// A sphere of this plan, with standard chunks of so many instructions. If it is recorded, they and its epochs fit the
-    /// version of its log; if it replays an interval, this begins in its log's play on the image.
+    /// version of its log; if it replays an interval, this begins in its log's play on the image; and if it replays strata, they
+    /// are parallel there.
     pub fn new(alloc: Global, setup: &SphereSetup, s: u32) -> Result<Sphere, OutOfMemory>
         requires size { IsChunkSize s }
         requires role { IsRecordableIf s (role_setup setup.now.role) }
@@ -59,6 +59,7 @@ fn start_of(alloc: Global, setup: &SphereSetup) -> Result<State, OutOfMemory>
 
 // Where thread 0 starts in the image, which is one for any role.
 fn entry_of(setup: &SphereSetup) -> u32
+    requires { HasBegun setup.now }
     ensures value { result ≡ setup.now.image.entry }
     ensures aligned { result % 4 ≡ 0 }
     ensures image { let image = setup_of setup.now in (s : ℕ) → IsRole s image.role → IsImage s image }
@@ -106,17 +107,31 @@ fn part_of(alloc: Global, setup: &SphereSetup, s: u32, state: &State) -> Result<
     }
 }
 
-// The replay of a log from a state of its play on; it has diverged if the play did before the interval.
+// The replay from a state of its log's play on; it has diverged if the play did before the interval.
 fn player_of(alloc: Global, replay: &Replay, state: &State) -> Result<Player, OutOfMemory>
     requires bounded { IsBounded replay.now.log (state_in state.now) }
     requires request { IsSoundIf (length state.now.memory) state.now.request }
     ensures from { let r = replay.now in IfOk result (λ player.
-        player ≡ diverged_if (diverged_in r.begun) state.now.commits (followed_from r.log (interval_in r.begun) (state_in state.now))) }
+        player ≡ diverged_if (diverged_in r.begun) state.now.commits (started_from (replay_setup r) (state_in state.now))) }
+    ensures at { IfOk result (λ player. IsReplaying player state.now) }
+{
+    let mut player = started(alloc, replay, state)?;
+    if let Some(why) = replay.diverged() {
+        player.diverge(why, state);
+    }
+    Ok(player)
+}
+
+// The replay of a log from a state of its play on, in strata if there are some.
+fn started(alloc: Global, replay: &Replay, state: &State) -> Result<Player, OutOfMemory>
+    requires bounded { IsBounded replay.now.log (state_in state.now) }
+    requires request { IsSoundIf (length state.now.memory) state.now.request }
+    ensures from { IfOk result (λ player. player ≡ started_from (replay_setup replay.now) (state_in state.now)) }
     ensures at { IfOk result (λ player. IsReplaying player state.now) }
 {
     let mut player = Player::at(alloc, &replay.log, replay.interval(), state)?;
-    if let Some(why) = replay.diverged() {
-        player.diverge(why, state);
+    if let Some(strata) = &replay.strata {
+        player.go_by(alloc, strata)?;
     }
     Ok(player)
 }

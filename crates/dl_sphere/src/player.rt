@@ -1,5 +1,5 @@
 //! The replay of a log in any of the three modes.
-ghost use Rattle.std.specs.Prelude.{◌≡◌, ℕ, List, ◌<◌, ◌≤◌, ◌+◌, IfOk, OnErr, Some, length, slice_get};
+ghost use Rattle.std.specs.Prelude.{◌≡◌, ℕ, List, ◌<◌, ◌≤◌, ◌+◌, IfOk, IfSome, OnOk, OnErr, Some, false, length, slice_get, option_map};
 ghost use Rattle.dl_entry.specs.Numbers.{most_threads};
 ghost use Rattle.spec_isa.specs.declared.thread.Parts.{Parts};
 ghost use Rattle.spec_isa.specs.declared.thread.Load.{Load};
@@ -10,8 +10,9 @@ ghost use Rattle.spec_play.specs.Turns.{Turn, TurnOfDma};
 ghost use Rattle.spec_play.specs.Transfers.{dma_verdict};
 ghost use Rattle.spec_play.specs.Verdicts.{chunk_verdict, serial_verdict};
 ghost use Rattle.spec_play.specs.declared.used.Used.{Used};
-ghost use Rattle.spec_protocol.specs.machine.Spheres.{Replay, actor_of};
+ghost use Rattle.spec_protocol.specs.machine.Spheres.{Replay, actor_of, is_over, joins_in};
 ghost use Rattle.spec_protocol.specs.promises.Sound.{IsSoundIf};
+ghost use Rattle.spec_strata.specs.Standing.{place_of, stratum_begun};
 ghost use Rattle.dl_kernel.specs.States.{PlayState as At, state_in};
 ghost use Rattle.dl_replay.specs.Following.{cursor_of, diverged, end_of, followed_from};
 ghost use Rattle.dl_replay.specs.Judged.{dma_judged, judged};
@@ -28,6 +29,7 @@ use dl_thread::Thread;
 use dl_wbuf::Buffer;
 use spec_log::{Log, ModeName};
 use spec_play::Interval;
+use spec_strata::Strata;
 use std::alloc::Global;
 use std::marker::Model;
 
@@ -85,6 +87,15 @@ impl Player {
         Ok(Player { players })
     }
 
+    // The replay goes by these strata, of which nothing is done.
+    pub(crate) fn go_by(&mut self, alloc: Global, strata: &Strata) -> Result<(), OutOfMemory>
+        ensures value { let x = stratum_begun strata.now.strata 0 in
+            OnOk result (self.new ≡ record self.old { strata = Some x }) }
+        ensures at { (s : At) → IsReplaying self.old s → OnOk result (IsReplaying self.new s) }
+    {
+        in_mode!(&mut self.players, replayer => replayer.go_by(alloc, strata))
+    }
+
     pub(crate) fn head(&self) -> Option<Actor>
         ensures { result ≡ actor_of self.now.now }
     {
@@ -95,6 +106,21 @@ impl Player {
         ensures { result ≡ end_of self.now.now }
     {
         in_mode!(&self.players, replayer => replayer.ended())
+    }
+
+    // Whether a thread may commit although it isn't its turn, in strata.
+    pub(crate) fn joins_in(&self, thread: u8) -> bool
+        ensures { result ≡ joins_in self.now.strata thread self.now.total }
+    {
+        in_mode!(&self.players, replayer => replayer.joins_in(thread))
+    }
+
+    // How many commits come before a thread's next one, in strata.
+    pub(crate) fn place(&self, thread: u8) -> Option<u32>
+        ensures value { result ≡ option_map (place_of thread) self.now.strata }
+        ensures within { (s : At) → IsReplaying self.now s → IfSome result (λ place. place ≤ s.commits) }
+    {
+        in_mode!(&self.players, replayer => replayer.place(thread))
     }
 
     pub(crate) fn pieces(&self) -> u32
@@ -130,13 +156,14 @@ impl Player {
         in_mode!(&self.players, replayer => replayer.limit(thread, commits, after))
     }
 
-    // A piece of the present commit went, of `n` instructions.
-    pub(crate) fn accept_piece(&mut self, n: u32)
-        requires { self.old.total + n ≤ self.old.log.s }
-        ensures value { self.new ≡ record self.old { total = self.old.total + n } }
+    // A piece of the thread's present commit went, of `n` instructions.
+    pub(crate) fn accept_piece(&mut self, thread: u8, n: u32)
+        requires going { is_over self.old.now ≡ false }
+        requires few { self.old.total + n ≤ self.old.log.s }
+        ensures value { self.new ≡ record self.old { now = Turn thread; total = self.old.total + n } }
         ensures at { (s : At) → IsReplaying self.old s → IsReplaying self.new s }
     {
-        in_mode!(&mut self.players, replayer => replayer.accept_piece(n))
+        in_mode!(&mut self.players, replayer => replayer.accept_piece(thread, n))
     }
 
     // Judges the last part of a chunk of so many instructions, which has left its thread so.
@@ -147,7 +174,7 @@ impl Player {
         total: u32,
         state: &mut State,
     ) -> Verdict
-        requires turn { self.old.now ≡ Turn number }
+        requires going { is_over self.old.now ≡ false }
         requires at { IsReplaying self.old state.old }
         requires thread { number < length state.old.threads }
         requires commits { thread.now.commits ≤ state.old.commits }
@@ -165,7 +192,7 @@ impl Player {
         number: u8,
         state: &mut State,
     ) -> Result<Result<StepResult, Why>, OutOfMemory>
-        requires turn { self.old.now ≡ Turn number }
+        requires going { is_over self.old.now ≡ false }
         requires at { IsReplaying self.old state.old }
         requires thread { number < length state.old.threads }
         ensures at { IsReplaying self.new state.new }

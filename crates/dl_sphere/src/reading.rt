@@ -1,5 +1,5 @@
 //! What a sphere tells of itself, and the words of a flight that are laid into its memory.
-ghost use Rattle.std.specs.Prelude.{◌≡◌, ◌<◌, ◌≤◌, ◌⊎◌, [], None, false, true, IfOk, IsSome, Some, length, slice_get};
+ghost use Rattle.std.specs.Prelude.{◌≡◌, ◌<◌, ◌≤◌, ◌⊎◌, ◌↔◌, [], None, false, true, IfOk, IsSome, IsTrue, Some, length, slice_get};
 ghost use Rattle.spec_isa.specs.declared.thread.Parts.{Parts};
 ghost use Rattle.spec_engine.specs.Flights.{IsInside, at, drain};
 ghost use Rattle.spec_kernel.specs.Devices.{Devices};
@@ -9,13 +9,13 @@ ghost use Rattle.spec_protocol.specs.machine.Placing.{replays};
 ghost use Rattle.spec_protocol.specs.promises.Alike.{epochs_in};
 ghost use Rattle.spec_protocol.specs.promises.Kept.{has_due};
 ghost use Rattle.spec_protocol.specs.promises.Sound.{IsChunkSize};
-ghost use Rattle.spec_protocol.specs.machine.Spheres.{head_of, is_stopped, halves, is_in_pieces};
+ghost use Rattle.spec_protocol.specs.machine.Spheres.{head_of, is_stopped, halves, is_in_pieces, turn_against};
 ghost use Rattle.dl_fly.specs.Slots.{set_slot};
 ghost use Rattle.dl_kernel.specs.States.{state_in};
 ghost use Rattle.dl_record.specs.Epochs.{base_state};
 ghost use Rattle.dl_replay.specs.Limits.{chunk_limit};
 ghost use Rattle.dl_sphere.specs.Moving.{SaysOutcome};
-ghost use Rattle.dl_sphere.specs.Reading.{end_in, pieces_in, log_in, SaysBytes};
+ghost use Rattle.dl_sphere.specs.Reading.{end_in, joins, pieces_in, log_in, SaysBytes};
 ghost use Rattle.dl_sphere.specs.Setups.{standard_in};
 
 use crate::commits::commits_of;
@@ -76,6 +76,28 @@ impl Sphere {
                 ModeName::OrderSize | ModeName::OrderOnly => None,
             },
             Part::Replayed(replay) => replay.player.head(),
+        }
+    }
+
+    /// Whether an actor may commit now in a replay that goes on: it has the turn, or in strata it has chunks left in the
+    /// present one.
+    #[tactic(auto, unfolding(spec_protocol::specs::machine::Spheres::turn_against))]
+    pub fn takes(&self, actor: Actor) -> bool
+        requires replays { replays self.now.sphere.role ≡ true }
+        requires going { is_stopped self.now.sphere.role ≡ false }
+        ensures { IsTrue result ↔ (turn_against self.now.sphere actor ≡ None) }
+    {
+        self.joins_in(actor) || is_of(self.head(), actor)
+    }
+
+    /// Whether an actor may commit although it isn't its turn: a thread of a sphere that replays strata, while it has chunks
+    /// left in the present one and no part of a commit is done.
+    pub fn joins_in(&self, actor: Actor) -> bool
+        ensures { result ≡ joins self.now.sphere.role actor }
+    {
+        match (&self.part, actor) {
+            (Part::Replayed(replay), Actor::Thread(thread)) => replay.player.joins_in(thread),
+            (Part::Plain | Part::Recorded(_) | Part::Replayed(_), _) => false,
         }
     }
 
@@ -255,5 +277,16 @@ impl Sphere {
                 Err(_) => Ok(Buffer::new(alloc, 1)?),
             },
         }
+    }
+}
+
+// Whether the turn is the actor's.
+fn is_of(head: Option<Actor>, actor: Actor) -> bool
+    ensures { IsTrue result ↔ (head ≡ Some actor) }
+{
+    match (head, actor) {
+        (Some(Actor::Thread(head)), Actor::Thread(thread)) => head == thread,
+        (Some(Actor::Dma), Actor::Dma) => true,
+        (Some(_) | None, _) => false,
     }
 }

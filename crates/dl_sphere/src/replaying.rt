@@ -1,19 +1,20 @@
 //! The commits of a sphere that is replayed, each judged by its log.
-ghost use Rattle.std.specs.Prelude.{◌≡◌, ℕ, Bool, ◌+◌, ◌<◌, ◌≤◌, Some, IfOk, OnErr, OnOk, length, slice_get};
+ghost use Rattle.std.specs.Prelude.{◌≡◌, ℕ, Bool, ◌+◌, ◌<◌, ◌≤◌, Some, IfOk, IfSome, OnErr, OnOk, false, length, slice_get, vec_len, vec_capacity};
 ghost use Rattle.spec_isa.specs.declared.thread.Parts.{Parts};
 ghost use Rattle.spec_engine.specs.declared.answers.How.{How};
 ghost use Rattle.spec_kernel.specs.Devices.{Devices};
-ghost use Rattle.spec_play.specs.Turns.{Turn, TurnOfDma};
+ghost use Rattle.spec_play.specs.Turns.{TurnOfDma};
 ghost use Rattle.spec_protocol.specs.machine.Commits.{is_piece, chunk_moved, piece_moved, serial_moved, dma_moved};
+ghost use Rattle.spec_protocol.specs.machine.Spheres.{is_over};
 ghost use Rattle.dl_sphere.specs.Inside.{cursor_in, replayed_at, IsAt};
-ghost use Rattle.dl_sphere.specs.Moving.{came, CanCommit};
+ghost use Rattle.dl_sphere.specs.Moving.{came, put_at, CanCommit};
 
 use crate::commits::{is_piece, joined_commit};
 use crate::moved::Moved;
 use crate::part::Replayed;
 use crate::words;
 use dl_chunk::Chunk;
-use dl_entry::OutOfMemory;
+use dl_entry::{Commit, OutOfMemory};
 use dl_kernel::{Past, dma_commit, serial_commit, thread_at};
 use dl_replay::Verdict;
 use dl_sig::Sig;
@@ -46,12 +47,13 @@ pub(crate) fn commit_part<G: Sig>(
     let size = replay.player.pieces() + chunk.n();
     let commit = joined_commit(past.alloc, thread, size, &replay.loads, chunk)?;
     past.commits.reserve(1)?;
+    let place = replay.player.place(thread);
     match replay
         .player
         .end_chunk(thread, chunk.state(), size, &mut past.state)
     {
         Verdict::Went => {
-            past.commits.push_reserved(commit);
+            put(&mut past.commits, place, commit);
             replay.loads.clear();
             Ok(Moved::Granted(words))
         }
@@ -67,6 +69,7 @@ fn commit_piece<G: Sig>(
     chunk: &Chunk<G>,
 ) -> Result<(), OutOfMemory>
     requires thread { thread < length past.old.state.threads }
+    requires going { is_over replay.old.player.now ≡ false }
     requires fits { replay.old.player.total + chunk.now.chunk.done.n ≤ replay.old.player.log.s }
     requires same { (t : Parts) → slice_get past.old.state.threads thread ≡ Some t →
         chunk.now.chunk.done.thread.commits ≡ t.commits }
@@ -80,7 +83,7 @@ fn commit_piece<G: Sig>(
     // the proof sees here that the thread is one of the sphere
     let _ = thread_at(&past.state.threads, thread);
     replay.loads.extend_from_slice(chunk.loads())?;
-    replay.player.accept_piece(chunk.n());
+    replay.player.accept_piece(thread, chunk.n());
     past.state.threads.set(thread, chunk.state());
     Ok(())
 }
@@ -91,7 +94,7 @@ pub(crate) fn serve_step(
     past: &mut Past,
     thread: u8,
 ) -> Result<Moved, OutOfMemory>
-    requires turn { replay.old.player.now ≡ Turn thread }
+    requires going { is_over replay.old.player.now ≡ false }
     requires thread { thread < length past.old.state.threads }
     requires at { IsAt past.old replay.old }
     ensures moved { IfOk result (λ m. (moment : ℕ) (t : Parts) (d : Devices) →
@@ -104,10 +107,11 @@ pub(crate) fn serve_step(
     // the proof sees here that the thread is one of the sphere
     let _ = thread_at(&past.state.threads, thread);
     past.commits.reserve(1)?;
+    let place = replay.player.place(thread);
     match replay.player.serve_step(thread, &mut past.state)? {
         Ok(left) => {
-            past.commits
-                .push_reserved(serial_commit(thread, left.loads, left.outputs));
+            let commit = serial_commit(thread, left.loads, left.outputs);
+            put(&mut past.commits, place, commit);
             replay.loads.clear();
             Ok(Moved::Granted(left.words))
         }
@@ -133,5 +137,20 @@ pub(crate) fn serve_dma(replay: &mut Replayed, past: &mut Past) -> Result<Moved,
             Ok(Moved::Granted(words))
         }
         Err(why) => Ok(Moved::Diverged(past.state.commits, why)),
+    }
+}
+
+// Puts a whole commit in its place, for which there is room.
+fn put(commits: &mut Vec<Commit>, place: Option<u32>, commit: Commit)
+    requires room { vec_len commits.old < vec_capacity commits.old }
+    requires within { IfSome place (λ place. place ≤ length commits.old.items) }
+    ensures { commits.new.items ≡ put_at place commit commits.old.items }
+{
+    let Some(place) = place else {
+        return commits.push_reserved(commit);
+    };
+    match commits.insert(place as usize, commit) {
+        Ok(()) => {}
+        Err(_) => unreachable!(),
     }
 }

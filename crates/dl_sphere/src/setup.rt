@@ -7,6 +7,7 @@ use dl_entry::Why;
 use dl_kernel::State;
 use spec_log::{Log, ModeName};
 use spec_play::Interval;
+use spec_strata::Strata;
 
 /// A sphere's role: plain, recorded in a version of logs, 1 or 2, and a mode, or replayed. In epochs only the last part of a
 /// recording of version 2 is kept.
@@ -28,11 +29,13 @@ pub struct Epochs {
     pub keep: u32,
 }
 
-/// What is replayed: all commits of a log, or those of an interval, where that begins.
+/// What is replayed: all commits of a log, or those of an interval, where that begins; or those of strata, if there are some,
+/// of which the log has the order.
 #[derive(Drop)]
 pub struct Replay {
     pub log: Log,
     pub begun: Option<Begun>,
+    pub strata: Option<Strata>,
 }
 
 /// Where an interval of a log begins: the state of the log's play on the sphere's image before the interval's first commit.

@@ -6,4 +6,6 @@ mod StrataLaws
 mod Tables
 mod Cuts
 mod Adding
-mod Ending
+mod Conflicts
+mod Fitting
+mod Checks

@@ -1,6 +1,9 @@
 pub mod Answer
-pub mod Runs
-pub mod Tables
+pub mod Checking
+pub mod Conflicts
 pub mod Cutting
+pub mod Kinds
 pub mod Marks
+pub mod Runs
 pub mod Stratifying
+pub mod Tables

@@ -1,11 +1,14 @@
-//! Strata: as bytes, and cut from a log.
+//! Strata: as bytes, cut from a log, and checked on an image.
 #![tactic(auto)]
 
 mod canonical;
+mod checker;
+mod checking;
 mod counts;
 mod cutter;
 mod error;
 mod header;
+mod kinds;
 mod law;
 mod reading;
 mod runs;
@@ -16,6 +19,7 @@ mod touches;
 mod writing;
 
 pub use canonical::canonical_log;
+pub use checking::{CheckError, check_strata};
 pub use dl_elf::Image;
 pub use dl_entry::{OutOfMemory, Why};
 pub use error::StrataError;

@@ -89,7 +89,7 @@ fn commits_in(stratum: &Stratum) -> u32
 }
 
 /// The sum of at most 255 counts.
-fn sum_of(counts: &[u8]) -> u32
+pub fn sum_of(counts: &[u8]) -> u32
     requires { length counts.now ≤ 255 }
     ensures { result ≡ sum counts.now }
 {

@@ -1,4 +1,4 @@
--- The command line as `clap` is told it: a program of twelve subcommands with their operands, each of which has to be there. It
+-- The command line as `clap` is told it: a program of thirteen subcommands with their operands, each of which has to be there. It
 -- has no options, and neither help nor a version.
 use Rattle.std.specs.Prelude.{true, List, [], ◌∷◌, codes, map}
 use Rattle.std.specs.Borrow.{Bor}
@@ -54,6 +54,10 @@ asm_app = subcommand (codes "asm") (codes "SOURCE" ∷ codes "NAME" ∷ [])
 abbrev pub migrate_app : App
 migrate_app = subcommand (codes "migrate") (codes "LOG" ∷ codes "NAME" ∷ [])
 
+abbrev pub strata_app : App
+strata_app =
+    subcommand (codes "strata") (codes "IMAGE" ∷ codes "MEMORY" ∷ codes "LOG" ∷ codes "NAME" ∷ [])
+
 -- words are those after the program's name, and one of them names a subcommand
 abbrev pub bare : App → App
 bare app = record app {
@@ -85,6 +89,7 @@ command_line =
     ∷ drill_app
     ∷ asm_app
     ∷ migrate_app
+    ∷ strata_app
     ∷ [])
 
 -- ---- subcommands of the code

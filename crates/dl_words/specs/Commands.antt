@@ -42,6 +42,7 @@ pub data CommandValues : Type 0 where
   Drill : (number : ℕ) → CommandValues
   Asm : (source : Text) → (name : Text) → CommandValues
   Migrate : (log : Text) → (name : Text) → CommandValues
+  Strata : (playback : PlaybackValues) → (name : Text) → CommandValues
 
 -- ---- each subcommand, from what was found for its operands
 
@@ -110,6 +111,11 @@ migrate_of rows =
     option_and_then (λ log. option_map (λ name. Migrate log name) (first_of (codes "NAME") rows))
     (first_of (codes "LOG") rows)
 
+abbrev pub strata_of : List Row → Option CommandValues
+strata_of rows =
+    option_and_then (λ playback. option_map (λ name. Strata playback name) (first_of (codes "NAME") rows))
+    (playback_of rows)
+
 abbrev pub named : (subcommand : Text) → List Row → Option CommandValues
 named name rows =
     if bytes_eq name (codes "run") then run_of rows
@@ -124,6 +130,7 @@ named name rows =
     else if bytes_eq name (codes "drill") then drill_of rows
     else if bytes_eq name (codes "asm") then asm_of rows
     else if bytes_eq name (codes "migrate") then migrate_of rows
+    else if bytes_eq name (codes "strata") then strata_of rows
     else None
 
 -- ---- the words
@@ -161,3 +168,4 @@ command_view (command.Make number name) = Make number name.now
 command_view (command.Drill number) = Drill number
 command_view (command.Asm source name) = Asm source.now name.now
 command_view (command.Migrate log name) = Migrate log.now name.now
+command_view (command.Strata playback name) = Strata (playback_view playback) name.now

@@ -8,7 +8,7 @@ use clap::{Arg, Command};
 use std::alloc::{AllocError, Global};
 
 /// The subcommands, each with the names of its operands, in their order.
-const SUBCOMMANDS: [(&str, &[&str]); 12] = [
+const SUBCOMMANDS: [(&str, &[&str]); 13] = [
     ("run", &["PLAN"]),
     ("inspect", &["LOG"]),
     ("walk", &["IMAGE", "MEMORY", "LOG"]),
@@ -21,6 +21,7 @@ const SUBCOMMANDS: [(&str, &[&str]); 12] = [
     ("drill", &["NUMBER"]),
     ("asm", &["SOURCE", "NAME"]),
     ("migrate", &["LOG", "NAME"]),
+    ("strata", &["IMAGE", "MEMORY", "LOG", "NAME"]),
 ];
 
 /// The program with its subcommands.

@@ -4,7 +4,7 @@ ghost use Rattle.std.specs.Option.{option_and_then, option_map};
 ghost use Rattle.clap.specs.Walk.{texts};
 ghost use Rattle.clap.specs.Words.{found_of, rows_of, subcommand_rows_of};
 ghost use Rattle.dl_words.specs.Commands.{command_of, command_view, playback_view, named as named_by, playback_of, query_of, query_view, run_of, inspect_of, walk_of, interval_of, tail_of, make_of};
-ghost use Rattle.dl_words.specs.Commands.{asm_of, drill_of, migrate_of, watch_of, when_of, who_of};
+ghost use Rattle.dl_words.specs.Commands.{asm_of, drill_of, migrate_of, strata_of, watch_of, when_of, who_of};
 
 use crate::command::Command;
 use crate::interval::Interval;
@@ -54,6 +54,7 @@ fn named<'a>(name: &str, operands: &ArgMatches<'a>) -> Option<Command<'a>>
         "drill" => drill(operands),
         "asm" => asm(operands),
         "migrate" => migrate(operands),
+        "strata" => strata(operands),
         _ => None,
     }
 }
@@ -153,6 +154,14 @@ fn migrate<'a>(operands: &ArgMatches<'a>) -> Option<Command<'a>>
     let log = operand(operands, "LOG")?;
     let name = operand(operands, "NAME")?;
     Some(Command::Migrate { log, name })
+}
+
+fn strata<'a>(operands: &ArgMatches<'a>) -> Option<Command<'a>>
+    ensures { option_map command_view result ≡ strata_of (rows_of (found_of operands.now)) }
+{
+    let playback = playback(operands)?;
+    let name = operand(operands, "NAME")?;
+    Some(Command::Strata { playback, name })
 }
 
 fn query<'a>(operands: &ArgMatches<'a>, question: Question) -> Option<Query<'a>>

@@ -1,8 +1,6 @@
 -- Worlds that are alike, so that they differ only in what their recordings in epochs have given up, finish by the same events.
-use Rattle.std.proofs.Common.{◌≡◌, ℕ, suc, List, [], ◌∷◌, ◌++◌, map, Option, Some, None, refl, sym, ap, ◌∙◌}
+use Rattle.std.proofs.Common.{◌≡◌, ℕ, suc, List, [], ◌∷◌, map, Option, Some, None, refl, sym, ap, ◌∙◌}
 use Rattle.dl_entry.specs.declared.Actor.{Actor}
-use Rattle.spec_engine.specs.Flights.{at}
-use Rattle.spec_protocol.specs.declared.event.Event.{Event}
 use Rattle.spec_protocol.specs.machine.Spheres.{Role, Plain, Record, Replay, Sphere}
 use Rattle.spec_protocol.specs.machine.World.{World}
 use Rattle.spec_protocol.specs.machine.Finishing.{SphereTurn, who_of, least, for_actor, for_who, for_standing, next, standing}

@@ -18,6 +18,9 @@ use Rattle.spec_play.specs.Plays.{play_one}
 use Rattle.spec_play.specs.Transfers.{dma_verdict}
 use Rattle.spec_play.specs.Turns.{has_left_over, now_at}
 use Rattle.spec_play.specs.Verdicts.{chunk_verdict, serial_verdict}
+use Rattle.spec_strata.specs.declared.stratum.Stratum.TheVariants.{Chunks, Serial}
+use Rattle.spec_strata.specs.declared.strata.StrataParts.{StrataParts}
+use Rattle.spec_strata.specs.Shares.{share_more}
 use Rattle.spec_engine.specs.Choices.{on_option, choose}
 use Rattle.spec_engine.specs.Chunks.{at_limit, reading, storing, loading, running, step}
 use Rattle.spec_engine.specs.Flights.{first_slot, free_slot}
@@ -26,7 +29,7 @@ use Rattle.spec_protocol.specs.machine.Asking.{grant_chunk, grant_serial, asking
 use Rattle.spec_protocol.specs.machine.Commits.{chunk_moved, serial_moved, dma_moved, raised}
 use Rattle.spec_protocol.specs.machine.Finishing.{next, Finishes}
 use Rattle.spec_protocol.specs.machine.Flying.{draining, delivering, retiring}
-use Rattle.spec_protocol.specs.machine.Machine.{ReplaySetup, all_of, IsReplayed, Setup, world_of, act, happens}
+use Rattle.spec_protocol.specs.machine.Machine.{ReplaySetup, all_of, in_strata, IsReplayed, Setup, world_of, act, happens, world_after}
 use Rattle.spec_protocol.specs.machine.Placing.{placing, raising}
 use Rattle.spec_protocol.specs.machine.Spheres.{head_of, turn_against, limit_of}
 use Rattle.spec_protocol.specs.machine.Stepping.{stepping, cutting}
@@ -63,7 +66,7 @@ replay code log = replay_of code (all_of log)
 
 -- its second commit alone
 abbrev second : List ℕ → LogParts → Setup
-second code log = replay_of code (record { log = log; interval = Some (record { first = 1; last = 2 }) })
+second code log = replay_of code (record { log = log; interval = Some (record { first = 1; last = 2 }); strata = None })
 
 -- in order-only, without sizes, of thread 0
 abbrev unsized : (count : ℕ) → List Actor → LogParts
@@ -76,10 +79,31 @@ empty_log = unsized 0 []
 abbrev two_log : LogParts
 two_log = unsized 2 (Actor.Thread 0 ∷ Actor.Thread 0 ∷ [])
 
+-- the same two commits in strata: a chunk, and a serial step
+abbrev two_strata : StrataParts
+two_strata =
+    record {
+      counted = 1;
+      threads = 15;
+      s = 100;
+      strata = Chunks (1 ∷ []) ∷ Serial 0 ∷ [];
+      sizes = [];
+      interrupts = [];
+      inputs = [];
+      dmas = [];
+    }
+
+abbrev runs : List ℕ → StrataParts → Setup
+runs code v = replay_of code (in_strata v)
+
 -- both instructions, the call that closes the chunk, its commit, the call again, and its commit
 abbrev exits_events : List Event
 exits_events =
     Event.Step 0 ∷ Event.Step 0 ∷ Event.Step 0 ∷ Event.Ask 0 ∷ Event.Step 0 ∷ Event.Ask 0 ∷ []
+
+-- up to the chunk's commit
+abbrev first_events : List Event
+first_events = Event.Step 0 ∷ Event.Step 0 ∷ Event.Step 0 ∷ Event.Ask 0 ∷ []
 
 -- ---- rows
 
@@ -96,11 +120,17 @@ pub record AreFinished : Type 0 where
   pub second_work : plays_work (second exits two_log).spheres ≡ 1
   pub second_finish : Finishes (world_of (second exits two_log)) (Event.Step 0 ∷ Event.Ask 0 ∷ [])
   pub second_rank : rank (second exits two_log) (world_of (second exits two_log)) ≡ 6
+  -- in strata the same events finish, and as much is left at first and after the chunk
+  pub strata_work : plays_work (runs exits two_strata).spheres ≡ 4
+  pub strata_finish : Finishes (world_of (runs exits two_strata)) exits_events
+  pub strata_rank : rank (runs exits two_strata) (world_of (runs exits two_strata)) ≡ 27
+  pub chunk_rank : rank (replay exits two_log) (world_after (world_of (replay exits two_log)) first_events) ≡ 6
+  pub strata_later : rank (runs exits two_strata) (world_after (world_of (runs exits two_strata)) first_events) ≡ 6
   -- five instructions and two commits
   pub reserves_work : plays_work (replay reserves two_log).spheres ≡ 7
 
 pub replays_finish : AreFinished
-unfolding serial_of loads_of next_of load_of store_of one lay read merged answer called bytes_put random_bytes random_after next_kind next_operation need fits serve console_written play_one dma_verdict has_left_over now_at chunk_verdict serial_verdict on_option choose at_limit reading storing loading running step first_slot free_slot meets grant_chunk grant_serial asking chunk_moved serial_moved dma_moved raised next draining delivering retiring act happens placing raising head_of turn_against limit_of stepping cutting transfer transferring commit_work replay_left price under_way
+unfolding share_more serial_of loads_of next_of load_of store_of one lay read merged answer called bytes_put random_bytes random_after next_kind next_operation need fits serve console_written play_one dma_verdict has_left_over now_at chunk_verdict serial_verdict on_option choose at_limit reading storing loading running step first_slot free_slot meets grant_chunk grant_serial asking chunk_moved serial_moved dma_moved raised next draining delivering retiring act happens placing raising head_of turn_against limit_of stepping cutting transfer transferring commit_work replay_left price under_way
 replays_finish =
     record {
       empty_next = refl;
@@ -111,5 +141,10 @@ replays_finish =
       second_work = refl;
       second_finish = (refl, (refl, refl));
       second_rank = refl;
+      strata_work = refl;
+      strata_finish = (refl, (refl, (refl, (refl, (refl, (refl, refl))))));
+      strata_rank = refl;
+      chunk_rank = refl;
+      strata_later = refl;
       reserves_work = refl;
     }

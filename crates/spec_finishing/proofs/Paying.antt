@@ -2,6 +2,8 @@
 pub mod Runs
 pub mod Affording
 pub mod Plays
+pub mod NextCommits
+pub mod Logs
 pub mod GoingOn
 pub mod Commits
 pub mod Serial

@@ -10,6 +10,7 @@ use Rattle.spec_protocol.specs.machine.Machine.{ReplaySetup, IsReplayed, SphereS
 use Rattle.spec_protocol.specs.machine.Serial.{serial_start}
 use Rattle.spec_protocol.specs.machine.Finishing.{Finishes}
 use Rattle.spec_protocol.specs.promises.Promises.{IsSetup, after}
+use Rattle.spec_protocol.specs.promises.Sound.{AreReplayableIf}
 use Rattle.spec_finishing.specs.Work.{plays_work, moves_work}
 use Rattle.spec_finishing.specs.Rank.{potential, under_way, rank}
 
@@ -95,7 +96,8 @@ pub record Ends (s : Setup) (es finishing : List Event) : Type 0 where
   pub few : length finishing ≤ (s.cores + 6) * work s es
   pub finished : IsFinished (world_after (after s es) finishing)
 
--- there are cores, and slots for flights, and the standard size of each log that is replayed is over 0
+-- there are cores, and slots for flights, the standard size of each log that is replayed is over 0, and strata are parallel on
+-- their images
 pub record CanFinish (s : Setup) : Type 0 where
   pub setup : IsSetup s
   pub cores : 0 < s.cores
@@ -104,6 +106,10 @@ pub record CanFinish (s : Setup) : Type 0 where
       → slice_get s.spheres i ≡ Some image
       → image.role ≡ IsReplayed asked
       → 0 < asked.log.s
+  pub strata : (i : ℕ) (image : SphereSetup) (asked : ReplaySetup)
+      → slice_get s.spheres i ≡ Some image
+      → image.role ≡ IsReplayed asked
+      → AreReplayableIf image.memory image.entry asked asked.strata
 
 -- after any schedule
 abbrev pub FinishingEnds : Type 0

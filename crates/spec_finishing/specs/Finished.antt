@@ -1,8 +1,13 @@
 -- What is promised of replays once finishing has ended.
 use Rattle.std.specs.Prelude.{◌≡◌, ℕ, List, ◌++◌, slice_get, Some}
+use Rattle.dl_entry.specs.declared.End.{End}
+use Rattle.spec_play.specs.Turns.{Ended}
+use Rattle.spec_strata.specs.declared.strata.StrataParts.{StrataParts}
+use Rattle.spec_strata.specs.Canonical.{canonical}
+use Rattle.spec_strata.specs.OnImages.{IsParallelOn}
 use Rattle.spec_protocol.specs.declared.event.Event.{Event}
 use Rattle.spec_protocol.specs.machine.Spheres.{Cursor, Replay, Sphere}
-use Rattle.spec_protocol.specs.machine.Machine.{last_played, ReplaySetup, IsReplayed, SphereSetup, Setup}
+use Rattle.spec_protocol.specs.machine.Machine.{last_played, ReplaySetup, in_strata, IsReplayed, SphereSetup, Setup}
 use Rattle.spec_protocol.specs.machine.Finishing.{FinishesAfter}
 use Rattle.spec_protocol.specs.promises.Promises.{after}
 use Rattle.spec_replay.specs.Promises.{IsPlayed}
@@ -24,3 +29,19 @@ ReplaysAreFinished =
     → CanFinish s → FinishesAfter s es finishing → slice_get s.spheres i ≡ Some image
     → image.role ≡ IsReplayed asked
     → HasPlayed image asked s (es ++ finishing) i
+
+-- ---- in strata
+
+-- sphere i, which was set up to be replayed in strata, has done the whole play of their log, and is complete
+pub record HasCompleted (image : SphereSetup) (v : StrataParts) (s : Setup) (es : List Event) (i : ℕ) : Type 0 where
+  pub whole : HasPlayed image (in_strata v) s es i
+  pub complete : whole.cursor.now ≡ Ended (End.Complete (canonical v).count)
+
+-- so has each, if its strata are parallel on the image
+abbrev pub StrataAreCompleted : Type 0
+StrataAreCompleted =
+    (image : SphereSetup) (v : StrataParts) (s : Setup) (es finishing : List Event) (i : ℕ)
+    → CanFinish s → FinishesAfter s es finishing → slice_get s.spheres i ≡ Some image
+    → image.role ≡ IsReplayed (in_strata v)
+    → IsParallelOn v image.memory image.entry
+    → HasCompleted image v s (es ++ finishing) i

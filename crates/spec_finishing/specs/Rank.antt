@@ -1,9 +1,11 @@
 -- What is left to do before a world is finished, as a number that each event of finishing reduces.
-use Rattle.std.specs.Prelude.{ℕ, zero, suc, ◌+◌, ◌-◌, ◌*◌, List, [], ◌∷◌, length, Option, Some, None, if◌then◌else◌}
+use Rattle.std.specs.Prelude.{ℕ, zero, suc, ◌+◌, ◌-◌, ◌*◌, List, [], ◌∷◌, length, slice_index_or, Option, Some, None, if◌then◌else◌}
 use Rattle.dl_entry.specs.declared.Actor.{Actor}
 use Rattle.spec_log.specs.declared.LogParts.{LogParts}
-use Rattle.spec_play.specs.Plays.{Played}
+use Rattle.spec_play.specs.Plays.{Played, plays}
 use Rattle.spec_play.specs.Intervals.{commits_in}
+use Rattle.spec_strata.specs.Costs.{stratum_cost}
+use Rattle.spec_strata.specs.Standing.{Standing}
 use Rattle.spec_engine.specs.Flights.{Flight, at, told_at}
 use Rattle.spec_engine.specs.Chunks.{is_open}
 use Rattle.spec_protocol.specs.machine.Spheres.{Cursor, Role, Plain, Record, Replay, Sphere, is_over}
@@ -35,15 +37,25 @@ flights_rank cores (slot ∷ slots) = flight_rank cores slot + flights_rank core
 abbrev pub play_left : LogParts → Played → (n i total : ℕ) → ℕ
 play_left log y n i total = commits_work log y 0 n - commits_work log y 0 i - total
 
--- what a sphere is asked to replay, as its cursor keeps it
+-- the commits that a sphere is asked to replay, as its cursor keeps them: in which strata they are makes no difference to their
+-- play
 abbrev pub asked_of : Cursor → ReplaySetup
-asked_of b = record { log = b.log; interval = b.interval }
+asked_of b = record { log = b.log; interval = b.interval; strata = None }
+
+-- in strata: all of it, minus the strata before the present one, minus what is done of that
+abbrev pub strata_left : LogParts → Played → (n : ℕ) → Standing → (total : ℕ) → ℕ
+strata_left log y n x total =
+    play_left log y n x.before (stratum_cost log (plays log y x.before) (λ k. slice_index_or x.done k 0) + total)
+
+abbrev pub left_in : LogParts → Played → (n i : ℕ) → Option Standing → (total : ℕ) → ℕ
+left_in log y n i None total = play_left log y n i total
+left_in log y n i (Some x) total = strata_left log y n x total
 
 -- what a replay of the image has left after it has done that many commits: nothing if it has stopped
 unfoldable pub replay_left : SphereSetup → Cursor → (commits : ℕ) → ℕ
 replay_left image b i =
     if is_over b.now then 0
-    else play_left b.log (first_played image (asked_of b)) (commits_in b.log.count b.interval) i b.total
+    else left_in b.log (first_played image (asked_of b)) (commits_in b.log.count b.interval) i b.strata b.total
 
 -- how many events there may be for that much work
 unfoldable pub price : (cores work : ℕ) → ℕ

@@ -5,5 +5,5 @@ mod promise;
 
 pub use promise::{
     finishing_ends, finishing_is_a_function, replays_are_finished, runs_are_short,
-    setups_can_finish,
+    setups_can_finish, strata_are_completed,
 };

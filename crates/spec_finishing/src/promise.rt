@@ -1,11 +1,12 @@
 //! What is promised of finishing. Each promise is a clause of a function that does nothing.
 ghost use Rattle.spec_finishing.specs.Ending.{FinishingEnds};
-ghost use Rattle.spec_finishing.specs.Finished.{ReplaysAreFinished};
+ghost use Rattle.spec_finishing.specs.Finished.{ReplaysAreFinished, StrataAreCompleted};
 ghost use Rattle.spec_finishing.specs.Function.{FinishingIsAFunction, RunsAreShort, SetupsCanFinish};
 
-/// After every list of events, if there are cores and slots and each replayed log has a standard size over 0: the events
-/// of finishing come to an end, and then no flight is left and every replay is complete or has diverged. Each of them is
-/// done: none is bounced, denied, busy, full or out of turn. Each reduces what is left to do, which is never below 0.
+/// After every list of events, if there are cores and slots, each replayed log has a standard size over 0, and strata are
+/// parallel on their images: the events of finishing come to an end, and then no flight is left and every replay is complete
+/// or has diverged. Each of them is done: none is bounced, denied, busy, full or out of turn. Each reduces what is left to
+/// do, which is never below 0.
 /// What takes effect at one of them is in a replayed sphere.
 /// For each unit of the run's work there are at most as many of them as there are cores, plus six. The work is the
 /// instructions, the commits, and the words stored by the kernel and by DMAs, of the replays' plays and of what the schedule
@@ -15,11 +16,18 @@ pub fn finishing_ends()
 {}
 
 /// Whatever the schedule, after the events that finish it every replayed sphere has done the whole play that was asked for on
-/// its image, that of its log or of an interval: it has the play's commits, with their loads and outputs, and the play's end.
+/// its image, that of its log, of an interval, or of the log of its strata: it has the play's commits, with their loads and
+/// outputs, and the play's end.
 /// Its memory, with no word in flight, and its threads are those of the play, unless that end is within a commit, of which
 /// some pieces may be done.
 pub fn replays_are_finished()
     ensures { ReplaysAreFinished }
+{}
+
+/// So a sphere that is replayed in strata, which are parallel on its image, is complete then, with the commits, the memory and
+/// the threads of the play of their log.
+pub fn strata_are_completed()
+    ensures { StrataAreCompleted }
 {}
 
 /// The events that finish a run are a function of its setup and its schedule, and so are its points, its replies and its last

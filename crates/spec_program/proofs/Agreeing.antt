@@ -7,7 +7,7 @@ use Rattle.dl_plan.specs.Values.{EpochValues}
 use Rattle.spec_log.specs.declared.LogParts.{LogParts}
 use Rattle.spec_log.specs.declared.fault.Fault.{Fault}
 use Rattle.spec_protocol.specs.machine.Logged.{sphere_in}
-use Rattle.spec_protocol.specs.machine.Machine.{EpochSetup, RecordSetup, RoleSetup, IsRecorded, IsReplayed, SphereSetup}
+use Rattle.spec_protocol.specs.machine.Machine.{RecordSetup, ReplaySetup, RoleSetup, IsRecorded, IsReplayed, SphereSetup, in_strata}
 use Rattle.dl_account.specs.Account.{account_of}
 use Rattle.spec_play.specs.Walks.{Walked}
 use Rattle.spec_run.specs.Runs.{executed}
@@ -15,11 +15,12 @@ use Rattle.spec_run.specs.Tails.{tail_of_points}
 use Rattle.spec_run.specs.Texts.{account_as, account_text, log_as, log_of_points, log_text, recorded_account, recorded_bytes}
 use Rattle.spec_run.proofs.Described.{recordings_reproduced}
 use Rattle.spec_run.proofs.Tails.{tails_are_played}
-use Rattle.spec_program.specs.Agreement.{AccountsAgree, RecordingsAreReplayed, TailsAreWalked, walk_end}
-use Rattle.spec_tail.specs.Bytes.{tail_bytes}
+use Rattle.spec_strata.specs.declared.strata.StrataParts.{StrataParts}
+use Rattle.spec_strata.specs.Checking.{StrataAnswer, Parallel, Unfit, Conflict, answer_of}
+use Rattle.spec_program.specs.Agreement.{IsReplay, AccountsAgree, RecordingsAreReplayed, TailsAreWalked, walk_end}
 use Rattle.spec_tail.specs.Tails.{Tail}
-use Rattle.spec_program.specs.Built.{bad_log, epoch_setup, record_setup, replay_setup, role_of}
-use Rattle.spec_program.specs.Files.{ReplayInputs, whole, ReplayRead, SphereRead}
+use Rattle.spec_program.specs.Built.{bad_log, epoch_setup, record_setup, replay_setup, role_in_strata, role_of}
+use Rattle.spec_program.specs.Files.{ReplayInputs, whole, RoleRead, PlainRead, RecordRead, ReplayRead, StrataRead, SphereRead}
 use Rattle.spec_program.specs.Stages.{refusing, ◌>>◌}
 use Rattle.spec_program.specs.Tasks.{setup_in}
 use Rattle.spec_program.proofs.Able.{task_can_finish}
@@ -43,27 +44,42 @@ replayed_by i inputs (Ok parts) r e = (parts, refl, sym (same_Ok (replays_log in
 
 -- what is replayed
 replayed : (inputs : ReplayInputs) (s : SphereRead) (x : SphereSetup) → s.role ≡ ReplayRead inputs → IsMade s x → (parts : LogParts) × (inputs.log ≡ Ok parts) × (x.role ≡ replays_log inputs parts)
-replayed inputs s x role made = replayed_by 0 inputs inputs.log x.role (ap (role_of 0) (sym role) ∙ made.role)
+replayed inputs s x role made = replayed_by 0 inputs inputs.log x.role (ap (role_of 0 made.image) (sym role) ∙ made.role)
+
+parallel_by : (i : ℕ) (v : StrataParts) (answer : StrataAnswer) (r : RoleSetup) → role_in_strata i v answer ≡ Ok r → r ≡ IsReplayed (in_strata v)
+parallel_by i v Parallel r e = sym (same_Ok (IsReplayed (in_strata v)) r e)
+parallel_by i v (Conflict commit) r e = absurd cc
+parallel_by i v (Unfit commit) r e = absurd cc
+
+strata_by : (i : ℕ) (image : Image) (o : Result StrataParts Fault) (r : RoleSetup) → role_of i image (StrataRead o) ≡ Ok r → (asked : ReplaySetup) × (r ≡ IsReplayed asked)
+strata_by i image (Err fault) r e = absurd cc
+strata_by i image (Ok v) r e = (in_strata v, parallel_by i v (answer_of v image.bytes image.entry) r e)
+
+-- a log or strata
+is_replay : (image : Image) (role : RoleRead) (r : RoleSetup) → IsReplay role → role_of 0 image role ≡ Ok r → (asked : ReplaySetup) × (r ≡ IsReplayed asked)
+is_replay image PlainRead r is e = absurd is
+is_replay image (RecordRead inputs) r is e = absurd is
+is_replay image (ReplayRead inputs) r is e = let p = replayed_by 0 inputs inputs.log r e in (replay_setup inputs p.0, p.2)
+is_replay image (StrataRead read) r is e = strata_by 0 image read r e
 
 -- ---- accounts
 
--- two tasks that replay a sphere of the same image, memory size and log write equal accounts of it
+-- two tasks that replay a sphere of the same image and memory size by the same log or strata write equal accounts of it
 pub accounts_agree : AccountsAgree
 unfolding account_text
-accounts_agree plan other m n t u i j s inputs is is_too role at there =
+accounts_agree plan other m n t u i j s is is_too replay at there =
     let a = sphere_of_task plan m t i s is at in
     let b = sphere_of_task other n u j s is_too there in
     let image = same_image s s a.setup b.setup refl refl a.made b.made in
-    let p = replayed inputs s a.setup role a.made in
-    let q = replayed inputs s b.setup role b.made in
-    let parts : p.0 ≡ q.0 = same_Ok p.0 q.0 (sym p.1 ∙ q.1) in
-    let setup : a.setup ≡ b.setup = (λ k. record { memory = (a.made.memory ∙ ap (λ (x : Image). x.bytes) image ∙ sym b.made.memory) k; entry = (a.made.entry ∙ ap (λ (x : Image). x.entry) image ∙ sym b.made.entry) k; role = (p.2 ∙ ap (replays_log inputs) parts ∙ sym q.2) k }) in
+    let p = is_replay a.made.image s.role a.setup.role replay a.made.role in
+    let roles : a.setup.role ≡ b.setup.role = same_Ok a.setup.role b.setup.role (sym a.made.role ∙ ap (λ (x : Image). role_of 0 x s.role) image ∙ b.made.role) in
+    let setup : a.setup ≡ b.setup = (λ k. record { memory = (a.made.memory ∙ ap (λ (x : Image). x.bytes) image ∙ sym b.made.memory) k; entry = (a.made.entry ∙ ap (λ (x : Image). x.entry) image ∙ sym b.made.entry) k; role = roles k }) in
     let x = sphere_in (executed (setup_in t) t.events) i in
     let y = sphere_in (executed (setup_in u) u.events) j in
     ap (λ (d : SphereSetup). account_as d x d.role) a.at
-    ∙ ap (account_as a.setup x) p.2
-    ∙ ap (λ (d : SphereSetup). account_as d y (replays_log inputs p.0)) setup
-    ∙ ap (account_as b.setup y) (ap (replays_log inputs) parts ∙ sym q.2)
+    ∙ ap (account_as a.setup x) p.1
+    ∙ ap (λ (d : SphereSetup). account_as d y (IsReplayed p.0)) setup
+    ∙ ap (account_as b.setup y) (sym p.1 ∙ roles)
     ∙ ap (λ (d : SphereSetup). account_as d y d.role) (sym b.at)
 
 -- where one task records a sphere and another replays what it recorded, both write the same account
@@ -77,7 +93,7 @@ recordings_replayed plan other m n t u i j s inputs is is_too role whole_log at 
     let a = sphere_of_task plan m t i s is at in
     let b = sphere_of_task other n u j r is_too there in
     let image = same_image s r a.setup b.setup refl refl a.made b.made in
-    let recorded : a.setup.role ≡ IsRecorded asked = sym (same_Ok (IsRecorded asked) a.setup.role (ap (role_of 0) (sym role) ∙ a.made.role)) in
+    let recorded : a.setup.role ≡ IsRecorded asked = sym (same_Ok (IsRecorded asked) a.setup.role (ap (role_of 0 a.made.image) (sym role) ∙ a.made.role)) in
     let q = replayed replay r b.setup refl b.made in
     let parts : q.0 ≡ noted_log = same_Ok q.0 noted_log (sym q.1) in
     let x = sphere_in (executed (setup_in t) t.events) i in
@@ -101,7 +117,7 @@ unfolding account_text log_text
 tails_walked plan m t i s inputs x is limits role epochs at =
     let asked : RecordSetup = record_setup inputs in
     let a = sphere_of_task plan m t i s is at in
-    let recorded : a.setup.role ≡ IsRecorded asked = sym (same_Ok (IsRecorded asked) a.setup.role (ap (role_of 0) (sym role) ∙ a.made.role)) in
+    let recorded : a.setup.role ≡ IsRecorded asked = sym (same_Ok (IsRecorded asked) a.setup.role (ap (role_of 0 a.made.image) (sym role) ∙ a.made.role)) in
     let so : asked.epochs ≡ Some (epoch_setup x) = ap (option_map epoch_setup) epochs in
     let tail : Tail = tail_of_points (setup_in t) t.events i asked (epoch_setup x) in
     let p = sphere_in (executed (setup_in t) t.events) i in

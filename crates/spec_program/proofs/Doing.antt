@@ -1,15 +1,21 @@
 -- What a command that is done says of its outcome.
-use Rattle.std.proofs.Common.{◌≡◌, ℕ, true, List, Option, Some, None, Result, Ok, ok_or, refl, sym, ap, ◌∙◌, subst, true≢false}
+use Rattle.std.proofs.Common.{◌≡◌, ℕ, ◌⊎◌, inl, inr, true, List, Option, Some, None, Result, Ok, ok_or, if◌then◌else◌, refl, sym, ap, ◌∙◌, subst, true≢false}
 use Rattle.std.specs.FinMap.{get}
 use Rattle.dl_asm.specs.File.{file_of}
 use Rattle.dl_asm.specs.Sources.{lines_of, words_in}
 use Rattle.dl_elf.specs.Loading.{image_of}
+use Rattle.dl_entry.specs.declared.End.{End}
 use Rattle.dl_files.specs.Contents.{Contents}
-use Rattle.dl_words.specs.Commands.{CommandValues, PlaybackValues, QueryValues, IntervalValues, Run, Inspect, Walk, Query, Interval, Tail, Make, Drill, Asm, Migrate}
+use Rattle.dl_words.specs.Commands.{CommandValues, PlaybackValues, QueryValues, IntervalValues, Run, Inspect, Walk, Query, Interval, Tail, Make, Drill, Asm, Migrate, Strata}
 use Rattle.spec_log.specs.declared.LogParts.{LogParts}
 use Rattle.spec_log.specs.declared.fault.Fault.{Fault}
 use Rattle.spec_log.specs.Reading.{read_of}
+use Rattle.spec_play.specs.Turns.{TurnOrEnd, Ended}
+use Rattle.spec_play.proofs.Going.{play-over}
 use Rattle.spec_protocol.specs.promises.Sound.{IsWithinLimits}
+use Rattle.spec_query.specs.Texts.{end_text}
+use Rattle.spec_run.specs.Runs.{end_of, has_diverged}
+use Rattle.spec_strata.proofs.Images.Ending.{ends-as, fits-complete}
 use Rattle.spec_run.proofs.Described.{points-possible}
 use Rattle.spec_tail.specs.Reading as tails
 use Rattle.spec_program.specs.declared.status.Status.{Status}
@@ -23,13 +29,14 @@ use Rattle.spec_program.specs.commands.Make as make
 use Rattle.spec_program.specs.commands.Migrate as migrate
 use Rattle.spec_program.specs.commands.Query as query
 use Rattle.spec_program.specs.commands.Run as run
+use Rattle.spec_program.specs.commands.Strata as strata
 use Rattle.spec_program.specs.commands.Tail as tail
 use Rattle.spec_program.specs.commands.Walk as walk
 use Rattle.spec_program.specs.Ends.{IsFinished, Stands, is_done}
 use Rattle.spec_program.specs.Files.{read_at, log_at}
 use Rattle.spec_program.specs.Headline.{Headline}
 use Rattle.spec_program.specs.Operands.{IsLogAt, IsPlaybackAt, PlaybackRead, file_at, good_log_at, image_in, log_file_at, log_in, playback_at}
-use Rattle.spec_program.specs.Outcomes.{Finish, Outcome}
+use Rattle.spec_program.specs.Outcomes.{Finish, Outcome, filed, said}
 use Rattle.spec_program.specs.Outside.{Outside}
 use Rattle.spec_program.specs.Sources.{assembled, refused_from, unless_refused}
 use Rattle.spec_program.specs.Stages.{Refused}
@@ -175,6 +182,26 @@ module _ (m : Contents) (before after : Outside) (s : Status) where
       let g = reached (migrate.finish name parts.0) finish parts.2 f in
       record { parts = parts.0; read = log_read m log parts.0 parts.1; files = g.files; output = g.output; status = g.status }
 
+  abbrev cut_at : (name : List ℕ) → PlaybackRead → TurnOrEnd → Finish
+  cut_at name read now =
+      if has_diverged (end_of now) then said (end_text (end_of now)) true else filed name (strata.bytes read) (strata.text read)
+
+  cut_done : (name : List ℕ) (read : PlaybackRead) (how : End) → (walk.played read).now ≡ Ended how → IsReached (cut_at name read (Ended how))
+      → strata.IsDiverged read m after.known before.taken after.taken s ⊎ strata.IsWritten name read m after.known before.taken after.taken s
+  cut_done name read (End.Complete n) e g =
+      inr (record { fits = fits-complete read.log read.image.bytes read.image.entry n e; files = g.files; output = g.output; status = g.status })
+  cut_done name read (End.Diverged i why) e g =
+      inl (record { commit = i; why = why; diverged = e; output = g.output; files = g.files; status = g.status })
+  cut_done name read (End.At i) e g = absurd (ends-as read.log read.image.bytes read.image.entry (End.At i) e)
+
+  strata_done : (playback : PlaybackValues) (name : List ℕ) (finish : Finish) → strata.outcome m playback name ≡ Ok finish → IsReached finish → strata.IsCut playback name m after.known before.taken after.taken s
+  strata_done playback name finish e f =
+      let read = then_ok (playback_at m playback) _ finish e in
+      let is = playback_is m playback read.0 read.1 in
+      let g = reached (strata.finish name read.0) finish read.2 f in
+      let over = play-over read.0.log read.0.image.bytes read.0.image.entry in
+      record { read = read.0; playback_read = is; done = cut_done name read.0 over.0 over.1 (subst (λ (now : TurnOrEnd). IsReached (cut_at name read.0 now)) over.1 g) }
+
   -- the outcome of a command is reached; a run's machine is within its limits
   pub done_at : (command : CommandValues) (finish : Finish) → outcome_for m command ≡ Ok finish → ((plan : List ℕ) → command ≡ Run plan → run.HasLimits plan m) → IsFinished (Ok finish) m before after s
       → IsDone command m after.known before.taken after.taken s
@@ -192,3 +219,4 @@ module _ (m : Contents) (before after : Outside) (s : Status) where
       record { equal = (drill_reproduced number).account; output = g.output; files = g.files; status = g.status }
   done_at (Asm source name) finish e limits f = asm_done source name finish e f
   done_at (Migrate log name) finish e limits f = migrate_done log name finish e f
+  done_at (Strata playback name) finish e limits f = strata_done playback name finish e f

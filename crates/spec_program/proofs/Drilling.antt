@@ -1,5 +1,5 @@
 -- A drill's replay gives the account of its recording.
-use Rattle.std.proofs.Common.{◌≡◌, ℕ, zero, suc, ◌<◌, ◌||◌, false, [], ◌∷◌, Some, None, refl, ap, ◌∙◌, arith}
+use Rattle.std.proofs.Common.{◌≡◌, ℕ, zero, suc, ◌||◌, false, [], ◌∷◌, Some, None, refl, ap, ◌∙◌, arith}
 use Rattle.std.specs.Prelude.{slice_get}
 use Rattle.std.proofs.lemmas.Option.{none-some, same_Some}
 use Rattle.spec_log.specs.declared.ModeName.{ModeName}
@@ -16,11 +16,11 @@ abbrev recorded : (number : ℕ) → SphereSetup
 recorded v = drill_sphere v (IsRecorded (record { version = 1; mode = ModeName.OrderOnly; epochs = None }))
 
 -- nothing is replayed
-none_replayed : (v i : ℕ) (image : SphereSetup) (asked : ReplaySetup) → slice_get (recorded v ∷ []) i ≡ Some image → image.role ≡ IsReplayed asked → 0 < asked.log.s
+none_replayed : (v i : ℕ) (image : SphereSetup) (asked : ReplaySetup) → slice_get (recorded v ∷ []) i ≡ Some image → image.role ≡ IsReplayed asked → ⊥
 none_replayed v zero image asked is role =
     let other : IsRecorded (record { version = 1; mode = ModeName.OrderOnly; epochs = None }) ≡ IsReplayed asked = ap (λ (x : SphereSetup). x.role) (same_Some (recorded v) image is) ∙ role in
-    absurd cc
-none_replayed v (suc i) image asked is role = absurd (none-some image is)
+    cc
+none_replayed v (suc i) image asked is role = none-some image is
 
 can_finish : (v : ℕ) → CanFinish (recording v)
 can_finish v =
@@ -28,7 +28,8 @@ can_finish v =
       setup = record { chunk = omega arith; buffer = omega arith };
       cores = omega arith;
       window = omega arith;
-      standard = none_replayed v;
+      standard = λ i image asked is role. absurd (none_replayed v i image asked is role);
+      strata = λ i image asked is role. absurd (none_replayed v i image asked is role);
     }
 
 -- a drill's replay is complete, and has the account of its recording

@@ -10,8 +10,10 @@ use Rattle.spec_log.specs.declared.LogParts.{LogParts}
 use Rattle.spec_log.specs.declared.fault.Fault.{Fault}
 use Rattle.spec_protocol.specs.machine.Machine.{RoleSetup, IsReplayed, SphereSetup}
 use Rattle.spec_protocol.specs.promises.Sound.{no_image, image_at}
-use Rattle.spec_program.specs.Built.{bad_image, bad_log, images_of, replay_setup, role_of, sphere_of, spheres_of, events_of}
-use Rattle.spec_program.specs.Files.{ReplayInputs, RoleRead, PlainRead, RecordRead, ReplayRead, SphereRead, read_at, plan_read}
+use Rattle.spec_strata.specs.declared.strata.StrataParts.{StrataParts}
+use Rattle.spec_strata.specs.Checking.{StrataAnswer, Parallel, Unfit, Conflict, answer_of}
+use Rattle.spec_program.specs.Built.{bad_image, bad_log, images_of, replay_setup, role_in_strata, role_of, sphere_of, spheres_of, events_of}
+use Rattle.spec_program.specs.Files.{ReplayInputs, RoleRead, PlainRead, RecordRead, ReplayRead, StrataRead, SphereRead, read_at, plan_read}
 use Rattle.spec_program.specs.Stages.{Refused, refusing, ◌>>◌}
 use Rattle.spec_program.specs.Tasks.{Task, IsTask, setup_in, absent, bad_plan, plan_at, task_read, task_planned}
 
@@ -33,17 +35,27 @@ pub record IsMade (s : SphereRead) (x : SphereSetup) : Type 0 where
   pub loaded : image_of s.image s.memory ≡ Ok image
   pub memory : x.memory ≡ image.bytes
   pub entry : x.entry ≡ image.entry
-  pub role : role_of 0 s.role ≡ Ok x.role
+  pub role : role_of 0 image s.role ≡ Ok x.role
 
 log_any : (i j : ℕ) (inputs : ReplayInputs) (o : Result LogParts Fault) (r : RoleSetup) → (refusing (bad_log i) o >> λ log. Ok (IsReplayed (replay_setup inputs log))) ≡ Ok r → (refusing (bad_log j) o >> λ log. Ok (IsReplayed (replay_setup inputs log))) ≡ Ok r
 log_any i j inputs (Err fault) r e = absurd cc
 log_any i j inputs (Ok log) r e = e
 
+answer_any : (i j : ℕ) (v : StrataParts) (answer : StrataAnswer) (r : RoleSetup) → role_in_strata i v answer ≡ Ok r → role_in_strata j v answer ≡ Ok r
+answer_any i j v Parallel r e = e
+answer_any i j v (Conflict commit) r e = absurd cc
+answer_any i j v (Unfit commit) r e = absurd cc
+
+strata_any : (i j : ℕ) (image : Image) (o : Result StrataParts Fault) (r : RoleSetup) → role_of i image (StrataRead o) ≡ Ok r → role_of j image (StrataRead o) ≡ Ok r
+strata_any i j image (Err fault) r e = absurd cc
+strata_any i j image (Ok v) r e = answer_any i j v (answer_of v image.bytes image.entry) r e
+
 -- a role that is not refused is one by any number
-role_any : (i j : ℕ) (role : RoleRead) (r : RoleSetup) → role_of i role ≡ Ok r → role_of j role ≡ Ok r
-role_any i j PlainRead r e = e
-role_any i j (RecordRead inputs) r e = e
-role_any i j (ReplayRead inputs) r e = log_any i j inputs inputs.log r e
+role_any : (i j : ℕ) (image : Image) (role : RoleRead) (r : RoleSetup) → role_of i image role ≡ Ok r → role_of j image role ≡ Ok r
+role_any i j image PlainRead r e = e
+role_any i j image (RecordRead inputs) r e = e
+role_any i j image (ReplayRead inputs) r e = log_any i j inputs inputs.log r e
+role_any i j image (StrataRead read) r e = strata_any i j image read r e
 
 same_setup : (x y : SphereSetup) → ◌≡◌ {A = Result SphereSetup Refused} (Ok x) (Ok y) → x ≡ y
 same_setup x y e = cc
@@ -57,7 +69,7 @@ sphere_made k zero (r ∷ ss) images xs s are made at =
     let all : first.0 ∷ rest.0 ≡ images = cc in
     let here = then_ok (sphere_of k r first.0) _ xs (ap (spheres_of k (r ∷ ss)) all ∙ made) in
     let after = then_ok (spheres_of (suc k) ss rest.0) _ xs here.2 in
-    let role = then_ok (role_of k r.role) _ here.0 here.1 in
+    let role = then_ok (role_of k first.0 r.role) _ here.0 here.1 in
     let x : SphereSetup = record { memory = first.0.bytes; entry = first.0.entry; role = role.0 } in
     let is : here.0 ∷ after.0 ≡ xs = cc in
     let made_so : x ≡ here.0 = same_setup x here.0 role.2 in
@@ -69,7 +81,7 @@ sphere_made k zero (r ∷ ss) images xs s are made at =
         loaded = not_refused (bad_image k) (image_of r.image r.memory) first.0 first.1;
         memory = refl;
         entry = refl;
-        role = role_any k 0 r.role role.0 role.1;
+        role = role_any k 0 first.0 r.role role.0 role.1;
       }),
     )
 sphere_made k (suc i) (r ∷ ss) images xs s are made at =

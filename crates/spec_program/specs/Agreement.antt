@@ -10,7 +10,7 @@ use Rattle.spec_protocol.specs.promises.Sound.{IsWithinLimits}
 use Rattle.spec_run.specs.Tails.{tail_of_points}
 use Rattle.spec_run.specs.Texts.{log_of_points}
 use Rattle.spec_program.specs.Built.{epoch_setup, record_setup}
-use Rattle.spec_program.specs.Files.{RecordInputs, ReplayInputs, whole, RecordRead, ReplayRead, SphereRead}
+use Rattle.spec_program.specs.Files.{RecordInputs, whole, RoleRead, PlainRead, RecordRead, ReplayRead, StrataRead, SphereRead}
 use Rattle.spec_program.specs.Runs.{product_for}
 use Rattle.spec_program.specs.Tasks.{Task, IsTask, setup_in}
 use Rattle.spec_tail.specs.Bytes.{tail_bytes}
@@ -21,14 +21,21 @@ use Rattle.spec_tail.specs.Tails.{Tail}
 abbrev pub account_in : Task → (i : ℕ) → List ℕ
 account_in t i = product_for (setup_in t) t.events (Product.Account i)
 
--- two tasks that replay a sphere of the same image, memory size, log and interval write equal accounts of it, whatever else
--- their plans and files say
+-- a log or strata are replayed
+abbrev pub IsReplay : RoleRead → Type 0
+IsReplay PlainRead = ⊥
+IsReplay (RecordRead inputs) = ⊥
+IsReplay (ReplayRead inputs) = Unit {0}
+IsReplay (StrataRead strata) = Unit {0}
+
+-- two tasks that replay a sphere of the same image and memory size by the same log and interval, or the same strata, write
+-- equal accounts of it, whatever else their plans and files say
 abbrev pub AccountsAgree : Type 0
 AccountsAgree =
-    (plan other : List ℕ) (m n : Contents) (t u : Task) (i j : ℕ) (s : SphereRead) (inputs : ReplayInputs)
+    (plan other : List ℕ) (m n : Contents) (t u : Task) (i j : ℕ) (s : SphereRead)
     → IsTask plan m t
     → IsTask other n u
-    → s.role ≡ ReplayRead inputs
+    → IsReplay s.role
     → slice_get t.read.spheres i ≡ Some s
     → slice_get u.read.spheres j ≡ Some s
     → account_in t i ≡ account_in u j

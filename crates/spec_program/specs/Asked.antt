@@ -1,7 +1,7 @@
 -- What the words ask for: of every command the names that it reads, its outcome over the files, and what 0 and 1 say of it.
 use Rattle.std.specs.Prelude.{ℕ, List, [], Option, Some, None, Result, Ok, ok_or}
 use Rattle.dl_files.specs.Contents.{Contents}
-use Rattle.dl_words.specs.Commands.{CommandValues, Run, Inspect, Walk, Query, Interval, Tail, Make, Drill, Asm, Migrate, command_of}
+use Rattle.dl_words.specs.Commands.{CommandValues, Run, Inspect, Walk, Query, Interval, Tail, Make, Drill, Asm, Migrate, Strata, command_of}
 use Rattle.spec_program.specs.declared.status.Refusal.{Refusal}
 use Rattle.spec_program.specs.declared.status.Status.{Status}
 use Rattle.spec_program.specs.commands.Asm as asm
@@ -12,6 +12,7 @@ use Rattle.spec_program.specs.commands.Make as make
 use Rattle.spec_program.specs.commands.Migrate as migrate
 use Rattle.spec_program.specs.commands.Query as query
 use Rattle.spec_program.specs.commands.Run as run
+use Rattle.spec_program.specs.commands.Strata as strata
 use Rattle.spec_program.specs.commands.Tail as tail
 use Rattle.spec_program.specs.commands.Walk as walk
 use Rattle.spec_program.specs.Headline.{Headline}
@@ -33,6 +34,7 @@ reads_for m (Make number name) = []
 reads_for m (Drill number) = []
 reads_for m (Asm source name) = asm.reads source
 reads_for m (Migrate log name) = migrate.reads log
+reads_for m (Strata playback name) = playback_reads playback
 
 abbrev pub reads_of_command : Contents → Option CommandValues → List (List ℕ)
 reads_of_command m None = []
@@ -54,6 +56,7 @@ outcome_for m (Make number name) = Ok (make.finish number name)
 outcome_for m (Drill number) = Ok (drill.finish number)
 outcome_for m (Asm source name) = asm.outcome m source name
 outcome_for m (Migrate log name) = migrate.outcome m log name
+outcome_for m (Strata playback name) = strata.outcome m playback name
 
 abbrev pub usage : Refused
 usage = record { why = Refusal.Usage; line = usage_line }
@@ -74,3 +77,4 @@ IsDone (Make number name) m known old new s = make.IsMade number name m known ol
 IsDone (Drill number) m known old new s = drill.IsDrilled number m known old new s
 IsDone (Asm source name) m known old new s = asm.IsAssembled source name m known old new s
 IsDone (Migrate log name) m known old new s = migrate.IsMigrated log name m known old new s
+IsDone (Strata playback name) m known old new s = strata.IsCut playback name m known old new s

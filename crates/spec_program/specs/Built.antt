@@ -1,6 +1,6 @@
--- What is built of the files that a plan has read: the images, the roles with their logs, the events, and the setup of the
--- machine; or the first of them that is refused.
-use Rattle.std.specs.Prelude.{ℕ, suc, List, [], ◌∷◌, option_map, Result, Ok}
+-- What is built of the files that a plan has read: the images, the roles with their logs and strata, the events, and the
+-- setup of the machine; or the first of them that is refused.
+use Rattle.std.specs.Prelude.{ℕ, suc, List, [], ◌∷◌, None, option_map, Result, Ok, Err}
 use Rattle.dl_elf.specs.Images.{Image}
 use Rattle.dl_elf.specs.Loading.{image_of}
 use Rattle.dl_event.specs.Seeded.{seeded, schedule}
@@ -12,11 +12,13 @@ use Rattle.spec_log.specs.declared.ModeName.{ModeName}
 use Rattle.spec_log.specs.declared.fault.Fault.{Fault}
 use Rattle.spec_play.specs.Intervals.{interval_of}
 use Rattle.spec_protocol.specs.declared.event.Event.{Event}
-use Rattle.spec_protocol.specs.machine.Machine.{EpochSetup, RecordSetup, ReplaySetup, RoleSetup, IsPlain, IsRecorded, IsReplayed, SphereSetup, Setup}
+use Rattle.spec_protocol.specs.machine.Machine.{EpochSetup, RecordSetup, ReplaySetup, RoleSetup, IsPlain, IsRecorded, IsReplayed, SphereSetup, Setup, in_strata}
 use Rattle.spec_protocol.specs.machine.World.{Numbers}
+use Rattle.spec_strata.specs.declared.strata.StrataParts.{StrataParts}
+use Rattle.spec_strata.specs.Checking.{StrataAnswer, Parallel, Unfit, Conflict, answer_of}
 use Rattle.spec_program.specs.declared.status.Refusal.{Refusal}
-use Rattle.spec_program.specs.Files.{ScheduleRead, ScriptRead, EventsDrawn, RecordInputs, ReplayInputs, RoleRead, PlainRead, RecordRead, ReplayRead, SphereRead}
-use Rattle.spec_program.specs.Lines.{image_line, log_line, script_line}
+use Rattle.spec_program.specs.Files.{ScheduleRead, ScriptRead, EventsDrawn, RecordInputs, ReplayInputs, RoleRead, PlainRead, RecordRead, ReplayRead, StrataRead, SphereRead}
+use Rattle.spec_program.specs.Lines.{image_line, log_line, bad_strata_line, script_line}
 use Rattle.spec_program.specs.Stages.{Refused, refusing, ◌>>◌}
 
 -- ---- images, of the spheres from number i on
@@ -39,6 +41,13 @@ images_of i (s ∷ ss) =
 abbrev pub bad_log : (sphere : ℕ) → Fault → Refused
 bad_log i fault = record { why = Refusal.Grammar; line = log_line i fault.number fault.offset }
 
+-- of strata the first field that isn't good, or a commit, by what is wrong with it
+abbrev pub bad_strata : (sphere : ℕ) → Fault → Refused
+bad_strata i fault = record { why = Refusal.Grammar; line = bad_strata_line i fault.number fault.offset }
+
+abbrev pub strata_refused : (sphere number commit : ℕ) → Refused
+strata_refused i number commit = record { why = Refusal.Grammar; line = bad_strata_line i number commit }
+
 abbrev pub mode_named : Mode → ModeName
 mode_named Mode.OrderSize = ModeName.OrderSize
 mode_named Mode.OrderOnly = ModeName.OrderOnly
@@ -58,17 +67,26 @@ record_setup inputs =
 
 -- which commits of a good log are replayed
 abbrev pub replay_setup : ReplayInputs → LogParts → ReplaySetup
-replay_setup inputs log = record { log = log; interval = interval_of inputs.from inputs.to log.count }
+replay_setup inputs log = record { log = log; interval = interval_of inputs.from inputs.to log.count; strata = None }
 
-abbrev pub role_of : (i : ℕ) → RoleRead → Result RoleSetup Refused
-role_of i PlainRead = Ok IsPlain
-role_of i (RecordRead inputs) = Ok (IsRecorded (record_setup inputs))
-role_of i (ReplayRead inputs) =
+-- strata with this answer of their check on the sphere's image: they are replayed if they are parallel
+abbrev pub role_in_strata : (i : ℕ) → StrataParts → StrataAnswer → Result RoleSetup Refused
+role_in_strata i v Parallel = Ok (IsReplayed (in_strata v))
+role_in_strata i v (Conflict commit) = Err (strata_refused i 8 commit)
+role_in_strata i v (Unfit commit) = Err (strata_refused i 9 commit)
+
+abbrev pub role_of : (i : ℕ) → Image → RoleRead → Result RoleSetup Refused
+role_of i image PlainRead = Ok IsPlain
+role_of i image (RecordRead inputs) = Ok (IsRecorded (record_setup inputs))
+role_of i image (ReplayRead inputs) =
     refusing (bad_log i) inputs.log >> λ log.
     Ok (IsReplayed (replay_setup inputs log))
+role_of i image (StrataRead read) =
+    refusing (bad_strata i) read >> λ v.
+    role_in_strata i v (answer_of v image.bytes image.entry)
 
 abbrev pub sphere_of : (i : ℕ) → SphereRead → Image → Result SphereSetup Refused
-sphere_of i s image = role_of i s.role >> λ role. Ok (record { memory = image.bytes; entry = image.entry; role = role })
+sphere_of i s image = role_of i image s.role >> λ role. Ok (record { memory = image.bytes; entry = image.entry; role = role })
 
 abbrev pub spheres_of : (i : ℕ) → List SphereRead → List Image → Result (List SphereSetup) Refused
 spheres_of i (s ∷ ss) (image ∷ images) =

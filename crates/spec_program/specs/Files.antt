@@ -1,14 +1,16 @@
--- What a plan has read: the bytes of its files, and what its script and its logs say, each where the plan names it, or the first name that is absent.
+-- What a plan has read: the bytes of its files, and what its script, its logs and its strata say, each where the plan names it, or the first name that is absent.
 use Rattle.std.specs.Prelude.{ℕ, List, [], ◌∷◌, Option, Some, None, Result, Ok, ok_or}
 use Rattle.std.specs.FinMap.{get}
 use Rattle.dl_event.specs.Script.{script_of}
 use Rattle.dl_files.specs.Contents.{Contents}
 use Rattle.dl_plan.specs.declared.Mode.{Mode}
-use Rattle.dl_plan.specs.Values.{ScheduleValues, Script, Seeded, EpochValues, RoleValues, Plain, Record, Replay, SphereValues, PlanValues}
+use Rattle.dl_plan.specs.Values.{ScheduleValues, Script, Seeded, EpochValues, RoleValues, Plain, Record, Replay, InStrata, SphereValues, PlanValues}
 use Rattle.spec_log.specs.declared.LogParts.{LogParts}
 use Rattle.spec_log.specs.declared.fault.Fault.{Fault}
 use Rattle.spec_log.specs.Reading.{read_of}
 use Rattle.spec_protocol.specs.declared.event.Event.{Event}
+use Rattle.spec_strata.specs.Reading as strata
+use Rattle.spec_strata.specs.declared.strata.StrataParts.{StrataParts}
 use Rattle.spec_program.specs.Stages.{◌>>◌}
 
 -- of a script its events, or the number of the first line that is refused; or how many events are to be drawn
@@ -33,10 +35,12 @@ pub record ReplayInputs : Type 0 where
 abbrev pub whole : LogParts → ReplayInputs
 whole log = record { log = Ok log; from = None; to = None }
 
+-- of strata that are replayed what their bytes say, or the first of their fields that isn't good
 pub data RoleRead : Type 0 where
   PlainRead : RoleRead
   RecordRead : (inputs : RecordInputs) → RoleRead
   ReplayRead : (inputs : ReplayInputs) → RoleRead
+  StrataRead : (strata : Result StrataParts Fault) → RoleRead
 
 pub record SphereRead : Type 0 where
   pub image : List ℕ
@@ -58,6 +62,10 @@ read_at m name = ok_or (get m name) name
 abbrev pub log_at : Contents → (name : List ℕ) → Result (Result LogParts Fault) (List ℕ)
 log_at m name = read_at m name >> λ bytes. Ok (read_of bytes)
 
+-- what the file of that name says as strata
+abbrev pub strata_at : Contents → (name : List ℕ) → Result (Result StrataParts Fault) (List ℕ)
+strata_at m name = read_at m name >> λ bytes. Ok (strata.read_of bytes)
+
 -- what the file of that name says as a script
 abbrev pub script_at : Contents → (name : List ℕ) → Result (Result (List Event) ℕ) (List ℕ)
 script_at m name = read_at m name >> λ bytes. Ok (script_of bytes)
@@ -75,6 +83,7 @@ abbrev pub role_read : Contents → RoleValues → Result RoleRead (List ℕ)
 role_read m Plain = Ok PlainRead
 role_read m (Record values) = Ok (RecordRead (record { version = values.version; mode = values.mode; epochs = values.epochs }))
 role_read m (Replay values) = log_at m values.log >> λ read. Ok (ReplayRead (record { log = read; from = values.from; to = values.to }))
+role_read m (InStrata name) = strata_at m name >> λ read. Ok (StrataRead read)
 
 abbrev pub sphere_read : Contents → SphereValues → Result SphereRead (List ℕ)
 sphere_read m s =

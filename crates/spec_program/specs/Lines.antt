@@ -19,6 +19,12 @@ abbrev pub log_line : (sphere number offset : ℕ) → List ℕ
 log_line sphere number offset =
     line (codes "refused log " ++ decimal sphere ++ codes " " ++ decimal number ++ codes " " ++ decimal offset)
 
+-- the first field of a sphere's strata that isn't good; or, by 8, their first commit that conflicts on the image, and by 9 the
+-- first that doesn't fit
+abbrev pub bad_strata_line : (sphere number at : ℕ) → List ℕ
+bad_strata_line sphere number at =
+    line (codes "refused strata " ++ decimal sphere ++ codes " " ++ decimal number ++ codes " " ++ decimal at)
+
 abbrev pub script_line : (number : ℕ) → List ℕ
 script_line number = line (codes "refused script " ++ decimal number)
 
@@ -41,3 +47,7 @@ assembled_line bytes = line (codes "assembled " ++ decimal bytes)
 
 abbrev pub migrated_line : (bytes : ℕ) → List ℕ
 migrated_line bytes = line (codes "migrated " ++ decimal bytes)
+
+-- how many strata there are, and how many bytes their file has
+abbrev pub strata_line : (strata bytes : ℕ) → List ℕ
+strata_line strata bytes = line (codes "strata " ++ decimal strata ++ codes " " ++ decimal bytes)

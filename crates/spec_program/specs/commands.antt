@@ -9,3 +9,4 @@ pub mod Make
 pub mod Drill
 pub mod Asm
 pub mod Migrate
+pub mod Strata

@@ -68,22 +68,22 @@ replay log = replay_of (all_of log)
 
 -- the commits of a log from the first up to the last
 abbrev replay_in : LogParts → (first last : ℕ) → World
-replay_in log first last = replay_of (record { log = log; interval = Some (record { first = first; last = last }) })
+replay_in log first last = replay_of (record { log = log; interval = Some (record { first = first; last = last }); strata = None })
 
-abbrev replies : World → List Event → List Reply
+abbrev pub replies : World → List Event → List Reply
 replies w [] = []
 replies w (e ∷ es) = let a = happens w e in a.reply ∷ replies a.world es
 
-abbrev now_in : Role → Option TurnOrEnd
+abbrev pub now_in : Role → Option TurnOrEnd
 now_in Plain = None
 now_in (Record recording) = None
 now_in (Replay b) = Some b.now
 
 -- whose turn it is then, or how the replay has ended
-abbrev now_after : World → List Event → Option TurnOrEnd
+abbrev pub now_after : World → List Event → Option TurnOrEnd
 now_after w es = now_in (sphere_at (world_after w es) 0).role
 
-abbrev commits_after : World → List Event → List Commit
+abbrev pub commits_after : World → List Event → List Commit
 commits_after w es = (sphere_at (world_after w es) 0).progress.commits
 
 -- ---- logs

@@ -1,5 +1,5 @@
 -- What is promised of replayed spheres, for every setup within its limits and every list of events.
-use Rattle.std.specs.Prelude.{◌≡◌, ℕ, ◌<◌, Bool, true, false, length, slice_get, Some, List}
+use Rattle.std.specs.Prelude.{◌≡◌, ℕ, ◌<◌, Bool, true, false, length, slice_get, Some, None, List}
 use Rattle.dl_entry.specs.declared.End.{End}
 use Rattle.dl_entry.specs.declared.Why.{Why}
 use Rattle.spec_play.specs.Progress.{position}
@@ -8,15 +8,18 @@ use Rattle.spec_play.specs.Plays.{Played, plays}
 use Rattle.spec_play.specs.Intervals.{now_of}
 use Rattle.spec_protocol.specs.declared.event.Event.{Event}
 use Rattle.spec_protocol.specs.machine.Spheres.{Cursor, Replay, Sphere, is_over}
-use Rattle.spec_protocol.specs.machine.Machine.{last_played, first_played, ReplaySetup, IsReplayed, SphereSetup, Setup}
+use Rattle.spec_protocol.specs.machine.Machine.{last_played, first_played, ReplaySetup, in_strata, IsReplayed, SphereSetup, Setup}
 use Rattle.spec_protocol.specs.machine.Shown.{shown_of}
 use Rattle.spec_protocol.specs.promises.Promises.{IsSetup, after}
+use Rattle.spec_protocol.specs.promises.Sound.{AreReplayableIf}
+use Rattle.spec_strata.specs.declared.strata.StrataParts.{StrataParts}
 use Rattle.spec_replay.specs.Following.{Follows}
+use Rattle.spec_replay.specs.InStrata.{FollowsInStrata}
 
 -- ---- every replay is its log's play
 
--- sphere i was set up from the image, to replay the log, whose standard size is over 0; after the events it is p, with its
--- current memory
+-- sphere i was set up from the image, to replay the log, whose standard size is over 0; strata are parallel on the image; after
+-- the events it is p, with its current memory
 pub record IsReplay
     (image : SphereSetup) (asked : ReplaySetup) (s : Setup) (es : List Event) (i : ℕ) (p : Sphere)
     : Type 0 where
@@ -24,15 +27,23 @@ pub record IsReplay
   pub there : slice_get s.spheres i ≡ Some image
   pub replays : image.role ≡ IsReplayed asked
   pub standard : 0 < asked.log.s
+  pub strata : AreReplayableIf image.memory image.entry asked asked.strata
   pub shown : slice_get (shown_of (after s es)).spheres i ≡ Some p
 
--- it has followed the play of its log on its image, from the first commit that is replayed on, for as many whole commits as
--- it has done
+-- if it isn't in strata, it has followed the play of its log on its image, from the first commit that is replayed on, for as
+-- many whole commits as it has done
 abbrev pub ReplaysArePlays : Type 0
 ReplaysArePlays =
     (image : SphereSetup) (asked : ReplaySetup) (s : Setup) (es : List Event) (i : ℕ) (p : Sphere)
-    → IsReplay image asked s es i p
+    → IsReplay image asked s es i p → asked.strata ≡ None
     → Follows asked (plays asked.log (first_played image asked) (length p.progress.commits)) p
+
+-- in strata it has done each thread's first commits of the present one, in whatever order, and all strata before
+abbrev pub StrataAreFollowed : Type 0
+StrataAreFollowed =
+    (image : SphereSetup) (v : StrataParts) (s : Setup) (es : List Event) (i : ℕ) (p : Sphere)
+    → IsReplay image (in_strata v) s es i p
+    → FollowsInStrata v image p
 
 -- ---- a replay that has stopped has done the whole play
 
@@ -88,10 +99,10 @@ pub record Agree (p q : Sphere) (b c : Cursor) : Type 0 where
   pub final : (how : End) → b.now ≡ Ended how → ends_between how ≡ true → is_over c.now ≡ true
       → SameState p q
 
--- whatever else differs: cores, buffers, window, signatures, devices, events and the other spheres
+-- whatever else differs: cores, buffers, window, signatures, devices, events and the other spheres. Neither is in strata
 abbrev pub ReplaysAgree : Type 0
 ReplaysAgree =
     (image : SphereSetup) (asked : ReplaySetup)
     (s z : Setup) (es fs : List Event) (i j : ℕ) (p q : Sphere) (b c : Cursor)
-    → IsReplay image asked s es i p → IsReplay image asked z fs j q
+    → IsReplay image asked s es i p → IsReplay image asked z fs j q → asked.strata ≡ None
     → p.role ≡ Replay b → q.role ≡ Replay c → Agree p q b c

@@ -1,5 +1,5 @@
 -- The account of a replayed interval is the slice of its log's play.
-use Rattle.std.proofs.Common.{◌≡◌, ℕ, ◌+◌, ◌-◌, ◌<◌, ◌≤◌, inl, inr, false, cond, List, [], ◌++◌, length, Some, refl, sym, ap, ◌∙◌, subst, arith}
+use Rattle.std.proofs.Common.{None, ◌≡◌, ℕ, ◌+◌, ◌-◌, ◌<◌, ◌≤◌, inl, inr, false, cond, List, [], ◌++◌, length, Some, refl, sym, ap, ◌∙◌, subst, arith}
 use Rattle.std.specs.Prelude.{◌&&◌, ◌||◌, drop, nat_le, nat_lt, codes}
 use Rattle.std.proofs.lemmas.Bool.{true≢false, cases_lt, lt-ltb, le-ltb, le-leb, lt-leb}
 use Rattle.std.proofs.lemmas.List.{drop_all}
@@ -162,7 +162,7 @@ goes_by log z to (inr g) going =
 -- the account of a replayed interval is the slice of its log's play
 pub intervals_sliced : IntervalsAreSlices
 intervals_sliced image log i within =
-    let y : Played = played (record { log = log; interval = Some i }) image in
+    let y : Played = played (record { log = log; interval = Some i; strata = None }) image in
     let z : Played = plays log (opened log image.memory image.entry) i.last in
     let part : IsPart i.first y z = part_is log image.memory image.entry i within (plays-go log image.memory image.entry i.first) in
     let lines = part.lines in

@@ -175,7 +175,7 @@ abbrev pub IntervalsAreSlices : Type 0
 IntervalsAreSlices =
     (image : SphereSetup) (log : LogParts) (i : Interval)
     → IsWithin log.count i
-    → let asked : ReplaySetup = record { log = log; interval = Some i } in
+    → let asked : ReplaySetup = record { log = log; interval = Some i; strata = None } in
     played_account (played asked image) (played_end asked image)
     ≡ (slice log image.memory image.entry i.first i.last).text
 

@@ -10,6 +10,7 @@ pub mod Costs
 pub mod Blocks
 pub mod Relogged
 pub mod Strata
+pub mod Standing
 pub mod Canonical
 pub mod OnImages
 pub mod Checking

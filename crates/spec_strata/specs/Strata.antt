@@ -1,5 +1,5 @@
 -- What makes parts strata: their ranges, and the orders of their entries.
-use Rattle.std.specs.Prelude.{◌≡◌, ℕ, ◌^◌, ◌<◌, ◌≤◌, ◌⊎◌, List, length, All}
+use Rattle.std.specs.Prelude.{◌≡◌, ℕ, ◌^◌, ◌<◌, ◌≤◌, ◌⊎◌, List, [], ◌∷◌, length, All}
 use Rattle.std.specs.List.{sum, sum_by}
 use Rattle.dl_entry.specs.Numbers.{most_threads, plain_threads}
 use Rattle.spec_log.specs.Versions.{IsStandard}
@@ -40,3 +40,12 @@ pub record AreStrata (v : StrataParts) : Type 0 where
   pub interrupts : AreInterrupts v.counted v.interrupts
   pub inputs : AreInputs v.inputs
   pub dmas : AreDmas v.dmas
+
+-- ---- what their play needs
+
+-- chunks are not none
+abbrev pub HaveSome : List Stratum → Type 0
+HaveSome [] = Unit {0}
+HaveSome (Chunks counts ∷ xs) = (0 < sum counts) × HaveSome xs
+HaveSome (Serial thread ∷ xs) = HaveSome xs
+HaveSome (Dma ∷ xs) = HaveSome xs

@@ -11,7 +11,7 @@ ghost use Rattle.spec_strata.specs.Blocks.{BlocksInterleave};
 ghost use Rattle.spec_strata.specs.Relogged.{StrataRelog, BlocksRelog};
 ghost use Rattle.spec_strata.specs.Canonical.{CanonicalIsLog};
 ghost use Rattle.spec_strata.specs.OnImages.{ParallelStrataGo};
-ghost use Rattle.spec_strata.specs.Checking.{OneAnswer};
+ghost use Rattle.spec_strata.specs.Checking.{AnswersAreFound, OneAnswer};
 ghost use Rattle.spec_strata.specs.Making.{MadeAreParallel, MadeAreStrata};
 
 // ---- commits
@@ -179,6 +179,11 @@ pub fn parallel_strata_go()
 /// The check of strata on an image has one answer.
 pub fn one_answer()
     ensures { OneAnswer }
+{}
+
+/// And there is one, which is found by going through the commits.
+pub fn answers_are_found()
+    ensures { AnswersAreFound }
 {}
 
 /// The strata that a log is cut into are parallel on each image that the log fits, and their log's play leaves what the

@@ -1,7 +1,7 @@
 //! Machines that were worked out event by event.
 ghost use Rattle.std.specs.Prelude.{◌≡◌, true, All, None, IfOk, map};
 ghost use Rattle.spec_protocol.specs.promises.Sound.{AreFew};
-ghost use Rattle.dl_sphere.specs.Setups.{HasBegun, IsRecordableIf, begun_as, role_setup, setup_of as as_defined};
+ghost use Rattle.dl_sphere.specs.Setups.{HasBegun, IsRecordableIf, begun_as, role_setup, setup_of as as_defined, strata_as};
 ghost use Rattle.dl_machine.specs.Setups.{IsWithin};
 
 use dl_elf::{Image, load};
@@ -309,7 +309,8 @@ fn sphere_of(alloc: Global, life: &Life) -> Result<SphereSetup, Fail>
 
 // A role without an interval.
 fn role_of(alloc: Global, lived: Lived) -> Result<Role, Fail>
-    ensures { IfOk result (λ role. begun_as role ≡ None) }
+    ensures begun { IfOk result (λ role. begun_as role ≡ None) }
+    ensures strata { IfOk result (λ role. strata_as role ≡ None) }
 {
     match lived {
         Lived::Plain => Ok(Role::Plain),
@@ -321,6 +322,7 @@ fn role_of(alloc: Global, lived: Lived) -> Result<Role, Fail>
         Lived::Replayed { log, .. } | Lived::Cut { log, .. } => Ok(Role::Replay(Replay {
             log: read_log(alloc, log)?,
             begun: None,
+            strata: None,
         })),
     }
 }
@@ -339,6 +341,7 @@ fn cut(alloc: Global, image: Image, log: Log, to: u32) -> Result<SphereSetup, Fa
     let role = Role::Replay(Replay {
         log,
         begun: Some(begun),
+        strata: None,
     });
     Ok(SphereSetup { image, role })
 }

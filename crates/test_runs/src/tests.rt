@@ -9,12 +9,14 @@ use std::process::Abort;
 use std::test::Fail;
 
 mod depths;
+mod in_strata;
 mod instructions;
 mod intervals;
 mod narrow;
 mod pieces;
 mod queries;
 mod rows;
+mod strata;
 mod tails;
 mod tools;
 mod versions;

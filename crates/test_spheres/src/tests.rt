@@ -6,6 +6,7 @@ mod modes;
 mod recording;
 mod replaying;
 mod spheres;
+mod strata;
 mod tails;
 mod trails;
 mod walks;

@@ -1,8 +1,8 @@
 -- In a world that is ready, what is asked for can commit.
-use Rattle.std.proofs.Common.{◌≡◌, ℕ, zero, suc, ◌+◌, ◌^◌, ◌<◌, ◌≤◌, ◌&&◌, Bool, true, false, not, nat_eq, nat_lt, if◌then◌else◌, length, List, Option, Some, None, refl, sym, ap, ◌∙◌, subst, arith}
+use Rattle.std.proofs.Common.{◌≡◌, ℕ, zero, suc, ◌+◌, ◌^◌, ◌<◌, ◌≤◌, ◌&&◌, true, false, not, nat_eq, nat_lt, length, List, Option, Some, None, refl, sym, ap, ◌∙◌, subst, inl, inr, arith}
 use Rattle.std.specs.Prelude.{option_map, slice_get}
 use Rattle.std.proofs.lemmas.Option.{none-some, same_Some}
-use Rattle.std.proofs.lemmas.Bool.{eqb-true, true≢false}
+use Rattle.std.proofs.lemmas.Bool.{true≢false}
 use Rattle.dl_entry.specs.declared.Actor.{Actor}
 use Rattle.spec_isa.specs.declared.thread.Parts.{Parts}
 use Rattle.spec_play.specs.Progress.{position}
@@ -17,7 +17,9 @@ use Rattle.spec_protocol.specs.machine.Commits.{is_piece}
 use Rattle.spec_protocol.specs.machine.World.{Occupant, World, sphere_at}
 use Rattle.spec_protocol.specs.promises.Invariants.{Closes, LimitFits}
 use Rattle.spec_protocol.specs.promises.Sound.{IsSoundCursor}
-use Rattle.dl_sphere.specs.Moving.{CanCommit, IsPartIn, IsTurnOf, IsTurnOfDma}
+use Rattle.spec_protocol.proofs.Moves.Joining.{may_go, joins-whole}
+use Rattle.spec_protocol.proofs.Sound.Limits.{whole-positive}
+use Rattle.dl_sphere.specs.Moving.{CanCommit, IsPartIn, IsTurnOf, IsTurnOfDma, MayCommit}
 use Rattle.dl_machine.specs.declared.one_core.Held.{Held as Seen}
 use Rattle.dl_machine.specs.Cores.{seen}
 use Rattle.dl_machine.specs.Ready.{HasRoom, IsReady}
@@ -40,21 +42,15 @@ few_commits w i ready room within going =
 
 -- ---- turns
 
-only_if : (same : Bool) (a : Option Actor) (actor : Actor) → (if same then None else Some actor) ≡ None → same ≡ true
-only_if true a actor e = refl
-only_if false a actor e = cc
-
-turn_now : (now : TurnOrEnd) (k : ℕ) → is_over now ≡ false → other_than (Actor.Thread k) (actor_of now) ≡ None → now ≡ Turn k
-turn_now (Turn j) k going free = ap Turn (eqb-true j k (only_if (nat_eq j k) None (Actor.Thread j) free))
-turn_now TurnOfDma k going free = cc
-turn_now (Ended how) k going free = cc
-
 thread_turn : (role : Role) (p : Sphere) (k : ℕ) → is_stopped role ≡ false → turn_in role p (Actor.Thread k) ≡ None → IsTurnOf k role
 thread_turn Plain p k going free = tt
 thread_turn (Record recording) p k going free = tt
-thread_turn (Replay b) p k going free = turn_now b.now k going free
+thread_turn (Replay b) p k going free = elim (may_go b k p going free).turn [
+  | inl turn ↦ inl turn
+  | inr joins ↦ inr (record { going = going; joins = joins })
+]
 
--- in a replay that goes on it is the turn of a thread where it is nobody else's
+-- in a replay that goes on a thread may commit where nobody else's turn keeps it from that
 pub turn_of : (p : Sphere) (k : ℕ) → is_stopped p.role ≡ false → turn_against p (Actor.Thread k) ≡ None → IsTurnOf k p.role
 unfolding turn_against
 turn_of p k going free = thread_turn p.role p k going free
@@ -117,17 +113,25 @@ some_in_all b capacity How.Serial ch closes some is whole =
 some_in_all b capacity How.Overflow ch closes some is whole = let r = closes.room is in omega arith
 some_in_all b capacity How.Cut ch closes some is whole = let c = closes.cut is in omega arith
 
+-- the commit of a thread that may commit has room for an instruction more than the pieces before it
+room_for : (n : ℕ) (ts : List Parts) (k : ℕ) (b : Cursor) (t : Parts) (commits : ℕ) → IsSoundCursor n ts b → MayCommit b k → slice_get ts k ≡ Some t → commits ≡ t.commits → b.total < whole_limit b.log k commits
+room_for n ts k b t commits sound may there same = elim may [
+  | inl turn ↦ (
+      let now = sound.turn k turn in
+      let is : now.thread ≡ t = same_Some _ _ (sym now.there ∙ there) in
+      subst (λ (m : ℕ). b.total < whole_limit b.log k m) (ap (λ (u : Parts). u.commits) is ∙ sym same) now.room
+      )
+  | inr joins ↦ subst (λ (m : ℕ). m < whole_limit b.log k commits) (sym (joins-whole b.strata k b.total joins.joins)) (whole-positive b.log k commits sound.log)
+]
+
 part_in : (role : Role) (s n capacity : ℕ) (ts : List Parts) (k : ℕ) (how : How) (ch : Chunk) → ((b : Cursor) → role ≡ Replay b → IsSoundCursor n ts b) → IsTurnOf k role → slice_get ts k ≡ Some ch.start → ch.done.thread.commits ≡ ch.start.commits
     → LimitFits role (limit_of s role k ch.start) ch.limit → Closes capacity ch → 0 < capacity → ch.closed ≡ Some how → asks_serial ch role ≡ false → IsPartIn role k how ch
 part_in Plain s n capacity ts k how ch sound turn there commits fits closes some closed whole = tt
 part_in (Record recording) s n capacity ts k how ch sound turn there commits fits closes some closed whole = tt
 part_in (Replay b) s n capacity ts k how ch sound turn there commits fits closes some closed whole =
-    let now = (sound b refl).turn k turn in
-    let same : now.thread ≡ ch.start = same_Some _ _ (sym now.there ∙ there) in
-    let count : now.thread.commits ≡ ch.done.thread.commits = ap (λ (u : Parts). u.commits) same ∙ sym commits in
     record {
-      turn = turn;
-      room = subst (λ (m : ℕ). b.total < whole_limit b.log k m) count now.room;
+      may = turn;
+      room = room_for n ts k b ch.start ch.done.thread.commits (sound b refl) turn there commits;
       limit = fits.replayed refl ∙ replayed_limit b s k ch.start ∙ ap (λ (m : ℕ). limit_in (Replay b) 0 k m) (sym commits);
       most = within_limit capacity ch how closes closed;
       early = λ piece. below_limit capacity ch how closes closed piece;

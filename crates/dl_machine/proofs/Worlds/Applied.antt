@@ -11,7 +11,6 @@ use Rattle.spec_protocol.specs.promises.Alike.{AreAlike, all_forgotten}
 use Rattle.spec_protocol.specs.promises.Kept.{NoneIsDue}
 use Rattle.spec_protocol.proofs.Alike.All.{events_alike}
 use Rattle.dl_machine.specs.Events.{IsWanted, wants_memory}
-use Rattle.dl_machine.specs.Ready.{IsReady}
 use Rattle.dl_machine.specs.Runs.{HasRun, IsRun}
 use Rattle.dl_machine.specs.States.{left}
 use Rattle.dl_machine.proofs.Worlds.Events.{act_counts, happens_reply, replies_few, world_left}

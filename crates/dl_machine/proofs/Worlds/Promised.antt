@@ -6,28 +6,28 @@ use Rattle.std.proofs.lemmas.Option.{none-some, same_Some}
 use Rattle.spec_engine.specs.Flights.{Flight}
 use Rattle.spec_play.specs.Plays.{plays}
 use Rattle.spec_replay.specs.Following.{Follows}
+use Rattle.spec_replay.specs.InStrata.{FollowsInStrata}
 use Rattle.spec_replay.specs.Promises.{IsPlayed}
-use Rattle.spec_play.specs.Progress.{position}
 use Rattle.spec_log.specs.Log.{IsLog}
 use Rattle.spec_protocol.specs.declared.event.Event.{Event}
 use Rattle.spec_protocol.specs.machine.World.{World, sphere_at}
-use Rattle.spec_protocol.specs.machine.Spheres.{Cursor, Recording, Role, Record, Replay, Sphere, no_sphere, is_over}
+use Rattle.spec_protocol.specs.machine.Spheres.{Recording, Record, Sphere, no_sphere}
 use Rattle.spec_protocol.specs.machine.Placing.{replays}
 use Rattle.spec_protocol.specs.machine.Shown.{shown, shown_from, shown_of}
-use Rattle.spec_protocol.specs.machine.Serial.{serial}
-use Rattle.spec_protocol.specs.machine.Machine.{RecordSetup, EpochSetup, IsRecorded, first_played, last_played, new_epochs, ReplaySetup, RoleSetup, IsReplayed, Setup, SphereSetup, happens, world_after, world_of}
+use Rattle.spec_protocol.specs.machine.Machine.{RecordSetup, first_played, last_played, new_epochs, ReplaySetup, RoleSetup, IsReplayed, Setup, SphereSetup, happens, in_strata, world_of}
 use Rattle.spec_protocol.specs.promises.Promises.{WillRecord, after}
 use Rattle.spec_protocol.specs.promises.LogsOfPoints.{recording_of_points}
 use Rattle.spec_protocol.specs.promises.PlayingBack.{PlaysBack}
 use Rattle.spec_protocol.specs.promises.Alike.{epochs_in, forgotten, AreAlike}
-use Rattle.spec_protocol.specs.promises.Kept.{IsKept, IsReady as IsReadyFor, NoneIsDue, Shows, WillKeep}
+use Rattle.spec_protocol.specs.promises.Kept.{IsKept, IsReady as IsReadyFor, NoneIsDue, Shows}
 use Rattle.spec_protocol.specs.promises.ConsoleBytes.{place_of}
 use Rattle.spec_protocol.specs.promises.Sound.{IsRole, IsWithinLimits}
 use Rattle.spec_protocol.proofs.Points.Serial.{commits_are}
 use Rattle.spec_protocol.proofs.PlayingBack.All.{logs_play_back}
 use Rattle.spec_replay.proofs.Replays.All.{replays_follow}
 use Rattle.spec_run.proofs.Room.{leaves_room, schedule_counted}
-use Rattle.spec_replay.proofs.Replays.Stopping.{stopped_played}
+use Rattle.spec_replay.proofs.Strata.All.{strata_follow}
+use Rattle.spec_replay.proofs.Strata.Stopping.{stopped_played}
 use Rattle.dl_machine.specs.Runs.{HasRun, IsRun, IsSerial, IsPromised}
 use Rattle.spec_protocol.proofs.Invariants.Schedules.{invariants_hold}
 use Rattle.spec_protocol.proofs.Sound.Schedules.{worlds_sound}
@@ -157,7 +157,7 @@ whole_recording s es i image asked p q recording will whole shown same is =
 -- what the protocol promises of a sphere holds after every run
 pub promised_run : (s : Setup) (i : ℕ) (es : List Event) (w : World) → IsRun s es w → IsPromised s i w
 promised_run s i es w run =
-    let v = after s es in
+    let came = after s es in
     let same = run.here.alike in
     let limits = run.limits in
     let within = setup_within s limits in
@@ -166,16 +166,21 @@ promised_run s i es w run =
     in
     record {
       recorded = λ image asked p recording now was whole is.
-          let q = shown-alike w v i p same now.shown in
+          let q = shown-alike w came i p same now.shown in
           whole_recording s es i image asked p q.0 recording (record { setup = within; there = now.there; role = was }) whole q.1 q.2 is;
       kept = λ image asked x will. subst (λ (ps : List Point). IsKept s ps i asked x (sphere_at w i)) (sym (ap (λ (u : World). u.points) same)) (run.here.kept i image asked x will);
-      replayed = λ image asked p now was.
-          let q = shown-alike w v i p same now.shown in
-          let r : Follows asked (plays asked.log (first_played image asked) (length q.0.progress.commits)) q.0 = replays_follow image asked s es i q.0 (record { setup = within; there = now.there; replays = was; standard = standard image asked now.there was; shown = q.1 }) in
+      replayed = λ image asked p now was none.
+          let q = shown-alike w came i p same now.shown in
+          let r : Follows asked (plays asked.log (first_played image asked) (length q.0.progress.commits)) q.0 = replays_follow image asked s es i q.0 (record { setup = within; there = now.there; replays = was; standard = standard image asked now.there was; strata = (limits.images i image now.there).strata asked was; shown = q.1 }) none in
           subst (λ (x : Sphere). Follows asked (plays asked.log (first_played image asked) (length x.progress.commits)) x) (sym (same-if-replayed p q.0 q.2 (ap replays r.role))) r;
+      strata = λ image v p now was.
+          let q = shown-alike w came i p same now.shown in
+          let asked = in_strata v in
+          let r : FollowsInStrata v image q.0 = strata_follow image v s es i q.0 (record { setup = within; there = now.there; replays = was; standard = standard image asked now.there was; strata = (limits.images i image now.there).strata asked was; shown = q.1 }) in
+          subst (FollowsInStrata v image) (sym (same-if-replayed p q.0 q.2 (ap replays r.role))) r;
       stopped = λ image asked p b now was is over.
-          let q = shown-alike w v i p same now.shown in
+          let q = shown-alike w came i p same now.shown in
           let alike = same-if-replayed q.0 p (sym q.2) (ap replays is) in
           subst (λ (x : Sphere). IsPlayed asked (last_played image asked) x b) alike
-          (stopped_played image asked s es i q.0 b (record { setup = within; there = now.there; replays = was; standard = standard image asked now.there was; shown = q.1 }) (ap (λ (x : Sphere). x.role) alike ∙ is) over);
+          (stopped_played image asked s es i q.0 b (record { setup = within; there = now.there; replays = was; standard = standard image asked now.there was; strata = (limits.images i image now.there).strata asked was; shown = q.1 }) (ap (λ (x : Sphere). x.role) alike ∙ is) over);
     }

@@ -1,8 +1,7 @@
 -- A recorder says that an epoch is due exactly if one is due in its sphere.
-use Rattle.std.proofs.Common.{◌≡◌, ℕ, ◌+◌, ◌%◌, Bool, false, not, ◌&&◌, ◌||◌, nat_eq, List, [], ◌∷◌, length, Option, Some, None, refl, sym, ap, ◌∙◌}
+use Rattle.std.proofs.Common.{◌≡◌, ℕ, ◌+◌, ◌%◌, false, not, ◌&&◌, ◌||◌, nat_eq, List, [], ◌∷◌, length, Option, Some, None, refl, sym, ap, ◌∙◌}
 use Rattle.spec_play.specs.Epochs as play
 use Rattle.spec_play.specs.Epochs.{Epoch, Epochs}
-use Rattle.spec_play.specs.Progress.{position}
 use Rattle.spec_play.specs.declared.used.Used.{Used}
 use Rattle.spec_protocol.specs.machine.Epochs as protocol
 use Rattle.spec_protocol.specs.promises.Kept.{is_due_if, has_due}

@@ -1,16 +1,16 @@
 -- A replay is as far as its sphere, and the limits of its chunks and its requests are within their bounds.
-use Rattle.std.proofs.Common.{◌≡◌, ℕ, Bool, true, false, ◌+◌, ◌^◌, ◌<◌, ◌≤◌, length, Option, Some, None, refl, sym, ap, ◌∙◌, subst, arith, set}
+use Rattle.std.proofs.Common.{◌≡◌, ℕ, Bool, true, false, ◌+◌, ◌^◌, ◌<◌, ◌≤◌, length, Option, Some, None, inl, inr, refl, sym, ap, ◌∙◌, subst, arith, set}
 use Rattle.std.specs.Prelude.{slice_get}
-use Rattle.std.proofs.lemmas.Bool.{true≢false, eq-eqb}
+use Rattle.std.proofs.lemmas.Bool.{true≢false}
 use Rattle.dl_entry.specs.declared.Request.{Request}
 use Rattle.spec_isa.specs.declared.thread.Parts.{Parts}
 use Rattle.spec_log.specs.Log.{IsLog}
 use Rattle.spec_play.specs.Progress.{position}
-use Rattle.spec_play.specs.Turns.{Turn}
 use Rattle.spec_play.specs.declared.used.Used.{Used}
 use Rattle.spec_protocol.specs.promises.Sound.{IsSoundIf, commits_in, commits_if}
 use Rattle.spec_protocol.specs.machine.Placing.{replays}
-use Rattle.spec_protocol.specs.machine.Spheres.{Cursor, Replay as IsReplay, Sphere, limit_in, pieces_of, whole_limit}
+use Rattle.spec_protocol.specs.machine.Spheres.{Cursor, Replay as IsReplay, Sphere, is_over, limit_in, pieces_of, whole_limit}
+use Rattle.spec_protocol.proofs.Moves.Joining.{MayGo, its_turn, own_pieces}
 use Rattle.spec_protocol.proofs.Sound.Commits.{set-all}
 use Rattle.spec_protocol.proofs.Sound.Limits.{whole-most}
 use Rattle.dl_kernel.specs.declared.past.Past.{Past}
@@ -19,6 +19,7 @@ use Rattle.dl_replay.specs.Following.{Following}
 use Rattle.dl_replay.specs.Limits.{chunk_limit_in}
 use Rattle.dl_replay.specs.Replays.{IsReplaying}
 use Rattle.dl_sphere.specs.Inside.{sphere_in, IsAt}
+use Rattle.dl_sphere.specs.Moving.{MayCommit}
 use Rattle.dl_sphere.specs.Pasts.{sphere_at}
 use Rattle.dl_sphere.specs.Roles.{role_of, keeping_of, Keeping, Plain, Recording, Replaying as Replays, HasFew, IsKeepingOf, IsLive, IsLiveOf, IsSphere}
 use Rattle.dl_sphere.specs.SizedSpheres.{SizedSphere}
@@ -31,11 +32,12 @@ use Rattle.dl_sphere.specs.declared.sphere.Sphere.TheInside.{Inside}
 -- a replayed sphere that stands is as far in its log as its player
 pub replayed : (a : Inside) (r : Replayed) → a.part ≡ Part.Replayed r → IsSphere a.s a.past (keeping_of a.part) → IsAt a.past r
 replayed a r is h =
-    record { replaying = subst (λ (part : Part). IsKeepingOf a.s a.past (keeping_of part)) is h.kept; counted = h.counted }
+    let kept = subst (λ (part : Part). IsKeepingOf a.s a.past (keeping_of part)) is h.kept in
+    record { replaying = kept.0; counted = h.counted; all = kept.1 }
 
 -- and the other way round
 pub stands_replayed : (s : ℕ) (before after : Past) (x : Keeping) (r : Replayed) → IsSphere s before x → IsAt after r → IsSphere s after (Replays r.player r.loads.items)
-stands_replayed s before after x r h at = record { size = h.size; counted = at.counted; request = at.replaying.request; kept = at.replaying }
+stands_replayed s before after x r h at = record { size = h.size; counted = at.counted; request = at.replaying.request; kept = (at.replaying, at.all) }
 
 -- a piece of a commit leaves the number of its thread's commits
 pub moved_on : (r : Following) (s : State) (k : ℕ) (t u : Parts) → slice_get s.threads k ≡ Some t → u.commits ≡ t.commits → IsReplaying r s → IsReplaying r (record s { threads = set s.threads k u })
@@ -51,6 +53,7 @@ moved_on r s k t u there same h =
           };
       left = h.left;
       request = h.request;
+      strata = h.strata;
     }
 
 commits-within : (r : Following) (s : State) (k : ℕ) (o : Option Parts) → slice_get s.threads k ≡ o → IsReplaying r s → commits_if o ≤ r.log.count
@@ -61,11 +64,21 @@ commits-within r s k (Some t) is h = let f = h.bounded.threads k t is in let n =
 pub commits_within : (r : Following) (s : State) (k : ℕ) → IsReplaying r s → commits_in s.threads k ≤ r.log.count
 commits_within r s k h = commits-within r s k (slice_get s.threads k) refl h
 
+-- a thread that may commit goes on
+may_be : (b : Cursor) (k : ℕ) → MayCommit b k → MayGo b k
+may_be b k may = elim may [
+  | inl turn ↦ its_turn b k turn
+  | inr joins ↦ record { going = joins.going; turn = inr joins.joins }
+]
+
+pub may_going : (b : Cursor) (k : ℕ) → MayCommit b k → is_over b.now ≡ false
+may_going b k may = (may_be b k may).going
+
 -- a part and those before it are no more than a standard chunk
-pub part_fits : (b : Cursor) (k n : ℕ) (t : Parts) → IsLog b.log → b.now ≡ Turn k → b.total < whole_limit b.log k t.commits → n ≤ limit_in (IsReplay b) 0 k t.commits → b.total + n ≤ b.log.s
-part_fits b k n t is turn room within =
+pub part_fits : (b : Cursor) (k n : ℕ) (t : Parts) → IsLog b.log → MayCommit b k → b.total < whole_limit b.log k t.commits → n ≤ limit_in (IsReplay b) 0 k t.commits → b.total + n ≤ b.log.s
+part_fits b k n t is may room within =
     let a = whole-most b.log k t.commits is in
-    let own : pieces_of b.now k b.total ≡ b.total = rw (turn, eq-eqb k k refl) refl in
+    let own : pieces_of b.now k b.total ≡ b.total = own_pieces b k (may_be b k may) in
     omega (arith, a, own, room, within)
 
 -- the limit of a replay's chunk is at least 1

@@ -1,5 +1,7 @@
 -- What the replayer judges of a commit makes of its sphere what the definitions make of it.
-use Rattle.std.proofs.Common.{◌≡◌, ℕ, ◌+◌, List, [], ◌∷◌, ◌++◌, refl, sym, ap, ◌∙◌}
+use Rattle.std.proofs.Common.{◌≡◌, ℕ, ◌+◌, ◌≤◌, suc, List, [], ◌∷◌, ◌++◌, length, Option, Some, None, option_map, IfSome, refl, sym, ap, ◌∙◌, arith}
+use Rattle.std.proofs.lemmas.List.Edits.{length-insert}
+use Rattle.std.proofs.lemmas.Option.{none-some}
 use Rattle.dl_entry.specs.declared.Commit.{Commit}
 use Rattle.dl_entry.specs.declared.End.{End}
 use Rattle.dl_entry.specs.declared.Why.{Why}
@@ -9,7 +11,12 @@ use Rattle.spec_kernel.specs.Devices.{Devices}
 use Rattle.spec_play.specs.Effects.{dma_commit}
 use Rattle.spec_play.specs.Progress.{Progress}
 use Rattle.spec_play.specs.Transfers.{DmaVerdict, DmaGoes, DmaFails}
-use Rattle.spec_play.specs.Turns.{Ended}
+use Rattle.spec_play.specs.declared.interval.Interval.{Interval}
+use Rattle.spec_play.specs.declared.used.Used.{Used}
+use Rattle.spec_play.specs.Effects.{Effect}
+use Rattle.spec_play.specs.Turns.{TurnOrEnd, Ended}
+use Rattle.spec_log.specs.declared.LogParts.{LogParts}
+use Rattle.spec_strata.specs.Standing.{Standing, after_dma, after_thread, place_of}
 use Rattle.spec_play.specs.Verdicts.{LogVerdict, Goes, Fails}
 use Rattle.spec_protocol.specs.machine.Commits.{Diverged, Granted, MovedSphere, by_verdict, dma_by_verdict}
 use Rattle.spec_protocol.specs.machine.Spheres.{Replay, Role, Sphere}
@@ -20,11 +27,17 @@ use Rattle.dl_replay.specs.Judged.{Judged, judged, dma_judged}
 use Rattle.dl_replay.specs.Replays.{Agrees}
 use Rattle.dl_replay.specs.declared.verdict.Verdict.{Verdict}
 use Rattle.dl_sphere.specs.Pasts.{sphere_at, sphere_with}
-use Rattle.dl_sphere.specs.Roles.{IsCounted}
+use Rattle.dl_sphere.specs.Roles.{HasAllIf, IsCounted}
+use Rattle.dl_sphere.specs.Moving.{put_at}
+use Rattle.spec_protocol.proofs.Logs.Growing.{pushed_length}
 use Rattle.dl_sphere.proofs.Replays.Judging.{IfGoes}
 
 not-went : (why : Why) → Verdict.Diverged why ≡ Verdict.Went → ⊥
 not-went why e = cc
+
+-- the sphere's commits with one more of thread k
+abbrev pub put_in : Past → Following → (thread : ℕ) → Commit → List Commit
+put_in past r k c = put_at (option_map (place_of k) r.strata) c past.commits.items
 
 -- The sphere has come so far; these are the loads of the pieces of its present commit, and the devices.
 module _ (past : Past) (loads : List Load) (d : Devices) where
@@ -35,19 +48,26 @@ module _ (past : Past) (loads : List Load) (d : Devices) where
   abbrev now_at : Following → Sphere
   now_at r = in_state past.state past.commits.items r loads
 
-  -- what an answer, with what it leaves, makes of the sphere: if it goes, by this commit, which stores these words
-  abbrev answered : Commit → List Stored → Verdict → Following → State → MovedSphere
-  answered c words Verdict.Went r s =
-      record { outcome = Granted; sphere = in_state s (past.commits.items ++ c ∷ []) r []; words = words; devices = d }
-  answered c words (Verdict.Diverged why) r s =
+  -- what an answer, with what it leaves, makes of the sphere: if a commit goes, it has these, and stores these words
+  abbrev answered : List Commit → List Stored → Verdict → Following → State → MovedSphere
+  answered cs words Verdict.Went r s =
+      record { outcome = Granted; sphere = in_state s cs r []; words = words; devices = d }
+  answered cs words (Verdict.Diverged why) r s =
       record { outcome = Diverged past.state.commits why; sphere = in_state s past.commits.items r loads; words = []; devices = d }
 
-  abbrev pub made_of : Commit → List Stored → Judged → MovedSphere
-  made_of c words j = answered c words j.verdict j.replay j.state
+  abbrev pub made_of : List Commit → List Stored → Judged → MovedSphere
+  made_of cs words j = answered cs words j.verdict j.replay j.state
+
+  -- a commit that goes
+  goes_in : (log : LogParts) (interval : Option Interval) (o : Option Standing) (now : TurnOrEnd) (total k : ℕ) (e : Effect) (u : Used)
+      → let r : Following = record { log = log; interval = interval; strata = o; now = now; total = total } in
+      made_of (put_in past r k e.commit) e.words (judged r past.state (now_at r).progress k (Goes e u)) ≡ by_verdict (cursor_of r past.state.used loads) k (Goes e u) d (now_at r)
+  goes_in log interval None now total k e u = refl
+  goes_in log interval (Some x) now total k e u = refl
 
   -- a commit of a thread
   pub commit_moved : (r : Following) (k : ℕ) (v : LogVerdict) (c : Commit) (words : List Stored) → IsCounted past → IfGoes c words v
-      → made_of c words (judged r past.state (now_at r).progress k v) ≡ by_verdict (cursor_of r past.state.used loads) k v d (now_at r)
+      → made_of (put_in past r k c) words (judged r past.state (now_at r).progress k v) ≡ by_verdict (cursor_of r past.state.used loads) k v d (now_at r)
   commit_moved r k (Fails why) c words counted of =
       (λ i. record {
         outcome = Diverged (sym counted i) why;
@@ -56,7 +76,8 @@ module _ (past : Past) (loads : List Load) (d : Devices) where
         devices = d;
       })
   commit_moved r k (Goes e u) c words counted of =
-      (λ i. made_of (sym of.commit i) (sym of.stored i) (judged r past.state (now_at r).progress k (Goes e u)))
+      (λ i. made_of (put_in past r k (sym of.commit i)) (sym of.stored i) (judged r past.state (now_at r).progress k (Goes e u)))
+      ∙ goes_in r.log r.interval r.strata r.now r.total k e u
 
   -- a DMA
   abbrev pub IfStores : List Stored → DmaVerdict → Type 0
@@ -64,7 +85,7 @@ module _ (past : Past) (loads : List Load) (d : Devices) where
   IfStores words (DmaFails why) = Unit {0}
 
   pub dma_goes : (r : Following) (v : DmaVerdict) (words : List Stored) → IsCounted past → IfStores words v
-      → made_of dma_commit words (dma_judged r past.state (now_at r).progress v) ≡ dma_by_verdict (cursor_of r past.state.used loads) v d (now_at r)
+      → made_of (past.commits.items ++ dma_commit ∷ []) words (dma_judged r past.state (now_at r).progress v) ≡ dma_by_verdict (cursor_of r past.state.used loads) v d (now_at r)
   dma_goes r (DmaFails why) words counted of =
       (λ i. record {
         outcome = Diverged (sym counted i) why;
@@ -72,7 +93,7 @@ module _ (past : Past) (loads : List Load) (d : Devices) where
         words = [];
         devices = d;
       })
-  dma_goes r (DmaGoes stored) words counted of = (λ i. made_of dma_commit (sym of i) (dma_judged r past.state (now_at r).progress (DmaGoes stored)))
+  dma_goes r (DmaGoes stored) words counted of = (λ i. made_of (past.commits.items ++ dma_commit ∷ []) (sym of i) (dma_judged r past.state (now_at r).progress (DmaGoes stored)))
 
   -- the words that a DMA gives are those of its verdict
   pub dma_stores : (words : List Stored) (v : DmaVerdict) → DmaGoes words ≡ v → IfStores words v
@@ -81,19 +102,19 @@ module _ (past : Past) (loads : List Load) (d : Devices) where
 
   -- ---- where the replay leaves its log
 
-  fails : (why : Why) (new : Following) (t : State) (j : Judged) → record { verdict = Verdict.Diverged why; replay = new; state = t } ≡ j → (c : Commit) (words : List Stored) → answered c words (Verdict.Diverged why) new t ≡ made_of c words j
-  fails why new t j is c words = ap (made_of c words) is
+  fails : (why : Why) (new : Following) (t : State) (j : Judged) → record { verdict = Verdict.Diverged why; replay = new; state = t } ≡ j → (cs : List Commit) (words : List Stored) → answered cs words (Verdict.Diverged why) new t ≡ made_of cs words j
+  fails why new t j is cs words = ap (made_of cs words) is
 
   pub commit_left : (r : Following) (k : ℕ) (v : LogVerdict) (why : Why) (new : Following) (t : State) → IsCounted past
       → record { verdict = Verdict.Diverged why; replay = new; state = t } ≡ judged r past.state (now_at r).progress k v
-      → answered dma_commit [] (Verdict.Diverged why) new t ≡ by_verdict (cursor_of r past.state.used loads) k v d (now_at r)
-  commit_left r k (Fails other) why new t counted is = fails why new t _ is dma_commit [] ∙ commit_moved r k (Fails other) dma_commit [] counted tt
+      → answered past.commits.items [] (Verdict.Diverged why) new t ≡ by_verdict (cursor_of r past.state.used loads) k v d (now_at r)
+  commit_left r k (Fails other) why new t counted is = fails why new t _ is (put_in past r k dma_commit) [] ∙ commit_moved r k (Fails other) dma_commit [] counted tt
   commit_left r k (Goes e u) why new t counted is = absurd (not-went why (ap (λ (j : Judged). j.verdict) is))
 
   pub dma_left : (r : Following) (v : DmaVerdict) (why : Why) (new : Following) (t : State) → IsCounted past
       → record { verdict = Verdict.Diverged why; replay = new; state = t } ≡ dma_judged r past.state (now_at r).progress v
-      → answered dma_commit [] (Verdict.Diverged why) new t ≡ dma_by_verdict (cursor_of r past.state.used loads) v d (now_at r)
-  dma_left r (DmaFails other) why new t counted is = fails why new t _ is dma_commit [] ∙ dma_goes r (DmaFails other) [] counted tt
+      → answered past.commits.items [] (Verdict.Diverged why) new t ≡ dma_by_verdict (cursor_of r past.state.used loads) v d (now_at r)
+  dma_left r (DmaFails other) why new t counted is = fails why new t _ is (past.commits.items ++ dma_commit ∷ []) [] ∙ dma_goes r (DmaFails other) [] counted tt
   dma_left r (DmaGoes words) why new t counted is = absurd (not-went why (ap (λ (j : Judged). j.verdict) is))
 
 -- ---- what is counted
@@ -124,6 +145,32 @@ commit_log r s p k (Goes e u) = refl
 pub dma_log : (r : Following) (s : State) (p : Progress) (v : DmaVerdict) → (dma_judged r s p v).replay.log ≡ r.log
 dma_log r s p (DmaFails why) = refl
 dma_log r s p (DmaGoes words) = refl
+
+-- in strata, that the sphere has all commits
+all-after : (f : Standing → Standing) (o : Option Standing) (first : ℕ) → HasAllIf o first → HasAllIf (option_map f o) first
+all-after f None first all = all
+all-after f (Some x) first all = all
+
+pub commit_all : (r : Following) (s : State) (p : Progress) (k : ℕ) (v : LogVerdict) (first : ℕ) → HasAllIf r.strata first → HasAllIf (judged r s p k v).replay.strata first
+commit_all r s p k (Fails why) first all = all
+commit_all r s p k (Goes e u) first all = all-after (after_thread k) r.strata first all
+
+pub dma_all : (r : Following) (s : State) (p : Progress) (v : DmaVerdict) (first : ℕ) → HasAllIf r.strata first → HasAllIf (dma_judged r s p v).replay.strata first
+dma_all r s p (DmaFails why) first all = all
+dma_all r s p (DmaGoes words) first all = all-after after_dma r.strata first all
+
+-- ---- the place of a commit
+
+-- it is among the sphere's commits
+pub place_fits : (f : Standing → ℕ) (o : Option Standing) (place : Option ℕ) (first n all : ℕ) → place ≡ option_map f o → IfSome place (λ i. i ≤ all) → HasAllIf o first → first + n ≡ all → IfSome place (λ i. i ≤ n)
+place_fits f o None first n all is within has counted = tt
+place_fits f None (Some i) first n all is within has counted = absurd (none-some i (sym is))
+place_fits f (Some x) (Some i) first n all is within has counted = omega (arith, within, has, counted)
+
+-- with one more there
+pub put_length : (place : Option ℕ) (c : Commit) (cs : List Commit) → IfSome place (λ i. i ≤ length cs) → length (put_at place c cs) ≡ suc (length cs)
+put_length None c cs within = pushed_length cs c (length cs) refl
+put_length (Some i) c cs within = omega (arith, length-insert cs i c within)
 
 -- a sphere has come as far as its state says
 pub agreed : (past : Past) (role : Role) → IsCounted past → Agrees past.state (sphere_at past role).progress

@@ -30,12 +30,16 @@ kept-drained s past m (Recording r) same h =
       fresh = h.fresh;
     }
 kept-drained s past m (Replaying r loads) same h =
-    record {
-      is_log = h.is_log;
-      bounded = record { commits = h.bounded.commits; threads = h.bounded.threads; interrupts = h.bounded.interrupts };
-      left = h.left;
-      request = subst (λ n. IsSoundIf n past.state.request) (sym same) h.request;
-    }
+    let at = h.0 in (
+      record {
+        is_log = at.is_log;
+        bounded = record { commits = at.bounded.commits; threads = at.bounded.threads; interrupts = at.bounded.interrupts };
+        left = at.left;
+        request = subst (λ n. IsSoundIf n past.state.request) (sym same) at.request;
+        strata = at.strata;
+      },
+      h.1,
+    )
 
 -- a memory of the same length leaves the sphere standing
 pub drained_stands : (s : ℕ) (past : Past) (m : List ℕ) (x : Keeping) → length m ≡ length past.state.memory → IsSphere s past x → IsSphere s (record past { state = record past.state { memory = m } }) x

@@ -1,5 +1,5 @@
 -- What is true of every sphere is true before its first commit.
-use Rattle.std.proofs.Common.{◌≡◌, ℕ, zero, suc, ◌+◌, ◌<◌, ◌≤◌, ◌==◌, Bool, false, ◌&&◌, cond, nat_le, nat_lt, List, [], ◌∷◌, length, replicate, slice_index, Option, Some, None, inl, inr, refl, sym, ap, ◌∙◌, subst, arith}
+use Rattle.std.proofs.Common.{◌≡◌, ℕ, zero, suc, ◌+◌, ◌<◌, ◌≤◌, ◌==◌, Bool, false, ◌&&◌, cond, nat_le, nat_lt, List, [], ◌∷◌, length, replicate, slice_index, Option, Some, None, option_map, inl, inr, refl, sym, ap, ◌∙◌, subst, arith}
 use Rattle.std.proofs.Math.ListN.{get_or}
 use Rattle.std.proofs.lemmas.Bool.{cases_Bool, lt-leb}
 use Rattle.std.proofs.lemmas.Option.{none-some, same_Some}
@@ -20,16 +20,18 @@ use Rattle.spec_play.specs.Turns.{TurnOrEnd, Ended}
 use Rattle.spec_play.proofs.Bounds.{after-bounded}
 use Rattle.spec_play.proofs.Resuming.{plays_resume}
 use Rattle.spec_protocol.specs.machine.Machine.{EpochSetup, ReplaySetup, RoleSetup, IsPlain, IsRecorded, IsReplayed, SphereSetup}
-use Rattle.spec_protocol.specs.machine.Machine.{first_played, first_threads, new_epochs, sphere_as}
+use Rattle.spec_protocol.specs.machine.Machine.{first_played, first_standing, first_threads, in_strata, new_epochs, sphere_as}
 use Rattle.spec_protocol.specs.machine.Spheres as machine
 use Rattle.spec_protocol.specs.machine.Spheres.{Sphere}
-use Rattle.spec_protocol.specs.promises.Sound.{IsChunkSize, IsImage, IsRole, IsSoundIf}
+use Rattle.spec_protocol.specs.promises.Sound.{AreReplayableIf, IsChunkSize, IsImage, IsRole, IsSoundIf}
+use Rattle.spec_strata.specs.declared.stratum.Stratum.{Stratum}
+use Rattle.spec_strata.specs.declared.strata.StrataParts.{StrataParts}
+use Rattle.spec_strata.specs.Standing.{stratum_begun}
 use Rattle.spec_protocol.proofs.Logs.Fresh.{fresh-none}
 use Rattle.spec_protocol.proofs.Logs.Growing.{commits_in}
 use Rattle.spec_protocol.proofs.Sound.Plays.{replay-sound}
 use Rattle.dl_kernel.specs.States.{state_in}
-use Rattle.dl_replay.specs.Following.{followed_from}
-use Rattle.dl_sphere.specs.Setups.{HasCome, IsBegunAs, IsBegunIf, begun_as, diverged_in, interval_in, replay_setup, role_setup}
+use Rattle.dl_sphere.specs.Setups.{HasCome, IsBegunAs, IsBegunIf, IsParallelAs, begun_as, diverged_in, interval_in, replay_setup, role_setup, strata_as, strata_in}
 use Rattle.dl_sphere.specs.declared.setup.Begun.{Begun}
 use Rattle.dl_sphere.specs.declared.setup.Replay.{Replay}
 use Rattle.dl_sphere.specs.declared.setup.Role.{Role}
@@ -37,8 +39,8 @@ use Rattle.dl_record.specs.Epochs.{base}
 use Rattle.dl_kernel.specs.declared.past.Past.{Past}
 use Rattle.dl_kernel.specs.States.{PlayState as At}
 use Rattle.dl_sphere.specs.Pasts.{sphere_at, sphere_with}
-use Rattle.dl_sphere.specs.Roles.{Keeping, Plain, Recording, Replaying, recording_of, role_of, HasFew, HasRecorded, IsKeepingOf, IsSphere}
-use Rattle.dl_sphere.specs.Starting.{IsReplayingIf, diverged_if, first_state, following_at, keeping_at, start_as}
+use Rattle.dl_sphere.specs.Roles.{Keeping, Plain, Recording, Replaying, recording_of, role_of, HasAllIf, HasFew, HasRecorded, IsKeepingOf, IsSphere}
+use Rattle.dl_sphere.specs.Starting.{IsReplayingIf, diverged_if, first_state, following_at, keeping_at, start_as, started_from}
 
 -- ---- a live sphere
 
@@ -115,26 +117,26 @@ early_end i n count why now within early is =
     ∙ not_over i.first i.last n count (Ended (End.At n)) (Ended (End.Diverged n why)) early within.order
 
 -- a replay of an interval that begins in a state of its log's play is where the play is
-pub start_follows : (image : SphereSetup) (log : LogParts) (i : Interval) (why : Option Why) → let asked : ReplaySetup = record { log = log; interval = Some i } in
+pub start_follows : (image : SphereSetup) (log : LogParts) (i : Interval) (o : Option (List Stratum)) (why : Option Why) → let asked : ReplaySetup = record { log = log; interval = Some i; strata = o } in
     IsWithin log.count i → HasCome why i (first_played image asked)
-    → diverged_if why (state_of (first_played image asked)).commits (followed_from log (Some i) (state_of (first_played image asked))) ≡ following_at asked (first_played image asked)
-start_follows image log i None within come =
-    let asked : ReplaySetup = record { log = log; interval = Some i } in
+    → diverged_if why (state_of (first_played image asked)).commits (started_from asked (state_of (first_played image asked))) ≡ following_at asked (first_played image asked)
+start_follows image log i o None within come =
+    let asked : ReplaySetup = record { log = log; interval = Some i; strata = o } in
     let y : Played = first_played image asked in
     let s : State = state_of y in
     let none : s.commits + 0 ≡ s.commits = omega arith in
     let turn = turn_there image asked come in
-    (λ k. record { log = log; interval = Some i; now = now_in (Some i) log.count (none k) (turn k); total = 0 })
-start_follows image log i (Some why) within come =
-    let asked : ReplaySetup = record { log = log; interval = Some i } in
+    (λ k. record { log = log; interval = Some i; strata = first_standing asked; now = now_in (Some i) log.count (none k) (turn k); total = 0 })
+start_follows image log i o (Some why) within come =
+    let asked : ReplaySetup = record { log = log; interval = Some i; strata = o } in
     let y : Played = first_played image asked in
     let now = early_end i (position y.progress) log.count why y.now within come.0 come.1 in
-    (λ k. record { log = log; interval = Some i; now = sym now k; total = 0 })
+    (λ k. record { log = log; interval = Some i; strata = first_standing asked; now = sym now k; total = 0 })
 
 -- one that replays the whole log is, too
-pub start_follows_all : (image : SphereSetup) (log : LogParts) → let asked : ReplaySetup = record { log = log; interval = None } in
-    followed_from log None (state_of (first_played image asked)) ≡ following_at asked (first_played image asked)
-start_follows_all image log = refl
+pub start_follows_all : (image : SphereSetup) (log : LogParts) (o : Option (List Stratum)) → let asked : ReplaySetup = record { log = log; interval = None; strata = o } in
+    started_from asked (state_of (first_played image asked)) ≡ following_at asked (first_played image asked)
+start_follows_all image log o = refl
 
 -- ---- by its setup
 
@@ -146,49 +148,61 @@ within-if image asked (Some b) h = h.within
 pub role_of_replay : (s : ℕ) (image : SphereSetup) (r : Replay) → IsLog r.log → IsBegunIf image (replay_setup r) r.begun → IsRole s (IsReplayed (replay_setup r))
 role_of_replay s image r good h = (good, within-if image (replay_setup r) r.begun h)
 
-follows-start : (image : SphereSetup) (log : LogParts) (o : Option Begun) (s : State) → let asked : ReplaySetup = record { log = log; interval = interval_in o } in
+follows-start : (image : SphereSetup) (log : LogParts) (o : Option Begun) (strata : Option (List Stratum)) (s : State) → let asked : ReplaySetup = record { log = log; interval = interval_in o; strata = strata } in
     IsBegunIf image asked o → s ≡ state_of (first_played image asked)
-    → diverged_if (diverged_in o) s.commits (followed_from log (interval_in o) s) ≡ following_at asked (first_played image asked)
-follows-start image log None s h is = ap (followed_from log None) is ∙ start_follows_all image log
-follows-start image log (Some b) s h is =
-    ap (λ (x : State). diverged_if b.diverged x.commits (followed_from log (Some b.interval) x)) is
-    ∙ start_follows image log b.interval b.diverged h.within h.come
+    → diverged_if (diverged_in o) s.commits (started_from asked s) ≡ following_at asked (first_played image asked)
+follows-start image log None strata s h is =
+    ap (started_from (record { log = log; interval = None; strata = strata })) is ∙ start_follows_all image log strata
+follows-start image log (Some b) strata s h is =
+    ap (λ (x : State). diverged_if b.diverged x.commits (started_from (record { log = log; interval = Some b.interval; strata = strata }) x)) is
+    ∙ start_follows image log b.interval strata b.diverged h.within h.come
 
 -- its player is where its log's play is
 pub follows_start : (image : SphereSetup) (r : Replay) (s : State) → IsBegunIf image (replay_setup r) r.begun → s ≡ state_of (first_played image (replay_setup r))
-    → diverged_if (diverged_in r.begun) s.commits (followed_from r.log (interval_in r.begun) s) ≡ following_at (replay_setup r) (first_played image (replay_setup r))
-follows_start image r s h is = follows-start image r.log r.begun s h is
+    → diverged_if (diverged_in r.begun) s.commits (started_from (replay_setup r) s) ≡ following_at (replay_setup r) (first_played image (replay_setup r))
+follows_start image r s h is = follows-start image r.log r.begun (strata_in r.strata) s h is
 
-first-start : (image : SphereSetup) (log : LogParts) (o : Option Begun) → o ≡ None → first_state image ≡ start_as image (IsReplayed (record { log = log; interval = interval_in o }))
-first-start image log None is = refl
-first-start image log (Some b) is = absurd (none-some b (sym is))
+first-start : (image : SphereSetup) (log : LogParts) (o : Option Begun) (strata : Option (List Stratum)) → o ≡ None → first_state image ≡ start_as image (IsReplayed (record { log = log; interval = interval_in o; strata = strata }))
+first-start image log None strata is = refl
+first-start image log (Some b) strata is = absurd (none-some b (sym is))
 
 -- unless an interval is replayed, the sphere starts with its image
 pub starts_first : (image : SphereSetup) (role : Role) → begun_as role ≡ None → first_state image ≡ start_as image (role_setup role)
 starts_first image Role.Plain is = refl
 starts_first image (Role.Record version mode epochs) is = refl
-starts_first image (Role.Replay r) is = first-start image r.log r.begun is
+starts_first image (Role.Replay r) is = first-start image r.log r.begun (strata_in r.strata) is
 
-begun-start : (image : SphereSetup) (log : LogParts) (o : Option Begun) (b : Begun) → o ≡ Some b → IsBegunIf image (record { log = log; interval = interval_in o }) o
-    → state_in b.state ≡ start_as image (IsReplayed (record { log = log; interval = interval_in o }))
-begun-start image log None b is h = absurd (none-some b is)
-begun-start image log (Some other) b is h = ap (λ (x : Begun). state_in x.state) (sym (same_Some _ _ is)) ∙ h.state
+begun-start : (image : SphereSetup) (log : LogParts) (o : Option Begun) (strata : Option (List Stratum)) (b : Begun) → o ≡ Some b → IsBegunIf image (record { log = log; interval = interval_in o; strata = strata }) o
+    → state_in b.state ≡ start_as image (IsReplayed (record { log = log; interval = interval_in o; strata = strata }))
+begun-start image log None strata b is h = absurd (none-some b is)
+begun-start image log (Some other) strata b is h = ap (λ (x : Begun). state_in x.state) (sym (same_Some _ _ is)) ∙ h.state
 
 unless-begun : (image : SphereSetup) (asked : ReplaySetup) (o : Option Begun) → o ≡ None → IsBegunIf image asked o
 unless-begun image asked None is = tt
 unless-begun image asked (Some b) is = absurd (none-some b (sym is))
 
--- and nothing is asked of where it begins
-pub unless_begun : (image : SphereSetup) (role : Role) → begun_as role ≡ None → IsBegunAs image role
-unless_begun image Role.Plain is = tt
-unless_begun image (Role.Record version mode epochs) is = tt
-unless_begun image (Role.Replay r) is = unless-begun image (replay_setup r) r.begun is
+unless-parallel : (image : SphereSetup) (asked : ReplaySetup) (o : Option StrataParts) → o ≡ None → AreReplayableIf image.memory image.entry asked (strata_in o)
+unless-parallel image asked None is = tt
+unless-parallel image asked (Some v) is = absurd (none-some v (sym is))
+
+-- and nothing is asked of where it begins, and unless strata are, nothing of the image
+pub unless_begun : (image : SphereSetup) (role : Role) → begun_as role ≡ None → strata_as role ≡ None → IsBegunAs image role
+unless_begun image Role.Plain is none = tt
+unless_begun image (Role.Record version mode epochs) is none = tt
+unless_begun image (Role.Replay r) is none =
+    (unless-begun image (replay_setup r) r.begun is, unless-parallel image (replay_setup r) r.strata none)
+
+-- what a role asks of its sphere's image
+pub parallel_as : (image : SphereSetup) (role : Role) → IsBegunAs image role → IsParallelAs image (role_setup role)
+parallel_as image Role.Plain h = tt
+parallel_as image (Role.Record version mode epochs) h = tt
+parallel_as image (Role.Replay r) h = h.1
 
 -- else where the interval begins
 pub starts_begun : (image : SphereSetup) (role : Role) (b : Begun) → begun_as role ≡ Some b → IsBegunAs image role → state_in b.state ≡ start_as image (role_setup role)
 starts_begun image Role.Plain b is h = absurd (none-some b is)
 starts_begun image (Role.Record version mode epochs) b is h = absurd (none-some b is)
-starts_begun image (Role.Replay r) b is h = begun-start image r.log r.begun b is h
+starts_begun image (Role.Replay r) b is h = begun-start image r.log r.begun (strata_in r.strata) b is h.0
 
 -- ---- the whole sphere
 
@@ -196,16 +210,24 @@ starts_begun image (Role.Replay r) b is h = begun-start image r.log r.begun b is
 abbrev pub AloneOr : (s : ℕ) → State → List Commit → Keeping → Type 0
 AloneOr s st cs Plain = HasFew (sphere_with st.commits st.memory st.threads cs st.last st.request machine.Plain)
 AloneOr s st cs (Recording r) = HasRecorded s (sphere_with st.commits st.memory st.threads cs st.last st.request (machine.Record (recording_of r))) r
-AloneOr s st cs (Replaying r loads) = Unit {0}
+AloneOr s st cs (Replaying r loads) = HasAllIf r.strata st.commits
 
 -- no epoch has begun
 first_base : (o : Option EpochSetup) → 0 ≡ base (new_epochs o)
 first_base None = refl
 first_base (Some asked) = refl
 
-start_alone : (s : ℕ) (image : SphereSetup) (role : RoleSetup) → AloneOr s (start_as image role) [] (keeping_at image s role)
-start_alone s image IsPlain = record { few = no-more image.entry }
-start_alone s image (IsRecorded asked) =
+-- a replay in strata is of all commits
+all-first : (image : SphereSetup) (asked : ReplaySetup) (o : Option (List Stratum)) → AreReplayableIf image.memory image.entry asked o
+    → HasAllIf (option_map (λ xs. stratum_begun xs 0) o) (state_of (first_played image asked)).commits
+all-first image asked None h = tt
+all-first image asked (Some xs) h =
+    let none : (state_of (first_played image (in_strata h.strata))).commits ≡ 0 = refl in
+    subst (λ (a : ReplaySetup). (state_of (first_played image a)).commits ≡ 0) (sym h.asks) none
+
+start_alone : (s : ℕ) (image : SphereSetup) (role : RoleSetup) → IsParallelAs image role → AloneOr s (start_as image role) [] (keeping_at image s role)
+start_alone s image IsPlain parallel = record { few = no-more image.entry }
+start_alone s image (IsRecorded asked) parallel =
     record {
       few = record { few = no-more image.entry };
       s = refl;
@@ -216,14 +238,14 @@ start_alone s image (IsRecorded asked) =
       count = refl;
       fresh = fresh-none (first_threads image);
     }
-start_alone s image (IsReplayed asked) = tt
+start_alone s image (IsReplayed asked) parallel = all-first image asked asked.strata parallel
 
 kept-from : (s : ℕ) (past : Past) (x : Keeping) → past.state.commits ≡ past.first → AloneOr s (state_in past.state) past.commits.items x → IsReplayingIf x past.state → IsKeepingOf s past x
 kept-from s past Plain first h at =
     subst (λ (n : ℕ). HasFew (sphere_with n past.state.memory past.state.threads past.commits.items past.state.last past.state.request machine.Plain)) first h
 kept-from s past (Recording r) first h at =
     subst (λ (n : ℕ). HasRecorded s (sphere_with n past.state.memory past.state.threads past.commits.items past.state.last past.state.request (machine.Record (recording_of r))) r) first h
-kept-from s past (Replaying r loads) first h at = at
+kept-from s past (Replaying r loads) first h at = (at, subst (HasAllIf r.strata) first h)
 
 first_asks : (s : ℕ) (image : SphereSetup) (role : RoleSetup) (st : At) → state_in st ≡ start_as image role → IsReplayingIf (keeping_at image s role) st → IsSoundIf (length st.memory) st.request
 first_asks s image IsPlain st is at = subst (λ (x : State). IsSoundIf (length x.memory) x.request) (sym is) tt
@@ -241,6 +263,7 @@ pub record Starts (s : ℕ) (image : SphereSetup) (past : Past) (x : Keeping) : 
   pub commits : past.commits.items ≡ []
   pub kept : x ≡ keeping_at image s image.role
   pub at : IsReplayingIf x past.state
+  pub parallel : IsParallelAs image image.role
 
 -- a sphere that has just been set up stands
 pub start_standing : (s : ℕ) (image : SphereSetup) (past : Past) (x : Keeping) → IsChunkSize s → Starts s image past x → IsSphere s past x
@@ -248,7 +271,7 @@ start_standing s image past x size h =
     let here : AloneOr s (state_in past.state) past.commits.items x =
     subst (AloneOr s (state_in past.state) past.commits.items) (sym h.kept)
     (subst (λ (st : State). AloneOr s st past.commits.items (keeping_at image s image.role)) (sym h.state)
-    (subst (λ (cs : List Commit). AloneOr s (start_as image image.role) cs (keeping_at image s image.role)) (sym h.commits) (start_alone s image image.role)))
+    (subst (λ (cs : List Commit). AloneOr s (start_as image image.role) cs (keeping_at image s image.role)) (sym h.commits) (start_alone s image image.role h.parallel)))
     in
     let none : length past.commits.items ≡ 0 = ap length h.commits in
     let first = h.first in

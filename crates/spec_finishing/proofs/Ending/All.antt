@@ -6,8 +6,6 @@ use Rattle.spec_protocol.specs.machine.World.{World}
 use Rattle.spec_protocol.specs.machine.Machine.{Setup, world_of, happens, world_after}
 use Rattle.spec_protocol.specs.machine.Finishing.{next, Finishes}
 use Rattle.spec_protocol.specs.promises.Promises.{after}
-use Rattle.spec_replay.specs.Promises.{ReplaysArePlays}
-use Rattle.spec_replay.proofs.Replays.All.{replays_follow}
 use Rattle.spec_finishing.specs.Rank.{rank}
 use Rattle.spec_finishing.specs.Ending.{Falls, OfReplays, IsFinished, CanFinish, FinishingEnds}
 use Rattle.spec_finishing.proofs.Ending.Knowing.{Known, known-after, after-event}
@@ -36,11 +34,11 @@ record Finishing (s : Setup) (w : World) : Type 0 where
   alone : OfReplays w events
   finished : IsFinished (world_after w events)
 
-goes_after : ReplaysArePlays → (s : Setup) (es : List Event) → CanFinish s → Goes s (after s es)
-goes_after plays s es can =
+goes_after : (s : Setup) (es : List Event) → CanFinish s → Goes s (after s es)
+goes_after s es can =
     record {
-      known = known-after plays s es can;
-      next_known = λ e. subst (Known s) (after-event (world_of s) es e) (known-after plays s (es ++ e ∷ []) can);
+      known = known-after s es can;
+      next_known = λ e. subst (Known s) (after-event (world_of s) es e) (known-after s (es ++ e ∷ []) can);
       cores = can.cores;
       window = can.window;
     }
@@ -65,20 +63,20 @@ finishing_by s w None g none deeper = ended s w g.known none
 finishing_by s w (Some e) g is deeper =
     let falls = next-falls s w e g is in one_more s w e g.known is falls (deeper e falls.less)
 
-finishing : ReplaysArePlays → (s : Setup) → CanFinish s → (n : ℕ) (es : List Event) → rank s (after s es) ≤ n → Finishing s (after s es)
-finishing plays s can zero es few =
-    finishing_by s (after s es) (next (after s es)) (goes_after plays s es can) refl (λ e less. absurd (omega (arith, less, few)))
-finishing plays s can (suc n) es few =
-    finishing_by s (after s es) (next (after s es)) (goes_after plays s es can) refl
+finishing : (s : Setup) → CanFinish s → (n : ℕ) (es : List Event) → rank s (after s es) ≤ n → Finishing s (after s es)
+finishing s can zero es few =
+    finishing_by s (after s es) (next (after s es)) (goes_after s es can) refl (λ e less. absurd (omega (arith, less, few)))
+finishing s can (suc n) es few =
+    finishing_by s (after s es) (next (after s es)) (goes_after s es can) refl
     (λ e less.
     let same = after-event (world_of s) es e in
-    subst (Finishing s) same (finishing plays s can n (es ++ e ∷ []) (let h = ap (rank s) same in omega (arith, h, less, few))))
+    subst (Finishing s) same (finishing s can n (es ++ e ∷ []) (let h = ap (rank s) same in omega (arith, h, less, few))))
 
 -- after every schedule one list of events finishes, and no other; it is within the bound, and each of them is done
 pub finishing_all : FinishingEnds
 finishing_all s es can =
-    let f = finishing replays_follow s can (rank s (after s es)) es (omega arith) in
-    let bound = potential-bounded replays_follow s es can in (
+    let f = finishing s can (rank s (after s es)) es (omega arith) in
+    let bound = potential-bounded s es can in (
       f.events,
       record {
         finishes = f.finishes;

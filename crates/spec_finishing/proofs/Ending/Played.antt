@@ -4,13 +4,13 @@ use Rattle.std.specs.Prelude.{slice_get}
 use Rattle.spec_protocol.specs.declared.event.Event.{Event}
 use Rattle.spec_protocol.specs.machine.Spheres.{Sphere, is_over}
 use Rattle.spec_protocol.specs.machine.World.{World}
-use Rattle.spec_protocol.specs.machine.Machine.{ReplaySetup, IsReplayed, SphereSetup, Setup, world_of, happens, world_after}
+use Rattle.spec_protocol.specs.machine.Machine.{ReplaySetup, in_strata, IsReplayed, SphereSetup, Setup, world_of, happens, world_after}
 use Rattle.spec_protocol.specs.machine.Shown.{shown_of}
 use Rattle.spec_protocol.specs.machine.Finishing.{next, Finishes}
 use Rattle.spec_protocol.specs.promises.Promises.{after}
-use Rattle.spec_replay.proofs.Replays.Stopping.{stopped_played}
+use Rattle.spec_replay.proofs.Strata.Stopping.{stopped_played}
 use Rattle.spec_finishing.specs.Ending.{IsAtEnd, CanFinish}
-use Rattle.spec_finishing.specs.Finished.{HasPlayed, ReplaysAreFinished}
+use Rattle.spec_finishing.specs.Finished.{HasPlayed, ReplaysAreFinished, StrataAreCompleted}
 use Rattle.spec_protocol.proofs.Invariants.Schedules.{sizes_kept}
 use Rattle.spec_finishing.proofs.Ending.KindsKept.{is_replayed, kind-at}
 use Rattle.spec_finishing.proofs.Ending.Knowing.{within, there_is, kinds_after}
@@ -43,7 +43,14 @@ played_at image asked s es i can none there replayed =
       there = p.1;
       role = b.1;
       played = stopped_played image asked s es i p.0 b.0
-          (record { setup = can.setup; there = there; replays = replayed; standard = can.standard i image asked there replayed; shown = shows }) b.1 over;
+          (record {
+            setup = can.setup;
+            there = there;
+            replays = replayed;
+            standard = can.standard i image asked there replayed;
+            strata = can.strata i image asked there replayed;
+            shown = shows;
+          }) b.1 over;
     }
 
 -- once finishing has ended, each replay has done the whole play that was asked for
@@ -51,3 +58,9 @@ pub replays_finished : ReplaysAreFinished
 replays_finished image asked s es finishing i can finishes there replayed =
     let same = after_both (world_of s) es finishing in
     played_at image asked s (es ++ finishing) i can (ap next same ∙ last_next (after s es) finishing finishes) there replayed
+
+-- and each in strata is complete
+pub strata_completed : StrataAreCompleted
+strata_completed image v s es finishing i can finishes there replayed parallel =
+    let h = replays_finished image (in_strata v) s es finishing i can finishes there replayed in
+    record { whole = h; complete = h.played.now ∙ parallel.fits }

@@ -37,7 +37,6 @@ use Rattle.spec_protocol.proofs.Sound.Words.{lay-bytes}
 use Rattle.spec_protocol.proofs.Sound.Devices.{IsSoundTaken, taken-sound, dma-few}
 use Rattle.spec_protocol.proofs.Sound.Limits.{limit-most}
 use Rattle.spec_protocol.proofs.Sound.Schedules.{setup-within, worlds_sound}
-use Rattle.spec_replay.proofs.Replays.All.{replays_follow}
 use Rattle.spec_finishing.specs.Work.{setup_work, plays_work, serial_work, dma_work, what_work, role_work, sphere_work, moves_work}
 use Rattle.spec_finishing.specs.Rank.{price}
 use Rattle.spec_finishing.specs.Ending.{work}
@@ -200,6 +199,7 @@ setups_finish s limits =
           let is = subst (IsRole s.numbers.s) replays_ (limits.images i image there).role in
           let l = is.0.s.0 in
           omega (arith, l);
+      strata = λ i image asked there replays_. (limits.images i image there).strata asked replays_;
     }
 
 schedule-few : (s : Setup) → IsWithinLimits s → (before es : List Event) → moves_work s.numbers (shown_of (after s before)) (moves (after s before) es) ≤ 65541 * length es
@@ -207,7 +207,7 @@ schedule-few s limits before [] = omega arith
 schedule-few s limits before (e ∷ es) =
     let w = after s before in
     let a = happens w e in
-    let known = known-after replays_follow s before (setups_finish s limits) in
+    let known = known-after s before (setups_finish s limits) in
     let r = subst (λ (v : World). moves_work s.numbers (shown_of v) (moves v es) ≤ 65541 * length es) (after-event (world_of s) before e) (schedule-few s limits (before ++ e ∷ []) es) in
     let one_ = if-few s w a.move limits (worlds_sound s before limits) (happens-preserved w e known.good).fits in
     let split = event_work s w e es known in

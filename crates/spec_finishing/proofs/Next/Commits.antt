@@ -10,7 +10,7 @@ use Rattle.spec_engine.specs.Asking.{ask, ask_serial, denied_by, busy_by}
 use Rattle.spec_engine.proofs.Searches.{full_at}
 use Rattle.spec_play.specs.Transfers.{dma_verdict}
 use Rattle.spec_protocol.specs.declared.reply.Reply.{Reply}
-use Rattle.spec_protocol.specs.machine.Spheres.{other_than, turn_in, turn_against, Cursor, Role, Replay, Sphere, is_stopped, actor_of}
+use Rattle.spec_protocol.specs.machine.Spheres.{other_than, takes_turns, turn_in, turn_against, Cursor, Role, Replay, Sphere, is_stopped, actor_of}
 use Rattle.spec_protocol.specs.machine.Commits.{CommitOutcome, Granted, Piece, Diverged, MovedSphere, is_piece, chunk_moved, serial_moved, dma_by_verdict, dma_in, dma_moved}
 use Rattle.spec_protocol.specs.machine.World.{World, Occupant, Move, EventOutcome, moment, sphere_at, answered}
 use Rattle.spec_protocol.specs.machine.Asking.{CommitRequest, move_at, granted, chunk_request, grant_chunk, serial_request, grant_serial, unless_denied, unless_busy, asks_serial, ask_arbiter, unless_turn, ask_closed, ask_held, asking}
@@ -83,10 +83,17 @@ empty_of h role e =
 own_turn : (k : ℕ) → other_than (Actor.Thread k) (Some (Actor.Thread k)) ≡ None
 own_turn k = ap {A = Bool} (λ b. cond b None (Some (Actor.Thread k))) (eq-eqb k k refl)
 
+-- whether or not it waits for its turn
+free_by : (takes : Bool) (o : Option Actor) → o ≡ None → cond takes o None ≡ None
+free_by true o free = free
+free_by false o free = refl
+
 turn_of_head : (p : Sphere) (b : Cursor) (k : ℕ) → p.role ≡ Replay b → actor_of b.now ≡ Some (Actor.Thread k) → turn_against p (Actor.Thread k) ≡ None
 unfolding turn_against
 turn_of_head p b k role turn =
-    ap (λ (r : Role). turn_in r p (Actor.Thread k)) role ∙ ap (λ (o : Option Actor). other_than (Actor.Thread k) o) turn ∙ own_turn k
+    ap (λ (r : Role). turn_in r p (Actor.Thread k)) role
+    ∙ free_by (takes_turns (Actor.Thread k) (Replay b)) (other_than (Actor.Thread k) (actor_of b.now))
+    (ap (λ (o : Option Actor). other_than (Actor.Thread k) o) turn ∙ own_turn k)
 
 ask_is : (w : World) (c : ℕ) (h : Occupant) (how : How) → at w.cores c ≡ Some h → h.chunk.closed ≡ Some how → is_stopped (sphere_at w h.chunk.sphere).role ≡ false → turn_against (sphere_at w h.chunk.sphere) (Actor.Thread h.thread) ≡ None → is_full w.slots ≡ false
     → asking w c ≡ ask_arbiter w c h how (asks_serial h.chunk (sphere_at w h.chunk.sphere).role)

@@ -5,8 +5,7 @@ use Rattle.std.proofs.Math.ListN.{length-set}
 use Rattle.std.proofs.lemmas.Bool.{and_from, eq-eqb}
 use Rattle.dl_entry.specs.declared.Actor.{Actor}
 use Rattle.spec_isa.specs.declared.thread.Parts.{Parts}
-use Rattle.spec_isa.specs.Runs.{run}
-use Rattle.spec_kernel.specs.Interrupts.{lives, is_live}
+use Rattle.spec_kernel.specs.Interrupts.{is_live}
 use Rattle.spec_engine.specs.Flights.{at, passes, first_slot}
 use Rattle.spec_engine.specs.Chunks.{step, is_open, fresh}
 use Rattle.spec_engine.proofs.Searches.{first_least, first_is}
@@ -19,9 +18,8 @@ use Rattle.spec_protocol.specs.machine.Machine.{Setup}
 use Rattle.spec_protocol.specs.machine.Finishing.{standing}
 use Rattle.spec_protocol.proofs.Memory.Slots.{at-set_same, at-set_other, at_within}
 use Rattle.spec_finishing.specs.Rank.{held_under_way}
-use Rattle.spec_protocol.proofs.Moves.Threads.{run-status}
 use Rattle.spec_finishing.specs.Ending.{furthers_finishing}
-use Rattle.spec_finishing.proofs.Paying.GoingOn.{play_of, has-run, thread-now}
+use Rattle.spec_finishing.proofs.Paying.GoingOn.{thread-live}
 use Rattle.spec_finishing.proofs.Next.Turns.{no-flight, HasActor, turn-of}
 use Rattle.spec_finishing.proofs.Next.UnderWay.{OnCore}
 use Rattle.spec_finishing.proofs.Next.StepRises.{step-rises}
@@ -106,9 +104,8 @@ step-rose s w i k c h none a on found open_ =
 -- the thread is live
 thread_lives : (s : Setup) (w : World) (i k : ℕ) → HasActor s w i (Actor.Thread k) → (t : Parts) × (slice_get (sphere_at w i).threads k ≡ Some t) × (is_live t ≡ true)
 thread_lives s w i k a =
-    let h = has-run a.image a.sphere a.cursor k a.goes (turn-of s w i k a) in
-    let y = play_of a.image a.cursor a.sphere in
-    ((run y.memory h.0 a.cursor.total).thread, ap (λ (p : Sphere). slice_get p.threads k) a.at ∙ thread-now a.image a.sphere a.cursor k h.0 h.1, ap lives (run-status y.memory h.0 a.cursor.total) ∙ h.1.live)
+    let h = thread-live a.image a.sphere a.cursor k a.goes (turn-of s w i k a) in
+    (h.0, ap (λ (p : Sphere). slice_get p.threads k) a.at ∙ h.1, h.2)
 
 -- its chunk, which has run nothing
 abbrev new_held : World → (i k : ℕ) → Parts → Occupant

@@ -18,14 +18,16 @@ use Rattle.spec_protocol.specs.machine.Shown.{flying}
 use Rattle.spec_protocol.specs.promises.Invariants.{Closes, current}
 use Rattle.spec_protocol.specs.promises.Currency.{IsCurrent}
 use Rattle.spec_protocol.specs.machine.Finishing.{SphereTurn, least, standing}
+use Rattle.spec_protocol.proofs.Moves.Joining.{its_turn}
 use Rattle.spec_finishing.specs.Rank.{spheres_rank, potential, held_under_way, core_under_way, actor_under_way, who_under_way, standing_under_way, under_way}
 use Rattle.spec_finishing.proofs.Left.Slots.{one_at_most}
 use Rattle.spec_finishing.proofs.Left.Pricing.{price-least}
 use Rattle.spec_finishing.proofs.Paying.Affording.{Afforded}
 use Rattle.spec_finishing.proofs.Paying.Plays.{paid, afford-paid}
-use Rattle.spec_finishing.proofs.Paying.GoingOn.{has-run, part-afforded}
+use Rattle.spec_finishing.proofs.Paying.NextCommits.{ThreadNext}
+use Rattle.spec_finishing.proofs.Paying.GoingOn.{thread-next, part-afforded}
 use Rattle.spec_finishing.proofs.Left.Rows.{sphere-least}
-use Rattle.spec_finishing.proofs.Paying.Commits.{next_work, behind, rank-before}
+use Rattle.spec_finishing.proofs.Paying.Commits.{rank-left}
 use Rattle.spec_finishing.proofs.Left.AnyAsk.{nothing_flies}
 use Rattle.spec_finishing.proofs.Ending.Knowing.{Known}
 use Rattle.spec_finishing.proofs.Next.Turns.{no-flight, HasActor, has-actor, turn-of}
@@ -47,15 +49,17 @@ chunk_ran s w c h known none is =
     let live : IsCurrent (current w i) h.chunk = (known.good.held c h is).chunk.live (record { misses = λ k f e same untold. absurd (none-some f (sym (no-flight w none k) ∙ e)) }) in
     subst (λ (m : List ℕ). (run m h.chunk.start h.chunk.done.n).n ≡ h.chunk.done.n) (ap (lays (sphere_at w i).memory) empty) (ap (λ (r : Run). r.n) live.runs)
 
-held_affords : (s : Setup) (w : World) (c : ℕ) (h : Occupant) → Known s w → standing w ≡ None → at w.cores c ≡ Some h → (a : HasActor s w h.chunk.sphere (Actor.Thread h.thread)) → Afforded (next_work a.image a.sphere a.cursor) a.cursor.total h.chunk.done.n
+-- the next commit of the thread whose turn it is
+next_of : (s : Setup) (w : World) (i k : ℕ) → (a : HasActor s w i (Actor.Thread k)) → ThreadNext a.image a.sphere a.cursor k
+next_of s w i k a = thread-next a.image a.sphere a.cursor k a.goes (its_turn a.cursor k (turn-of s w i k a))
+
+held_affords : (s : Setup) (w : World) (c : ℕ) (h : Occupant) → Known s w → standing w ≡ None → at w.cores c ≡ Some h → (a : HasActor s w h.chunk.sphere (Actor.Thread h.thread)) → Afforded (next_of s w h.chunk.sphere h.thread a).work a.cursor.total h.chunk.done.n
 held_affords s w c h known none is a =
     let held = known.good.held c h is in
-    let turn = turn-of s w h.chunk.sphere h.thread a in
-    let t = has-run a.image a.sphere a.cursor h.thread a.goes turn in
     let role : (sphere_at w h.chunk.sphere).role ≡ Replay a.cursor = ap (λ (p : Sphere). p.role) a.at ∙ a.role in
     let fits = held.thread.limit (ap is_stopped role ∙ a.going) in
     let limited : h.chunk.limit ≡ limit_of w.numbers.s (Replay a.cursor) h.thread h.chunk.start = fits.replayed (ap replays role) ∙ ap (λ (r : Role). limit_of w.numbers.s r h.thread h.chunk.start) role in
-    part-afforded a.image a.sphere a.cursor h.thread t.0 h.chunk.start w.numbers.s h.chunk.done.n turn t.1
+    part-afforded a.image a.sphere a.cursor h.thread h.chunk.start w.numbers.s h.chunk.done.n (next_of s w h.chunk.sphere h.thread a)
     (sym (ap (λ (p : Sphere). slice_get p.threads h.thread) a.at) ∙ held.thread.start)
     (subst (λ (p : Sphere). (run p.memory h.chunk.start h.chunk.done.n).n ≡ h.chunk.done.n) a.at (chunk_ran s w c h known none is))
     (subst (λ (l : ℕ). h.chunk.done.n ≤ l) limited (closes_most w.numbers.capacity h.chunk h.chunk.closed refl held.chunk.closes))
@@ -64,12 +68,11 @@ held_affords s w c h known none is a =
 held_paid : (s : Setup) (w : World) (c : ℕ) (h : Occupant) → Known s w → standing w ≡ None → at w.cores c ≡ Some h → HasActor s w h.chunk.sphere (Actor.Thread h.thread) → paid s.cores h.chunk.done.n ≤ spheres_rank s.cores s.spheres w.spheres
 held_paid s w c h known none is a =
     let n = h.chunk.done.n in
-    let work = next_work a.image a.sphere a.cursor in
-    let after = behind a.image a.sphere a.cursor in
+    let next = next_of s w h.chunk.sphere h.thread a in
     let afford = held_affords s w c h known none is a in
-    let enough = afford-paid s.cores work a.cursor.total n afford in
-    let before = rank-before s.cores a.image a.sphere a.cursor a.role a.going a.goes in
-    let more = price-least s.cores (work - a.cursor.total) ((work + after) - a.cursor.total) (omega arith) in
+    let enough = afford-paid s.cores next.work a.cursor.total n afford in
+    let before = rank-left s.cores a.image a.sphere a.cursor ((next.work + next.later) - a.cursor.total) a.role next.left in
+    let more = price-least s.cores (next.work - a.cursor.total) ((next.work + next.later) - a.cursor.total) (omega arith) in
     let all = sphere-least s.cores s.spheres w.spheres h.chunk.sphere a.image a.sphere a.starts a.there in
     omega (arith, enough, before, more, all)
 

@@ -1,7 +1,6 @@
 -- What a play's next commit has to do, beside what a replay has run of it: there is enough left to pay for it.
-use Rattle.std.proofs.Common.{◌≡◌, ℕ, zero, suc, ◌+◌, ◌-◌, ◌<◌, ◌≤◌, ◌⊎◌, inl, inr, Bool, cond, List, Option, Some, None, refl, sym, ap, ◌∙◌, subst, arith}
-use Rattle.std.specs.Prelude.{slice_get, max}
-use Rattle.std.proofs.lemmas.Bool.{eq-eqb}
+use Rattle.std.proofs.Common.{◌≡◌, ℕ, zero, suc, ◌+◌, ◌-◌, ◌<◌, ◌≤◌, ◌⊎◌, inl, inr, List, Option, Some, None, refl, sym, ap, ◌∙◌, arith}
+use Rattle.std.specs.Prelude.{max}
 use Rattle.std.proofs.Math.Nat.{max-le, max-eq_right}
 use Rattle.dl_entry.specs.declared.Actor.{Actor}
 use Rattle.spec_isa.specs.declared.thread.Parts.{Parts}
@@ -11,11 +10,10 @@ use Rattle.spec_isa.specs.Runs.{Run, run}
 use Rattle.spec_log.specs.declared.LogParts.{LogParts}
 use Rattle.spec_log.specs.Size.{size_in}
 use Rattle.spec_kernel.specs.Needs.{next_kind}
-use Rattle.spec_play.specs.Turns.{Turn}
 use Rattle.spec_play.specs.Plays.{Played, size_or_standard}
 use Rattle.spec_protocol.specs.machine.Spheres.{whole_limit, pieces_of, limit_of, Cursor, Replay}
 use Rattle.spec_protocol.proofs.Moves.Threads.{run-keeps}
-use Rattle.spec_finishing.specs.Work.{thread_work, turn_work, now_work, commit_work}
+use Rattle.spec_finishing.specs.Work.{thread_work, turn_work}
 use Rattle.spec_finishing.proofs.Paying.Runs.{run-longer, run-joined, run-serial}
 
 -- ---- the limit of a commit, and what its play runs
@@ -70,22 +68,15 @@ afford_thread log y k t total n None next ran more within most =
     afford_chunk y.memory t total n (whole_limit log k t.commits) (size_or_standard log k t.commits) ran more (limit_is log k t.commits) within most
 afford_thread log y k t total n (Some kind) next ran more within most = afford_serial y.memory t total n _ kind next ran more
 
--- thread k, which is t, has the turn
-pub afforded : (log : LogParts) (y : Played) (k : ℕ) (t : Parts) (total n : ℕ) → y.now ≡ Turn k → slice_get y.threads k ≡ Some t → (run y.memory t total).n ≡ total → let r = run y.memory t total in (run (lays y.memory r.words) r.thread n).n ≡ n
-    → total < whole_limit log k t.commits → n ≤ max 1 (whole_limit log k t.commits - total) → Afforded (commit_work log y) total n
-unfolding commit_work
-afforded log y k t total n turn is ran more within most =
-    let e : now_work log y y.now ≡ suc (thread_work log y k t (next_kind t y.memory)) = ap (now_work log y) turn ∙ ap (turn_work log y k) is in
-    subst (λ (work : ℕ). Afforded work total n) (sym e) (afford_thread log y k t total n (next_kind t y.memory) refl ran more within most)
+-- the next commit of thread k, which is t
+pub afforded : (log : LogParts) (y : Played) (k : ℕ) (t : Parts) (total n : ℕ) → (run y.memory t total).n ≡ total → let r = run y.memory t total in (run (lays y.memory r.words) r.thread n).n ≡ n
+    → total < whole_limit log k t.commits → n ≤ max 1 (whole_limit log k t.commits - total) → Afforded (turn_work log y k (Some t)) total n
+afforded log y k t total n ran more within most = afford_thread log y k t total n (next_kind t y.memory) refl ran more within most
 
 -- ---- the limit of a part
 
-pieces_same : (k total : ℕ) → pieces_of (Turn k) k total ≡ total
-pieces_same k total = ap (λ (b : Bool). cond b total 0) (eq-eqb k k refl)
-
 -- the pieces are taken off the commit's limit
-pub part-limit : (s : ℕ) (b : Cursor) (k : ℕ) (m : List ℕ) (t : Parts) → b.now ≡ Turn k → limit_of s (Replay b) k (run m t b.total).thread ≡ max 1 (whole_limit b.log k t.commits - b.total)
+pub part-limit : (s : ℕ) (b : Cursor) (k : ℕ) (m : List ℕ) (t : Parts) → pieces_of b.now k b.total ≡ b.total → limit_of s (Replay b) k (run m t b.total).thread ≡ max 1 (whole_limit b.log k t.commits - b.total)
 unfolding limit_of
-part-limit s b k m t turn =
-    (λ i. max 1 (whole_limit b.log k (run-keeps m t b.total i) - pieces_of (turn i) k b.total))
-    ∙ ap (λ (n : ℕ). max 1 (whole_limit b.log k t.commits - n)) (pieces_same k b.total)
+part-limit s b k m t pieces =
+    (λ i. max 1 (whole_limit b.log k (run-keeps m t b.total i) - pieces i))

@@ -13,10 +13,11 @@ use Rattle.spec_protocol.specs.machine.Asking.{is_short}
 use Rattle.spec_protocol.specs.machine.Machine.{SphereSetup}
 use Rattle.spec_protocol.specs.machine.Serial.{SerialState, laid, do_serial, do_dma, do_raise}
 use Rattle.spec_protocol.specs.machine.Moves.{move_chunk, do_what, FitsChunk, FitsSerial}
+use Rattle.spec_replay.proofs.Replays.Moved.{may-go}
 use Rattle.spec_finishing.specs.Work.{serial_work, dma_work, what_work}
 use Rattle.spec_finishing.specs.Rank.{price, spheres_rank}
 use Rattle.spec_finishing.proofs.Paying.Plays.{paid, words-paid}
-use Rattle.spec_finishing.proofs.Paying.GoingOn.{GoesOn}
+use Rattle.spec_finishing.proofs.Paying.GoingOn.{GoesOn, thread-next}
 use Rattle.spec_finishing.proofs.Ending.KindsKept.{chunk-kind, serial-kind, DmaKind, dma-kind, raised-kind}
 use Rattle.spec_finishing.proofs.Left.Rows.{spheres-pay, sphere-live}
 use Rattle.spec_finishing.proofs.Paying.Commits.{chunk-pays}
@@ -111,7 +112,8 @@ module _ (c : ℕ) (images : List SphereSetup) (x : SerialState) (i : ℕ) (imag
     chunk_paid z k how n limit None positive thread fits = absurd fits
     chunk_paid z k how n limit (Some t) positive thread fits =
         let going : is_over b.now ≡ false = sym (ap is_stopped role) ∙ fits.going in
-        let pays = chunk-pays c image p b role going (goes going) z k t how n limit (is_short z.s how limit) x.devices positive thread fits in
+        let h = thread-next image p b k (goes going) (may-go p b k role fits.going fits.turn) in
+        let pays = chunk-pays c image p b k role h z t how n limit (is_short z.s how limit) x.devices positive thread fits in
         spheres-pay c images x.spheres i image p (laid (chunk_moved k (is_piece how) (is_short z.s how limit) (run p.memory t n) x.devices p)) (paid c n) 0 there is (omega (arith, pays))
 
     -- a serial step of a replay pays for its flight with the work that the play then no longer has left
@@ -121,7 +123,8 @@ module _ (c : ℕ) (images : List SphereSetup) (x : SerialState) (i : ℕ) (imag
     serial_paid k moment (Some t) thread fits =
         let going : is_over b.now ≡ false = sym (ap is_stopped role) ∙ fits.going in
         let v = serial_moved k moment t x.devices p in
-        let pays = serial-pays c image p b k moment t x.devices role going (goes going) thread fits in
+        let h = thread-next image p b k (goes going) (may-go p b k role fits.going fits.turn) in
+        let pays = serial-pays c image p b k moment t x.devices role h thread fits in
         spheres-pay c images x.spheres i image p (laid v) ((length v.words + c + 1) + 3) 0 there is (omega (arith, pays))
 
   -- a DMA of a sphere pays for its flight, in a replay with the work that the play then no longer has left

@@ -1,5 +1,5 @@
 -- What a replay has left of its play, and how a commit or a piece pays for its events.
-use Rattle.std.proofs.Common.{◌≡◌, ℕ, zero, suc, ◌+◌, ◌-◌, ◌<◌, ◌≤◌, inl, inr, Bool, true, false, cond, refl, ap, ◌∙◌, arith}
+use Rattle.std.proofs.Common.{◌≡◌, ℕ, zero, suc, ◌+◌, ◌-◌, ◌<◌, ◌≤◌, inl, inr, Bool, true, false, cond, None, refl, ap, ◌∙◌, arith}
 use Rattle.std.proofs.lemmas.Bool.{cases_lt}
 use Rattle.spec_log.specs.declared.LogParts.{LogParts}
 use Rattle.spec_play.specs.declared.used.Used.{Used}
@@ -10,7 +10,7 @@ use Rattle.spec_protocol.specs.machine.Commits.{between}
 use Rattle.spec_protocol.specs.machine.Machine.{first_played, SphereSetup}
 use Rattle.spec_replay.proofs.Intervals.{commits_of}
 use Rattle.spec_finishing.specs.Work.{commit_work, commits_work}
-use Rattle.spec_finishing.specs.Rank.{play_left, asked_of, replay_left, price}
+use Rattle.spec_finishing.specs.Rank.{play_left, asked_of, left_in, replay_left, price}
 use Rattle.spec_finishing.proofs.Left.Pricing.{price-sum, price-least, price-most}
 use Rattle.spec_finishing.proofs.Paying.Affording.{Afforded, Enough, Lone}
 
@@ -23,36 +23,40 @@ first_of image b = first_played image (asked_of b)
 abbrev pub count_of : Cursor → ℕ
 count_of b = commits_of (asked_of b)
 
+-- what its play has left, and in strata what they have
+abbrev pub has_left : SphereSetup → Cursor → (commits : ℕ) → ℕ
+has_left image b i = left_in b.log (first_of image b) (count_of b) i b.strata b.total
+
 -- a replay that is over has nothing left
 pub left-over : (image : SphereSetup) (b : Cursor) (i : ℕ) → is_over b.now ≡ true → replay_left image b i ≡ 0
 unfolding replay_left
-left-over image b i e = ap {A = Bool} (λ o. cond o 0 (play_left b.log (first_of image b) (count_of b) i b.total)) e
+left-over image b i e = ap {A = Bool} (λ o. cond o 0 (has_left image b i)) e
 
 -- a replay that goes on has left what its play has, except for the pieces that are done
-pub left-going : (image : SphereSetup) (b : Cursor) (i : ℕ) → is_over b.now ≡ false → replay_left image b i ≡ play_left b.log (first_of image b) (count_of b) i b.total
+pub left-going : (image : SphereSetup) (b : Cursor) (i : ℕ) → is_over b.now ≡ false → replay_left image b i ≡ has_left image b i
 unfolding replay_left
-left-going image b i e = ap {A = Bool} (λ o. cond o 0 (play_left b.log (first_of image b) (count_of b) i b.total)) e
+left-going image b i e = ap {A = Bool} (λ o. cond o 0 (has_left image b i)) e
 
 less_or_none : (o : Bool) (n : ℕ) → cond o 0 n ≤ n
 less_or_none true n = omega arith
 less_or_none false n = omega arith
 
 -- a replay has no more left than its play
-pub left-most : (image : SphereSetup) (b : Cursor) (i : ℕ) → replay_left image b i ≤ play_left b.log (first_of image b) (count_of b) i b.total
+pub left-most : (image : SphereSetup) (b : Cursor) (i : ℕ) → replay_left image b i ≤ has_left image b i
 unfolding replay_left
-left-most image b i = less_or_none (is_over b.now) (play_left b.log (first_of image b) (count_of b) i b.total)
+left-most image b i = less_or_none (is_over b.now) (has_left image b i)
 
 -- the work of that many commits is that of the first ones and of those after them
-work_split : (log : LogParts) (x : Played) (i m n : ℕ) → commits_work log x i (m + n) ≡ commits_work log x i m + commits_work log x (m + i) n
-work_split log x i zero n =
+pub work-split : (log : LogParts) (x : Played) (i m n : ℕ) → commits_work log x i (m + n) ≡ commits_work log x i m + commits_work log x (m + i) n
+work-split log x i zero n =
     let few : 0 + n ≡ n = omega arith in
     let here : 0 + i ≡ i = omega arith in
     let a = ap (commits_work log x i) few in
     let b = ap (λ (j : ℕ). commits_work log x j n) here in
     let none : commits_work log x i 0 ≡ 0 = refl in
     omega (arith, a, b, none)
-work_split log x i (suc m) n =
-    let h = work_split log x (suc i) m n in
+work-split log x i (suc m) n =
+    let h = work-split log x (suc i) m n in
     let few : suc m + n ≡ suc (m + n) = omega arith in
     let e : m + suc i ≡ suc m + i = omega arith in
     let a = ap (commits_work log x i) few in
@@ -60,12 +64,12 @@ work_split log x i (suc m) n =
     omega (arith, h, a, b)
 
 -- what n commits of a play have left is the work of those after the ones that are done, except for the pieces that are done
-left-behind : (log : LogParts) (x : Played) (n i total : ℕ) → play_left log x n i total ≡ commits_work log x i (n - i) - total
+pub left-behind : (log : LogParts) (x : Played) (n i total : ℕ) → play_left log x n i total ≡ commits_work log x i (n - i) - total
 left-behind log x n i total =
     let behind : commits_work log x 0 n - commits_work log x 0 i ≡ commits_work log x i (n - i) =
     elim (cases_lt i n) [
       | inl before ↦ (
-          let split = work_split log x 0 i (n - i) in
+          let split = work-split log x 0 i (n - i) in
           let all : i + (n - i) ≡ n = omega arith in
           let here : i + 0 ≡ i = omega arith in
           let whole = ap (commits_work log x 0) all in
@@ -73,7 +77,7 @@ left-behind log x n i total =
           omega (arith, split, whole, from)
           )
       | inr past ↦ (
-          let split = work_split log x 0 n (i - n) in
+          let split = work-split log x 0 n (i - n) in
           let all : n + (i - n) ≡ i = omega arith in
           let over : n - i ≡ 0 = omega arith in
           let whole = ap (commits_work log x 0) all in
@@ -95,9 +99,9 @@ left-step log x n i total l =
     left-behind log x n i total ∙ ap (λ (m : ℕ). commits_work log x i m - total) e
 
 -- after a whole commit a replay has no more left than its play has from the next one on
-pub left-turned : (image : SphereSetup) (b : Cursor) (commits : ℕ) (u : Used) (now : TurnOrEnd) (i : ℕ) → replay_left image (between b.log b.interval commits u now) (suc i) ≤ later b.log (first_of image b) (count_of b) i
+pub left-turned : (image : SphereSetup) (b : Cursor) (commits : ℕ) (u : Used) (now : TurnOrEnd) (i : ℕ) → replay_left image (between b.log b.interval None commits u now) (suc i) ≤ later b.log (first_of image b) (count_of b) i
 left-turned image b commits u now i =
-    let most = left-most image (between b.log b.interval commits u now) (suc i) in
+    let most = left-most image (between b.log b.interval None commits u now) (suc i) in
     let left = left-behind b.log (first_of image b) (count_of b) (suc i) 0 in
     omega (arith, most, left)
 

@@ -11,9 +11,10 @@ use Rattle.spec_protocol.specs.machine.World.{Numbers, MoveKind, OfChunk, OfSeri
 use Rattle.spec_protocol.specs.machine.Machine.{SphereSetup, Setup}
 use Rattle.spec_protocol.specs.machine.Serial.{SerialState}
 use Rattle.spec_protocol.specs.machine.Moves.{do_what, do_at, do_move, FitsWhat, FitsAt, Fits}
+use Rattle.spec_replay.proofs.Replays.Moved.{turn_of_dma}
 use Rattle.spec_finishing.specs.Work.{what_work, role_work, sphere_work, move_work}
 use Rattle.spec_finishing.specs.Rank.{price, spheres_rank}
-use Rattle.spec_finishing.proofs.Paying.GoingOn.{GoesOn}
+use Rattle.spec_finishing.proofs.Paying.GoingOn.{GoesOn, dma-next}
 use Rattle.spec_finishing.proofs.Paying.Serial.{dma-pays}
 use Rattle.spec_finishing.proofs.Paying.Moves.{what_most, sphere_most, move_most, what_more, what_own, chunk_paid, serial_paid, dma_paid}
 use Rattle.spec_protocol.proofs.Replays.Pieces.{no_raise}
@@ -35,7 +36,7 @@ what_paid c images z x moment i image p b (OfChunk k how n limit) positive there
 what_paid c images z x moment i image p b (OfSerial k) positive there is role goes fits = serial_paid c images x i image p there is b role goes k moment (slice_get p.threads k) refl fits
 what_paid c images z x moment i image p b OfDma positive there is role goes fits =
     let going : is_over b.now ≡ false = sym (ap is_stopped role) ∙ fits.going in
-    dma_paid c images x i image p there is (dma_moved x.devices p) (dma-pays c image p b x.devices role going (goes going) fits) (not_none (dma_moved x.devices p) fits.moves)
+    dma_paid c images x i image p there is (dma_moved x.devices p) (dma-pays c image p b x.devices role (dma-next image p b (goes going) (turn_of_dma p b role fits.going fits.turn))) (not_none (dma_moved x.devices p) fits.moves)
 what_paid c images z x moment i image p b (OfRaise k value) positive there is role goes fits = absurd (no_raise p b (slice_get p.threads k) role fits)
 
 -- ---- in any sphere

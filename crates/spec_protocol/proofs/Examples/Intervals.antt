@@ -55,6 +55,7 @@ from_to sizes first last =
         sizes = Sizes.Each sizes;
       };
       interval = Some (record { first = first; last = last });
+      strata = None;
     })
 
 -- as they are

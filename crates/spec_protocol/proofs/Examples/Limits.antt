@@ -1,13 +1,13 @@
 -- The limits can be met: by a setup with a sphere of each role.
-use Rattle.std.proofs.Common.{◌≡◌, ℕ, zero, suc, inl, inr, [], ◌∷◌, length, replicate, None, Some, refl, subst, arith}
+use Rattle.std.proofs.Common.{◌≡◌, ℕ, zero, suc, inl, inr, [], ◌∷◌, length, replicate, None, Some, refl, sym, ap, subst, arith}
 use Rattle.std.specs.Prelude.{slice_get, slice_index}
 use Rattle.std.proofs.lemmas.Option.{none-some}
 use Rattle.std.proofs.lemmas.List.{length-replicate}
 use Rattle.spec_log.specs.declared.ModeName.{ModeName}
 use Rattle.spec_log.specs.Log.{IsSection, IsLog}
 use Rattle.spec_play.specs.Recording.{new_log}
-use Rattle.spec_protocol.specs.machine.Machine.{all_of, RoleSetup, IsPlain, IsRecorded, IsReplayed, SphereSetup, Setup}
-use Rattle.spec_protocol.specs.promises.Sound.{IsRole, IsImage, IsWithinLimits}
+use Rattle.spec_protocol.specs.machine.Machine.{ReplaySetup, all_of, RoleSetup, IsPlain, IsRecorded, IsReplayed, SphereSetup, Setup}
+use Rattle.spec_protocol.specs.promises.Sound.{AreReplayableIf, IsRole, IsImage, IsWithinLimits}
 
 abbrev with_role : RoleSetup → SphereSetup
 with_role role = record { memory = replicate 4096 0; entry = 0; role = role }
@@ -44,8 +44,8 @@ empty_log =
       dmas = none _ _;
     }
 
-image : (role : RoleSetup) → IsRole 16 role → IsImage 16 (with_role role)
-image role is =
+image : (role : RoleSetup) → IsRole 16 role → ((asked : ReplaySetup) → role ≡ IsReplayed asked → asked.strata ≡ None) → IsImage 16 (with_role role)
+image role is order =
     let z : ℕ = 0 in
     let n : length (replicate 4096 z) ≡ 4096 = length-replicate 4096 z in
     record {
@@ -56,15 +56,16 @@ image role is =
       aligned = refl;
       inside = omega (arith, n);
       role = is;
+      strata = λ asked e. subst (AreReplayableIf (with_role role).memory (with_role role).entry asked) (sym (order asked e)) tt;
     }
 
 image_is : (i : ℕ) (x : SphereSetup) → slice_get least.spheres i ≡ Some x → IsImage 16 x
-image_is zero x e = subst (IsImage 16) (let q : with_role IsPlain ≡ x = cc in q) (image IsPlain tt)
+image_is zero x e = subst (IsImage 16) (let q : with_role IsPlain ≡ x = cc in q) (image IsPlain tt (λ asked e. cc))
 image_is (suc zero) x e =
-    subst (IsImage 16) (let q : with_role (IsRecorded (record { version = 2; mode = ModeName.Picolog; epochs = None })) ≡ x = cc in q) (image (IsRecorded (record { version = 2; mode = ModeName.Picolog; epochs = None })) (inr (refl, inr refl), (omega arith, omega arith), tt))
+    subst (IsImage 16) (let q : with_role (IsRecorded (record { version = 2; mode = ModeName.Picolog; epochs = None })) ≡ x = cc in q) (image (IsRecorded (record { version = 2; mode = ModeName.Picolog; epochs = None })) (inr (refl, inr refl), (omega arith, omega arith), tt) (λ asked e. cc))
 image_is (suc (suc zero)) x e =
     let r = IsReplayed (all_of (new_log 1 ModeName.OrderSize 16)) in
-    subst (IsImage 16) (let q : with_role r ≡ x = cc in q) (image r (empty_log, tt))
+    subst (IsImage 16) (let q : with_role r ≡ x = cc in q) (image r (empty_log, tt) (λ asked e. (let q : all_of (new_log 1 ModeName.OrderSize 16) ≡ asked = cc in ap (λ (x : ReplaySetup). x.strata) (sym q))))
 image_is (suc (suc (suc i))) x e = absurd (none-some x e)
 
 within_limits : IsWithinLimits least

@@ -50,7 +50,7 @@ abbrev call_log : (version : ℕ) → LogParts
 call_log version = record (new_log version ModeName.OrderOnly 100) { count = 1; order = Actor.Thread 0 ∷ [] }
 
 abbrev replay_of : LogParts → Role
-replay_of log = Replay (record { log = log; interval = None; used = nothing_used; now = Turn 0; total = 0; loads = [] })
+replay_of log = Replay (record { log = log; interval = None; strata = None; used = nothing_used; now = Turn 0; total = 0; loads = [] })
 
 pub record AreSpawned : Type 0 where
   pub plain : threads_after Plain ≡ 15

@@ -18,9 +18,10 @@ use Rattle.spec_play.specs.Verdicts.{LogVerdict, Goes, Fails, chunk_verdict, ser
 use Rattle.spec_play.specs.Transfers.{DmaVerdict, DmaGoes, DmaFails, dma_verdict}
 use Rattle.spec_play.specs.Progress.{Progress, last_thread, with_effect, with_dma}
 use Rattle.spec_play.proofs.Lasts.{IsOf, last-effect, last-dma, chunk-of, serial-of}
+use Rattle.spec_strata.specs.Standing.{Standing, after_thread, after_dma}
 use Rattle.spec_engine.specs.declared.answers.How.{How}
 use Rattle.spec_protocol.specs.machine.Spheres.{Cursor, Role, Plain, Record, Replay, Sphere, no_sphere}
-use Rattle.spec_protocol.specs.machine.Commits.{MovedSphere, by_verdict, joined, replayed_chunk, chunk_in, chunk_moved, is_piece, serial_in, serial_moved, live_dma, dma_log, dma_by_verdict, dma_in, dma_moved, raised}
+use Rattle.spec_protocol.specs.machine.Commits.{MovedSphere, with_commit, by_verdict, joined, replayed_chunk, chunk_in, chunk_moved, is_piece, serial_in, serial_moved, live_dma, dma_log, dma_by_verdict, dma_in, dma_moved, role_raised, raised}
 use Rattle.spec_protocol.specs.machine.World.{Numbers, World, Move, MoveKind, OfChunk, OfSerial, OfDma, OfRaise, sphere_at}
 use Rattle.spec_protocol.specs.machine.Asking.{is_short}
 use Rattle.spec_protocol.specs.machine.Machine.{RoleSetup, IsPlain, IsRecorded, IsReplayed, SphereSetup, Setup, sphere_as, sphere_of, world_of, moves}
@@ -28,10 +29,11 @@ use Rattle.spec_protocol.specs.machine.Serial.{SerialState, serial_start, laid, 
 use Rattle.spec_protocol.specs.machine.Shown.{shown, shown_of}
 use Rattle.spec_protocol.specs.machine.Moves.{move_chunk, do_what, do_at, do_move, do_moves}
 use Rattle.spec_protocol.specs.promises.Promises.{after}
-use Rattle.spec_protocol.specs.promises.Lasts.{IsLastSince, last_before, SpheresKeepLasts}
+use Rattle.spec_protocol.specs.promises.Lasts.{IsInOrder, IsLastSince, last_before, SpheresKeepLasts}
 use Rattle.spec_protocol.proofs.Invariants.Preserved.{shown-get}
 use Rattle.spec_protocol.proofs.Moves.Granted.{get-set_other, get-set_same}
 use Rattle.spec_protocol.proofs.Invariants.Schedules.{moves_are}
+use Rattle.spec_protocol.proofs.Moves.Joining.{none-mapped}
 
 -- ---- one more commit
 
@@ -44,57 +46,75 @@ last_dma a p last =
 
 -- ---- one move in its sphere
 
-verdict_last : (a : Option ℕ) (b : Cursor) (k : ℕ) (v : LogVerdict) (devices : Devices) (p : Sphere) → IsOf k v → IsLastSince a p.progress → IsLastSince a (by_verdict b k v devices p).sphere.progress
-verdict_last a b k (Goes e u) devices p is last = last_effect a k e p.progress is
-verdict_last a b k (Fails why) devices p is last = last
+-- if the role is in order, so it is with the progress
+abbrev IsLastIf : Option ℕ → Role → Progress → Type 0
+IsLastIf a role p = IsInOrder role → IsLastSince a p
 
-replayed_last : (a : Option ℕ) (piece : Bool) (b : Cursor) (k : ℕ) (r : Run) (devices : Devices) (p : Sphere) → IsLastSince a p.progress → IsLastSince a (replayed_chunk piece b k r devices p).sphere.progress
+verdict_last : (a : Option ℕ) (b : Cursor) (k : ℕ) (v : LogVerdict) (devices : Devices) (p : Sphere) → IsOf k v → IsLastIf a (Replay b) p.progress
+    → let q = (by_verdict b k v devices p).sphere in IsLastIf a q.role q.progress
+verdict_last a b k (Goes e u) devices p is last order =
+    let none = none-mapped (after_thread k) b.strata order in
+    subst (λ (o : Option Standing). IsLastSince a (with_commit o k e p.progress)) (sym none) (last_effect a k e p.progress is)
+verdict_last a b k (Fails why) devices p is last order = last order
+
+replayed_last : (a : Option ℕ) (piece : Bool) (b : Cursor) (k : ℕ) (r : Run) (devices : Devices) (p : Sphere) → IsLastIf a (Replay b) p.progress
+    → let q = (replayed_chunk piece b k r devices p).sphere in IsLastIf a q.role q.progress
 replayed_last a true b k r devices p last = last
 replayed_last a false b k r devices p last = verdict_last a b k (chunk_verdict b.log p.progress b.used k (joined b r)) devices p (chunk-of b.log p.progress b.used k (joined b r)) last
 
-chunk_last : (a : Option ℕ) (role : Role) (k : ℕ) (piece short : Bool) (r : Run) (devices : Devices) (p : Sphere) → IsLastSince a p.progress → IsLastSince a (chunk_in role k piece short r devices p).sphere.progress
-chunk_last a Plain k piece short r devices p last = last_effect a k (chunk_effect k p.progress.request r) p.progress refl
-chunk_last a (Record recording) k piece short r devices p last = last_effect a k (chunk_effect k p.progress.request r) p.progress refl
-chunk_last a (Replay b) k piece short r devices p last = replayed_last a piece b k r devices p last
+chunk_last : (a : Option ℕ) (role : Role) (k : ℕ) (piece short : Bool) (r : Run) (devices : Devices) (p : Sphere) → IsLastIf a role p.progress
+    → let q = (chunk_in role k piece short r devices p).sphere in IsLastIf a q.role q.progress
+chunk_last a Plain k piece short r devices p last order = last_effect a k (chunk_effect k p.progress.request r) p.progress refl
+chunk_last a (Record recording) k piece short r devices p last order = last_effect a k (chunk_effect k p.progress.request r) p.progress refl
+chunk_last a (Replay b) k piece short r devices p last order = replayed_last a piece b k r devices p last order
 
 -- what the devices' answer leaves of a serial step
 abbrev served_effect : (most thread moment : ℕ) → Parts → Devices → Sphere → Effect
 served_effect most k moment t devices p =
     serial_effect k (serve most k p.threads p.progress.request t p.memory (taken (need t p.memory) devices moment).input)
 
-serial_last : (a : Option ℕ) (role : Role) (k moment : ℕ) (t : Parts) (devices : Devices) (p : Sphere) → IsLastSince a p.progress → IsLastSince a (serial_in role k moment t devices p).sphere.progress
-serial_last a Plain k moment t devices p last = last_effect a k (served_effect plain_threads k moment t devices p) p.progress refl
-serial_last a (Record recording) k moment t devices p last = last_effect a k (served_effect recording.log.threads k moment t devices p) p.progress refl
-serial_last a (Replay b) k moment t devices p last = verdict_last a b k (serial_verdict b.log p.progress b.used k p.threads t p.memory) devices p (serial-of b.log p.progress b.used k p.threads t p.memory) last
+serial_last : (a : Option ℕ) (role : Role) (k moment : ℕ) (t : Parts) (devices : Devices) (p : Sphere) → IsLastIf a role p.progress
+    → let q = (serial_in role k moment t devices p).sphere in IsLastIf a q.role q.progress
+serial_last a Plain k moment t devices p last order = last_effect a k (served_effect plain_threads k moment t devices p) p.progress refl
+serial_last a (Record recording) k moment t devices p last order = last_effect a k (served_effect recording.log.threads k moment t devices p) p.progress refl
+serial_last a (Replay b) k moment t devices p last order =
+    verdict_last a b k (serial_verdict b.log p.progress b.used k p.threads t p.memory) devices p (serial-of b.log p.progress b.used k p.threads t p.memory) last order
 
 -- after a DMA, if there is one
 abbrev LastIf : Option ℕ → Option MovedSphere → Type 0
 LastIf a None = Unit {0}
-LastIf a (Some v) = IsLastSince a v.sphere.progress
+LastIf a (Some v) = IsLastIf a v.sphere.role v.sphere.progress
 
-live_last : (a : Option ℕ) (role : Role) (devices : Devices) (p : Sphere) (o : Option Request) → IsLastSince a p.progress → LastIf a (live_dma role devices p o)
+live_last : (a : Option ℕ) (role : Role) (devices : Devices) (p : Sphere) (o : Option Request) → IsLastIf a role p.progress → LastIf a (live_dma role devices p o)
 live_last a role devices p None last = tt
-live_last a role devices p (Some request) last = last_dma a p.progress last
+live_last a role devices p (Some request) last = λ order. last_dma a p.progress (last order)
 
-dma_verdict_last : (a : Option ℕ) (b : Cursor) (v : DmaVerdict) (devices : Devices) (p : Sphere) → IsLastSince a p.progress → IsLastSince a (dma_by_verdict b v devices p).sphere.progress
-dma_verdict_last a b (DmaGoes words) devices p last = last_dma a p.progress last
-dma_verdict_last a b (DmaFails why) devices p last = last
+dma_verdict_last : (a : Option ℕ) (b : Cursor) (v : DmaVerdict) (devices : Devices) (p : Sphere) → IsLastIf a (Replay b) p.progress
+    → let q = (dma_by_verdict b v devices p).sphere in IsLastIf a q.role q.progress
+dma_verdict_last a b (DmaGoes words) devices p last order = last_dma a p.progress (last (none-mapped after_dma b.strata order))
+dma_verdict_last a b (DmaFails why) devices p last order = last order
 
-dma_last : (a : Option ℕ) (role : Role) (devices : Devices) (p : Sphere) → IsLastSince a p.progress → LastIf a (dma_in role devices p)
+dma_last : (a : Option ℕ) (role : Role) (devices : Devices) (p : Sphere) → IsLastIf a role p.progress → LastIf a (dma_in role devices p)
 dma_last a Plain devices p last = live_last a Plain devices p p.progress.request last
 dma_last a (Record recording) devices p last = live_last a (Record (record recording { log = dma_log recording.log devices p p.progress.request })) devices p p.progress.request last
 dma_last a (Replay b) devices p last = dma_verdict_last a b (dma_verdict b.log p.progress b.used) devices p last
 
+-- an interrupt leaves the role in order or not
+raised_order : (k commits value : ℕ) (role : Role) → IsInOrder (role_raised k commits value role) → IsInOrder role
+raised_order k commits value Plain order = tt
+raised_order k commits value (Record recording) order = tt
+raised_order k commits value (Replay b) order = order
+
 -- ---- all spheres
 
 abbrev AreLast : (before : ℕ → Option ℕ) → List Sphere → Type 0
-AreLast before ps = (i : ℕ) (p : Sphere) → slice_get ps i ≡ Some p → IsLastSince (before i) p.progress
+AreLast before ps = (i : ℕ) (p : Sphere) → slice_get ps i ≡ Some p → IsLastIf (before i) p.role p.progress
 
-set_last : (before : ℕ → Option ℕ) (ps : List Sphere) (i : ℕ) (p q : Sphere) → slice_get ps i ≡ Some p → AreLast before ps → IsLastSince (before i) q.progress → AreLast before (set ps i q)
+set_last : (before : ℕ → Option ℕ) (ps : List Sphere) (i : ℕ) (p q : Sphere) → slice_get ps i ≡ Some p → AreLast before ps → IsLastIf (before i) q.role q.progress → AreLast before (set ps i q)
 set_last before ps i p q is all last j r there = elim (cases_eq j i) [
   | inl e ↦ (
       let same : q ≡ r = (let h : Some q ≡ Some r = sym (get-set_same ps i q p is) ∙ ap (slice_get (set ps i q)) (sym e) ∙ there in cc) in
-      subst (λ (n : ℕ). IsLastSince (before n) r.progress) (sym e) (subst (λ (x : Sphere). IsLastSince (before i) x.progress) same last)
+      subst (λ (n : ℕ). IsLastIf (before n) r.role r.progress) (sym e) (subst (λ (x : Sphere). IsLastIf (before i) x.role x.progress) same last)
       )
   | inr ne ↦ all j r (sym (get-set_other ps i j q ne) ∙ there)
 ]
@@ -117,7 +137,7 @@ dma_all before x i p (Some v) is all last = set_last before x.spheres i p (laid 
 raise_all : (before : ℕ → Option ℕ) (x : SerialState) (i k value : ℕ) (p : Sphere) (o : Option Parts) → slice_get x.spheres i ≡ Some p → AreLast before x.spheres → AreLast before (do_raise x i k value p o).spheres
 unfolding raised
 raise_all before x i k value p None is all = all
-raise_all before x i k value p (Some t) is all = set_last before x.spheres i p (raised k value t p) is all (all i p is)
+raise_all before x i k value p (Some t) is all = set_last before x.spheres i p (raised k value t p) is all (λ order. all i p is (raised_order k t.commits value p.role order))
 
 what_all : (before : ℕ → Option ℕ) (z : Numbers) (x : SerialState) (moment i : ℕ) (p : Sphere) (what : MoveKind) → slice_get x.spheres i ≡ Some p → AreLast before x.spheres → AreLast before (do_what z x moment i p what).spheres
 unfolding dma_moved
@@ -141,15 +161,15 @@ moves_all before z x (m ∷ ms) all = moves_all before z (do_move z x m) ms (at_
 abbrev before_in : Setup → (i : ℕ) → Option ℕ
 before_in s i = elim (slice_get s.spheres i) [ None ↦ None | Some image ↦ last_before s.numbers.s image ]
 
-as_last : (z : ℕ) (image : SphereSetup) (r : RoleSetup) → let p = (sphere_as z image r).progress in IsLastSince p.last p
-as_last z image IsPlain = refl
-as_last z image (IsRecorded asked) = refl
-as_last z image (IsReplayed asked) = refl
+as_last : (z : ℕ) (image : SphereSetup) (r : RoleSetup) → let p = sphere_as z image r in IsLastIf p.progress.last p.role p.progress
+as_last z image IsPlain order = refl
+as_last z image (IsRecorded asked) order = refl
+as_last z image (IsReplayed asked) order = refl
 
-first_last : (z : ℕ) (o : Option SphereSetup) (p : Sphere) → option_map (sphere_of z) o ≡ Some p → IsLastSince (elim o [ None ↦ None | Some image ↦ last_before z image ]) p.progress
+first_last : (z : ℕ) (o : Option SphereSetup) (p : Sphere) → option_map (sphere_of z) o ≡ Some p → IsLastIf (elim o [ None ↦ None | Some image ↦ last_before z image ]) p.role p.progress
 first_last z None p e = absurd (none-some p e)
 first_last z (Some image) p e =
-    subst (λ (q : Sphere). IsLastSince (last_before z image) q.progress) (let h : sphere_of z image ≡ p = cc in h) (as_last z image image.role)
+    subst (λ (q : Sphere). IsLastIf (last_before z image) q.role q.progress) (let h : sphere_of z image ≡ p = cc in h) (as_last z image image.role)
 
 start_all : (s : Setup) → AreLast (before_in s) (serial_start s).spheres
 start_all s i p e = first_last s.numbers.s (slice_get s.spheres i) p (sym (slice_get-map (sphere_of s.numbers.s) s.spheres i) ∙ e)
@@ -157,7 +177,7 @@ start_all s i p e = first_last s.numbers.s (slice_get s.spheres i) p (sym (slice
 -- the thread that committed last is the last one among the sphere's commits, or before them, after every schedule
 pub spheres_keep_lasts : SpheresKeepLasts
 unfolding shown
-spheres_keep_lasts s es i image p is start there =
+spheres_keep_lasts s es i image p is start there order =
     let w : World = after s es in
     let l : i < length w.spheres = slice_get_within w.spheres i p there in
     let same : sphere_at w i ≡ p = get_or_from_slice_get w.spheres i p no_sphere there in
@@ -168,4 +188,4 @@ spheres_keep_lasts s es i image p is start there =
     let before : before_in s i ≡ last_before s.numbers.s image =
     ap (λ (o : Option SphereSetup). elim o as (λ (x : Option SphereSetup). Option ℕ) [ None ↦ None | Some x ↦ last_before s.numbers.s x ]) start in
     subst (λ (a : Option ℕ). IsLastSince a p.progress) before
-    (subst (λ (q : Sphere). IsLastSince (before_in s i) q.progress) same (all i (shown w.slots i (sphere_at w i)) (shown-get w.slots i w.spheres l)))
+    (subst (λ (q : Sphere). IsLastIf (before_in s i) q.role q.progress) same (all i (shown w.slots i (sphere_at w i)) (shown-get w.slots i w.spheres l)) order)

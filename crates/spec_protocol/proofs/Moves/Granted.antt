@@ -29,9 +29,11 @@ use Rattle.spec_play.specs.declared.used.Used.{Used}
 use Rattle.spec_play.specs.Turns.{TurnOrEnd, Turn, TurnOfDma, Ended}
 use Rattle.spec_play.specs.Verdicts.{LogVerdict, Goes, Fails, unless, interrupt_at, with_interrupted, chunk_why, chunk_verdict, TakenRecord, given, serial_why, served_verdict, serial_verdict}
 use Rattle.spec_play.specs.Plays.{with_threads}
-use Rattle.spec_protocol.specs.machine.Spheres.{other_than, turn_in, Cursor, Role, Plain, Record, Replay, Sphere, is_over, is_stopped, actor_of, whole_limit, pieces_of, limit_in, limit_of, halves, limit_after_in, limit_after}
-use Rattle.spec_protocol.specs.machine.Commits.{CommitOutcome, Granted, Piece, Diverged, MovedSphere, granted_as, by_verdict, joined, piece_moved, replayed_chunk, chunk_in, chunk_moved, serial_in, serial_moved, serial_noted}
+use Rattle.spec_strata.specs.Standing.{Standing}
+use Rattle.spec_protocol.specs.machine.Spheres.{turn_in, Cursor, Role, Plain, Record, Replay, Sphere, is_stopped, whole_limit, pieces_of, limit_in, limit_of, halves, limit_after_in, limit_after}
+use Rattle.spec_protocol.specs.machine.Commits.{CommitOutcome, Granted, Piece, Diverged, MovedSphere, granted_as, granted_in, by_verdict, joined, piece_moved, replayed_chunk, chunk_in, chunk_moved, serial_in, serial_moved, serial_noted}
 use Rattle.spec_protocol.specs.machine.Placing.{replays}
+use Rattle.spec_protocol.proofs.Moves.Joining.{pieces_none, pieces_other, MayGo, may_go, no_others}
 use Rattle.spec_kernel.specs.Answers.{taken}
 
 -- ---- threads
@@ -55,34 +57,6 @@ pub get-append : {A : Type 0} (xs ys : List A) (j : ℕ) (x : A) → slice_get x
 get-append [] ys j x e = absurd (none-some x e)
 get-append (y ∷ xs) ys zero x e = e
 get-append (y ∷ xs) ys (suc j) x e = get-append xs ys j x e
-
--- ---- limits
-
-abbrev pieces_if : Bool → ℕ → ℕ
-pieces_if b n = cond b n 0
-
-either_none : (b : Bool) → pieces_if b 0 ≡ 0
-either_none true = refl
-either_none false = refl
-
--- where no piece was done there is none of any thread
-pub pieces_none : (now : TurnOrEnd) (j : ℕ) → pieces_of now j 0 ≡ 0
-pieces_none (Turn k) j = either_none (eqb k j)
-pieces_none TurnOfDma j = refl
-pieces_none (Ended how) j = refl
-
-pieces_other : (k j total : ℕ) → j ≢ k → pieces_of (Turn k) j total ≡ 0
-pieces_other k j total ne = ap (λ (b : Bool). pieces_if b total) (ne_eqb k j (λ e. ne (sym e)))
-
--- the thread has the turn in a replay that hasn't stopped
-pub turn-is : (now : TurnOrEnd) (k : ℕ) → is_over now ≡ false → other_than (Actor.Thread k) (actor_of now) ≡ None → now ≡ Turn k
-turn-is (Turn j) k going e =
-    ap Turn (eqb-true j k (elim (eqb j k) as (λ b. cond b None (Some (Actor.Thread j)) ≡ None → b ≡ true) [
-      | true ↦ λ h. refl
-      | false ↦ λ h. absurd (none-some (Actor.Thread j) (sym h))
-    ] e))
-turn-is TurnOfDma k going e = absurd (none-some Actor.Dma (sym e))
-turn-is (Ended how) k going e = absurd (true≢false going)
 
 -- ---- what a commit of thread k keeps of its sphere
 
@@ -114,7 +88,7 @@ pub record HasTurn (k : ℕ) (role : Role) (p : Sphere) : Type 0 where
 threads_kept : (k : ℕ) (e : Effect) (ts : List Parts) (j : ℕ) (t : Parts) → j ≢ k → slice_get ts j ≡ Some t → slice_get (with_threads k e ts) j ≡ Some t
 threads_kept k e ts j t ne is = get-append (slice_set ts k e.thread) e.spawned j t (get-set_other ts k j e.thread ne ∙ is)
 
-verdict_moves : (k : ℕ) (b : Cursor) (verdict : LogVerdict) (devices : Devices) (p : Sphere) → p.role ≡ Replay b → b.now ≡ Turn k → ((e : Effect) (u : Used) → verdict ≡ Goes e u → Apart e.words) → MovesOnly k devices p (by_verdict b k verdict devices p)
+verdict_moves : (k : ℕ) (b : Cursor) (verdict : LogVerdict) (devices : Devices) (p : Sphere) → p.role ≡ Replay b → MayGo b k → ((e : Effect) (u : Used) → verdict ≡ Goes e u → Apart e.words) → MovesOnly k devices p (by_verdict b k verdict devices p)
 unfolding limit_of limit_after
 verdict_moves k b (Fails why) devices p is turn apart =
     record {
@@ -137,7 +111,7 @@ verdict_moves k b (Goes e u) devices p is turn apart =
         halving = ap halves (sym is);
         replaying = ap replays (sym is);
         limits = λ s j t ne going.
-            ap (λ (n : ℕ). max 1 (whole_limit b.log j t.commits - n)) (pieces_none _ j ∙ sym (ap (λ (now : TurnOrEnd). pieces_of now j b.total) turn ∙ pieces_other k j b.total ne))
+            ap (λ (n : ℕ). max 1 (whole_limit b.log j t.commits - n)) (pieces_none _ j ∙ sym (no_others b k j turn ne))
             ∙ ap (λ (r : Role). limit_in r s j t.commits) (sym is);
         after = λ s j t. ap (λ (q : Role). limit_after_in q s j t.commits) (sym is);
       };
@@ -183,7 +157,7 @@ granted_moves k role e ds devices p halving replaying limits after apart =
       divergence = tt;
     }
 
-piece_moves : (k : ℕ) (b : Cursor) (r : Run) (devices : Devices) (p : Sphere) → p.role ≡ Replay b → b.now ≡ Turn k → Apart r.words → MovesOnly k devices p (piece_moved b k r devices p)
+piece_moves : (k : ℕ) (b : Cursor) (r : Run) (devices : Devices) (p : Sphere) → p.role ≡ Replay b → MayGo b k → Apart r.words → MovesOnly k devices p (piece_moved b k r devices p)
 unfolding limit_of limit_after
 piece_moves k b r devices p is turn apart =
     record {
@@ -194,7 +168,7 @@ piece_moves k b r devices p is turn apart =
         replaying = ap replays (sym is);
         limits = λ s j t ne going.
             ap (λ (n : ℕ). max 1 (whole_limit b.log j t.commits - n))
-            (ap (λ (now : TurnOrEnd). pieces_of now j (b.total + r.n)) turn ∙ pieces_other k j (b.total + r.n) ne ∙ sym (ap (λ (now : TurnOrEnd). pieces_of now j b.total) turn ∙ pieces_other k j b.total ne))
+            (pieces_other k j (b.total + r.n) ne ∙ sym (no_others b k j turn ne))
             ∙ ap (λ (q : Role). limit_in q s j t.commits) (sym is);
         after = λ s j t. ap (λ (q : Role). limit_after_in q s j t.commits) (sym is);
       };
@@ -202,7 +176,7 @@ piece_moves k b r devices p is turn apart =
       divergence = tt;
     }
 
-replayed_moves : (k : ℕ) (b : Cursor) (piece : Bool) (r : Run) (devices : Devices) (p : Sphere) → p.role ≡ Replay b → b.now ≡ Turn k → Apart r.words → MovesOnly k devices p (replayed_chunk piece b k r devices p)
+replayed_moves : (k : ℕ) (b : Cursor) (piece : Bool) (r : Run) (devices : Devices) (p : Sphere) → p.role ≡ Replay b → MayGo b k → Apart r.words → MovesOnly k devices p (replayed_chunk piece b k r devices p)
 replayed_moves k b true r devices p is turn apart = piece_moves k b r devices p is turn apart
 replayed_moves k b false r devices p is turn apart =
     verdict_moves k b (chunk_verdict b.log p.progress b.used k (joined b r)) devices p is turn
@@ -215,7 +189,7 @@ chunk_in_moves k Plain piece short r devices p is turn apart =
 chunk_in_moves k (Record recording) piece short r devices p is turn apart =
     granted_moves k (Record _) (chunk_effect k p.progress.request r) devices devices p (ap halves (sym is)) (ap replays (sym is)) (λ s j t. ap (λ (q : Role). limit_in q s j t.commits) (sym is)) (λ s j t. ap (λ (q : Role). limit_after_in q s j t.commits) (sym is)) apart
 chunk_in_moves k (Replay b) piece short r devices p is turn apart =
-    replayed_moves k b piece r devices p is (turn-is b.now k turn.going turn.turn) apart
+    replayed_moves k b piece r devices p is (may_go b k p turn.going turn.turn) apart
 
 -- a granted chunk moves its own thread only
 pub chunk-moves : (k : ℕ) (piece short : Bool) (r : Run) (devices : Devices) (p : Sphere) → HasTurn k p.role p → Apart r.words → MovesOnly k devices p (chunk_moved k piece short r devices p)
@@ -328,7 +302,7 @@ serial_in_moves k moment (Record recording) t devices p is turn =
     let v = serve recording.log.threads k p.threads p.progress.request t p.memory g.input in
     granted_moves k (Record (record recording { log = serial_noted k t g recording.log p })) (serial_effect k v) devices (console_written t p.memory v.outputs g.devices) p (ap halves (sym is)) (ap replays (sym is)) (λ s j u. ap (λ (q : Role). limit_in q s j u.commits) (sym is)) (λ s j u. ap (λ (q : Role). limit_after_in q s j u.commits) (sym is)) (serve-apart recording.log.threads k p.threads p.progress.request t p.memory g.input)
 serial_in_moves k moment (Replay b) t devices p is turn =
-    verdict_moves k b (serial_verdict b.log p.progress b.used k p.threads t p.memory) devices p is (turn-is b.now k turn.going turn.turn)
+    verdict_moves k b (serial_verdict b.log p.progress b.used k p.threads t p.memory) devices p is (may_go b k p turn.going turn.turn)
     (λ e u h. serial_apart b.log p.progress b.used k p.threads t p.memory e u h)
 
 -- a granted serial step moves its own thread only
@@ -396,9 +370,9 @@ chunk_thread log p u k r e v is =
     unless_thread (chunk_why (size_in log (Actor.Thread k) r.thread.commits) r.n) (with_interrupted (interrupt_at log.interrupts k x.thread.commits) x u) (counted r.thread)
     (λ f w h. interrupted_thread (interrupt_at log.interrupts k x.thread.commits) x u f w h) e v is
 
-effect_leaves : (k : ℕ) (role : Role) (e : Effect) (devices : Devices) (p : Sphere) (r : Run) (u : Parts) → slice_get p.threads k ≡ Some u → e.words ≡ r.words → IsLeft (counted r.thread) e.thread → ((s : ℕ) (t : Parts) → limit_of s role k t ≡ limit_after s p.role k t)
-    → Leaves k p r (granted_as role k e devices p)
-effect_leaves k role e devices p r u is words thread limits =
+effect_leaves : (k : ℕ) (strata : Option Standing) (role : Role) (e : Effect) (devices : Devices) (p : Sphere) (r : Run) (u : Parts) → slice_get p.threads k ≡ Some u → e.words ≡ r.words → IsLeft (counted r.thread) e.thread → ((s : ℕ) (t : Parts) → limit_of s role k t ≡ limit_after s p.role k t)
+    → Leaves k p r (granted_in strata role k e devices p)
+effect_leaves k strata role e devices p r u is words thread limits =
     record {
       words = words;
       thread = λ t there. subst (IsLeft (counted r.thread)) (put_there k e p.threads u t is there) thread;
@@ -414,15 +388,15 @@ unfolding limit_of limit_after
 verdict_leaves k b (Fails why) devices p r u role is each granted = absurd (let h : Diverged _ why ≡ Granted = granted in cc)
 verdict_leaves k b (Goes e x) devices p r u role is each granted =
     let g = each e x refl in
-    effect_leaves k _ e devices p r u is g.0 g.1
+    effect_leaves k b.strata _ e devices p r u is g.0 g.1
     (λ s t. ap (λ (n : ℕ). max 1 (whole_limit b.log k t.commits - n)) (pieces_none _ k) ∙ none_taken (whole_limit b.log k t.commits) ∙ ap (λ (q : Role). limit_after_in q s k t.commits) (sym role))
 
 leaves_in : (role : Role) (k : ℕ) (piece short : Bool) (r : Run) (devices : Devices) (p : Sphere) (u : Parts) → p.role ≡ role → slice_get p.threads k ≡ Some u → (chunk_in role k piece short r devices p).outcome ≡ Granted → Leaves k p r (chunk_in role k piece short r devices p)
 unfolding limit_of limit_after
 leaves_in Plain k piece short r devices p u role is granted =
-    effect_leaves k Plain (chunk_effect k p.progress.request r) devices p r u is refl (inl refl) (λ s t. ap (λ (q : Role). limit_after_in q s k t.commits) (sym role))
+    effect_leaves k None Plain (chunk_effect k p.progress.request r) devices p r u is refl (inl refl) (λ s t. ap (λ (q : Role). limit_after_in q s k t.commits) (sym role))
 leaves_in (Record log) k piece short r devices p u role is granted =
-    effect_leaves k (Record _) (chunk_effect k p.progress.request r) devices p r u is refl (inl refl) (λ s t. ap (λ (q : Role). limit_after_in q s k t.commits) (sym role))
+    effect_leaves k None (Record _) (chunk_effect k p.progress.request r) devices p r u is refl (inl refl) (λ s t. ap (λ (q : Role). limit_after_in q s k t.commits) (sym role))
 leaves_in (Replay b) k true short r devices p u role is granted = absurd (let h : Piece ≡ Granted = granted in cc)
 leaves_in (Replay b) k false short r devices p u role is granted =
     verdict_leaves k b (chunk_verdict b.log p.progress b.used k (joined b r)) devices p r u role is

@@ -22,7 +22,8 @@ use Rattle.spec_play.specs.Transfers.{DmaVerdict, DmaGoes, DmaFails, is_for, tra
 use Rattle.spec_protocol.specs.machine.Spheres.{other_than, turn_in, turn_against, Cursor, Role, Plain, Record, Replay, Sphere, is_over, is_stopped, actor_of, whole_limit, pieces_of, limit_in, limit_of, halves, limit_after_in, limit_after}
 use Rattle.spec_protocol.specs.machine.Commits.{Granted, MovedSphere, dma_as, live_dma, dma_log, dma_by_verdict, dma_in, dma_moved}
 use Rattle.spec_protocol.specs.machine.Placing.{replays}
-use Rattle.spec_protocol.proofs.Moves.Granted.{bytes_apart, pieces_none, Divergence}
+use Rattle.spec_protocol.proofs.Moves.Joining.{pieces_none}
+use Rattle.spec_protocol.proofs.Moves.Granted.{bytes_apart, Divergence}
 
 -- a DMA leaves the memory, the threads, their limits and the sphere's role
 pub record DmaMoves (devices : Devices) (p : Sphere) (v : MovedSphere) : Type 0 where

@@ -24,7 +24,8 @@ use Rattle.spec_protocol.specs.machine.Shown.{shown, shown_of}
 use Rattle.spec_protocol.specs.machine.Moves.{move_chunk, do_what, do_at, do_move, do_moves, FitsChunk, FitsSerial, FitsRaise, FitsWhat, FitsAt, Fits, FitsIf, FitAll}
 use Rattle.spec_protocol.specs.promises.Promises.{after}
 use Rattle.spec_protocol.specs.promises.Pieces.{IsChunkOf, PiecesStayTogether, StoppedSpheresStay}
-use Rattle.spec_protocol.proofs.Moves.Granted.{get-set_other, get-set_same, turn-is}
+use Rattle.spec_protocol.proofs.Moves.Joining.{may_go, joins-whole}
+use Rattle.spec_protocol.proofs.Moves.Granted.{get-set_other, get-set_same}
 use Rattle.spec_protocol.proofs.Invariants.Preserved.{shown-get}
 use Rattle.spec_protocol.proofs.Invariants.Schedules.{happens-preserved, moves_are, invariants_hold}
 
@@ -45,18 +46,18 @@ verdict_turn : (b : Cursor) (k : ℕ) (verdict : LogVerdict) (devices : Devices)
 verdict_turn b k (Goes e u) devices p = λ going some. absurd (omega arith)
 verdict_turn b k (Fails why) devices p = λ going some. absurd (true≢false going)
 
-replayed_turn : (piece : Bool) (b : Cursor) (k : ℕ) (r : Run) (devices : Devices) (p : Sphere) → b.now ≡ Turn k → InTurn (replayed_chunk piece b k r devices p).sphere.role
-replayed_turn true b k r devices p turn = λ going some. (k, turn)
-replayed_turn false b k r devices p turn = verdict_turn b k (chunk_verdict b.log p.progress b.used k (joined b r)) devices p
+replayed_turn : (piece : Bool) (b : Cursor) (k : ℕ) (r : Run) (devices : Devices) (p : Sphere) → InTurn (replayed_chunk piece b k r devices p).sphere.role
+replayed_turn true b k r devices p = λ going some. (k, refl)
+replayed_turn false b k r devices p = verdict_turn b k (chunk_verdict b.log p.progress b.used k (joined b r)) devices p
 
-chunk_in_turn : (role : Role) (k : ℕ) (piece short : Bool) (r : Run) (devices : Devices) (p : Sphere) → is_stopped role ≡ false → turn_in role p (Actor.Thread k) ≡ None → InTurn (chunk_in role k piece short r devices p).sphere.role
-chunk_in_turn Plain k piece short r devices p going free = tt
-chunk_in_turn (Record recording) k piece short r devices p going free = tt
-chunk_in_turn (Replay b) k piece short r devices p going free = replayed_turn piece b k r devices p (turn-is b.now k going free)
+chunk_in_turn : (role : Role) (k : ℕ) (piece short : Bool) (r : Run) (devices : Devices) (p : Sphere) → InTurn (chunk_in role k piece short r devices p).sphere.role
+chunk_in_turn Plain k piece short r devices p = tt
+chunk_in_turn (Record recording) k piece short r devices p = tt
+chunk_in_turn (Replay b) k piece short r devices p = replayed_turn piece b k r devices p
 
-chunk_turn : (z : Numbers) (k : ℕ) (how : How) (n limit : ℕ) (t : Parts) (devices : Devices) (p : Sphere) → is_stopped p.role ≡ false → turn_against p (Actor.Thread k) ≡ None → InTurn (laid (chunk_moved k (is_piece how) (is_short z.s how limit) (run p.memory t n) devices p)).role
-unfolding chunk_moved turn_against
-chunk_turn z k how n limit t devices p going free = chunk_in_turn p.role k (is_piece how) (is_short z.s how limit) (run p.memory t n) devices p going free
+chunk_turn : (z : Numbers) (k : ℕ) (how : How) (n limit : ℕ) (t : Parts) (devices : Devices) (p : Sphere) → InTurn (laid (chunk_moved k (is_piece how) (is_short z.s how limit) (run p.memory t n) devices p)).role
+unfolding chunk_moved
+chunk_turn z k how n limit t devices p = chunk_in_turn p.role k (is_piece how) (is_short z.s how limit) (run p.memory t n) devices p
 
 serial_in_turn : (role : Role) (k moment : ℕ) (t : Parts) (devices : Devices) (p : Sphere) → InTurn (serial_in role k moment t devices p).sphere.role
 serial_in_turn Plain k moment t devices p = tt
@@ -109,7 +110,7 @@ chunk_keeps_turn : (z : Numbers) (x : SerialState) (i k : ℕ) (how : How) (n li
 chunk_keeps_turn z x i k how n limit p None all is fits = all
 chunk_keeps_turn z x i k how n limit p (Some t) all is fits =
     let v : MovedSphere = chunk_moved k (is_piece how) (is_short z.s how limit) (run p.memory t n) x.devices p in
-    turn_set x i p (laid v) v.devices all is (chunk_turn z k how n limit t x.devices p fits.going fits.turn)
+    turn_set x i p (laid v) v.devices all is (chunk_turn z k how n limit t x.devices p)
 
 serial_keeps_turn : (x : SerialState) (i k moment : ℕ) (p : Sphere) (o : Option Parts) → AllInTurn x → slice_get x.spheres i ≡ Some p → AllInTurn (do_serial x i k moment p o)
 serial_keeps_turn x i k moment p None all is = all
@@ -158,12 +159,18 @@ start_turn z (d ∷ ds) (suc i) p e = start_turn z ds i p e
 some_total : (b : Cursor) (role : Role) → role ≡ Replay b → 0 < b.total → is_in_pieces role ≡ true
 some_total b role is some = ap is_in_pieces is ∙ lt-ltb 0 b.total some
 
-own_chunk : (z : Numbers) (p : Sphere) (b : Cursor) (k j : ℕ) (how : How) (n limit : ℕ) (o : Option Parts) → p.role ≡ Replay b → b.now ≡ Turn k → FitsChunk z p j how n limit o → j ≡ k
+own_chunk : (z : Numbers) (p : Sphere) (b : Cursor) (k j : ℕ) (how : How) (n limit : ℕ) (o : Option Parts) → p.role ≡ Replay b → b.now ≡ Turn k → 0 < b.total → FitsChunk z p j how n limit o → j ≡ k
 unfolding turn_against
-own_chunk z p b k j how n limit None role turn fits = absurd fits
-own_chunk z p b k j how n limit (Some t) role turn fits =
-    let same : Turn k ≡ Turn j = sym turn ∙ turn-is b.now j (sym (ap is_stopped role) ∙ fits.going) (sym (ap (λ (r : Role). turn_in r p (Actor.Thread j)) role) ∙ fits.turn) in
-    sym (ap (λ (now : TurnOrEnd). elim now [ Turn i ↦ i | TurnOfDma ↦ 0 | Ended how ↦ 0 ]) same)
+own_chunk z p b k j how n limit None role turn some fits = absurd fits
+own_chunk z p b k j how n limit (Some t) role turn some fits =
+    let may = may_go b j p (sym (ap is_stopped role) ∙ fits.going) (sym (ap (λ (r : Role). turn_in r p (Actor.Thread j)) role) ∙ fits.turn) in
+    elim may.turn [
+      | inl its ↦ (
+          let same : Turn k ≡ Turn j = sym turn ∙ its in
+          sym (ap (λ (now : TurnOrEnd). elim now [ Turn i ↦ i | TurnOfDma ↦ 0 | Ended how ↦ 0 ]) same)
+          )
+      | inr joins ↦ absurd (let e = joins-whole b.strata j b.total joins in omega (arith, e, some))
+    ]
 
 no_serial : (p : Sphere) (b : Cursor) (k : ℕ) (o : Option Parts) → p.role ≡ Replay b → 0 < b.total → FitsSerial p k o → ⊥
 no_serial p b k None role some fits = fits
@@ -176,7 +183,7 @@ no_raise p b (Some t) role fits = true≢false (sym (ap replays role) ∙ fits.l
 
 only_chunks : (z : Numbers) (devices : Devices) (p : Sphere) (b : Cursor) (k : ℕ) (what : MoveKind) → p.role ≡ Replay b → b.now ≡ Turn k → 0 < b.total → FitsWhat z devices p what → IsChunkOf k what
 unfolding turn_against
-only_chunks z devices p b k (OfChunk j how n limit) role turn some fits = own_chunk z p b k j how n limit (slice_get p.threads j) role turn fits
+only_chunks z devices p b k (OfChunk j how n limit) role turn some fits = own_chunk z p b k j how n limit (slice_get p.threads j) role turn some fits
 only_chunks z devices p b k (OfSerial j) role turn some fits = no_serial p b j (slice_get p.threads j) role some fits
 only_chunks z devices p b k OfDma role turn some fits =
     none-some (Actor.Thread k) (sym (sym (ap (λ (r : Role). turn_in r p Actor.Dma) role ∙ ap (λ (now : TurnOrEnd). other_than Actor.Dma (actor_of now)) turn) ∙ fits.turn))

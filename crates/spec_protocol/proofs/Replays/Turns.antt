@@ -15,8 +15,9 @@ use Rattle.spec_play.specs.declared.used.Used.{Used}
 use Rattle.spec_play.specs.Turns.{TurnOrEnd, Turn, TurnOfDma, Ended, has_left_over, at_end, turn_of_thread, turn_of, next_actor, now_at}
 use Rattle.spec_play.specs.declared.interval.Interval.{Interval}
 use Rattle.spec_play.specs.Intervals.{at_end_of_log, now_in}
+use Rattle.spec_strata.specs.Standing.{Standing, head_standing}
 use Rattle.spec_protocol.specs.machine.Spheres.{is_over, actor_of}
-use Rattle.spec_protocol.specs.machine.Commits.{between, turned}
+use Rattle.spec_protocol.specs.machine.Commits.{between, now_by, turned}
 use Rattle.spec_protocol.specs.promises.Sound.{IsDoneInOrder, due, IsSoundCursor}
 use Rattle.spec_protocol.proofs.Invariants.Cores.{branch}
 use Rattle.spec_protocol.proofs.Sound.Limits.{whole-positive}
@@ -95,17 +96,17 @@ over-of : (now : TurnOrEnd) (k : ℕ) → is_over now ≡ true → now ≡ Turn 
 over-of now k over e = true≢false (sym over ∙ ap is_over e)
 
 -- what is sound of the replay of a whole log is so of that of an interval
-pub between-sound : (log : LogParts) (i : Option Interval) (n : ℕ) (u : Used) (threads : List Parts) (now : TurnOrEnd) → IsSoundCursor n threads (between log None n u now) → IsSoundCursor n threads (between log i n u now)
-between-sound log i n u threads now s =
+pub between-sound : (log : LogParts) (i : Option Interval) (o : Option Standing) (n : ℕ) (u : Used) (threads : List Parts) (now : TurnOrEnd) → IsSoundCursor n threads (between log None o n u now) → IsSoundCursor n threads (between log i o n u now)
+between-sound log i o n u threads now s =
     let alike = interval-now i log.count n now in
     record {
       log = s.log;
       within = s.within;
       going = λ e. elim alike [ inl over ↦ absurd (true≢false (sym over ∙ e)) | inr same ↦ s.going (ap is_over (sym same) ∙ e) ];
       done = s.done;
-      named = λ actor e. elim alike [
+      named = λ actor none e. elim alike [
         | inl over ↦ absurd (over-named (now_in i log.count n now) actor over e)
-        | inr same ↦ s.named actor (ap actor_of (sym same) ∙ e)
+        | inr same ↦ s.named actor none (ap actor_of (sym same) ∙ e)
       ];
       inputs = s.inputs;
       dmas = s.dmas;
@@ -117,25 +118,56 @@ between-sound log i n u threads now s =
       ];
     }
 
+-- and so is a replay that begins in strata
+pub strata-sound : (log : LogParts) (i : Option Interval) (o : Option Standing) (n : ℕ) (u : Used) (threads : List Parts) (now : TurnOrEnd) → IsSoundCursor n threads (between log i None n u now) → IsSoundCursor n threads (between log i o n u now)
+strata-sound log i o n u threads now s =
+    record {
+      log = s.log;
+      within = s.within;
+      going = s.going;
+      done = λ none. s.done refl;
+      named = λ actor none e. s.named actor refl e;
+      inputs = s.inputs;
+      dmas = s.dmas;
+      interrupts = s.interrupts;
+      loads = s.loads;
+      turn = λ k e. (let t = s.turn k e in record { thread = t.thread; there = t.there; live = t.live; room = t.room });
+    }
+
 -- ---- the next commit
 
-whole-sound : (log : LogParts) (p : Progress) (u : Used) (threads : List Parts) → IsLog log → position p ≤ log.count → IsDoneInOrder log.mode log.order (position p) threads → u.inputs ≤ length log.inputs → u.dmas ≤ length log.dmas → u.interrupts ≡ due threads log.interrupts → IsSoundCursor (position p) threads (turned log None p u threads)
-whole-sound log p u threads is within done inputs dmas interrupts =
+now_by-turn : (o : Option Standing) (log : LogParts) (p : Progress) (u : Used) (threads : List Parts) (k : ℕ) → now_by o log p u threads ≡ Turn k → IsTurn threads k
+now_by-turn None log p u threads k e = now-turn log p u threads k e
+now_by-turn (Some x) log p u threads k e =
+    branch (λ (now : TurnOrEnd). now ≡ Turn k → IsTurn threads k) (nat_lt (position p) log.count) (turn_of (position p) threads (head_standing x)) (at_end (position p) (has_left_over log u threads))
+    (λ _ h. actor-turn (position p) k threads (head_standing x) h)
+    (λ _ h. absurd (end-turn (position p) k (has_left_over log u threads) h)) e
+
+now_by-going : (o : Option Standing) (log : LogParts) (p : Progress) (u : Used) (threads : List Parts) → is_over (now_by o log p u threads) ≡ false → position p < log.count
+now_by-going None log p u threads e = now-going log p u threads e
+now_by-going (Some x) log p u threads e =
+    branch (λ (now : TurnOrEnd). is_over now ≡ false → position p < log.count) (nat_lt (position p) log.count) (turn_of (position p) threads (head_standing x)) (at_end (position p) (has_left_over log u threads))
+    (λ l _. ltb-true (position p) log.count l)
+    (λ _ h. absurd (true≢false (sym (end-over (position p) (has_left_over log u threads)) ∙ h))) e
+
+whole-sound : (log : LogParts) (o : Option Standing) (p : Progress) (u : Used) (threads : List Parts) → IsLog log → position p ≤ log.count → (o ≡ None → IsDoneInOrder log.mode log.order (position p) threads) → u.inputs ≤ length log.inputs → u.dmas ≤ length log.dmas → u.interrupts ≡ due threads log.interrupts → IsSoundCursor (position p) threads (turned log None o p u threads)
+whole-sound log o p u threads is within done inputs dmas interrupts =
     record {
       log = is;
       within = within;
-      going = now-going log p u threads;
+      going = now_by-going o log p u threads;
       done = done;
-      named = now-named log p u threads;
+      named = λ actor none e.
+          now-named log p u threads actor (ap (λ (x : Option Standing). actor_of (now_by x log p u threads)) (sym none) ∙ e);
       inputs = inputs;
       dmas = dmas;
       interrupts = interrupts;
       loads = omega arith;
-      turn = λ k e. let t = now-turn log p u threads k e in record { thread = t.thread; there = t.there; live = t.live; room = whole-positive log k t.thread.commits is };
+      turn = λ k e. let t = now_by-turn o log p u threads k e in record { thread = t.thread; there = t.there; live = t.live; room = whole-positive log k t.thread.commits is };
     }
 
 -- a cursor that was turned to its next commit is sound, if it was used soundly
-pub turned-sound : (log : LogParts) (i : Option Interval) (p : Progress) (u : Used) (threads : List Parts) → IsLog log → position p ≤ log.count → IsDoneInOrder log.mode log.order (position p) threads → u.inputs ≤ length log.inputs → u.dmas ≤ length log.dmas → u.interrupts ≡ due threads log.interrupts
-    → IsSoundCursor (position p) threads (turned log i p u threads)
-turned-sound log i p u threads is within done inputs dmas interrupts =
-    between-sound log i (position p) u threads (now_at log p u threads) (whole-sound log p u threads is within done inputs dmas interrupts)
+pub turned-sound : (log : LogParts) (i : Option Interval) (o : Option Standing) (p : Progress) (u : Used) (threads : List Parts) → IsLog log → position p ≤ log.count → (o ≡ None → IsDoneInOrder log.mode log.order (position p) threads) → u.inputs ≤ length log.inputs → u.dmas ≤ length log.dmas → u.interrupts ≡ due threads log.interrupts
+    → IsSoundCursor (position p) threads (turned log i o p u threads)
+turned-sound log i o p u threads is within done inputs dmas interrupts =
+    between-sound log i o (position p) u threads (now_by o log p u threads) (whole-sound log o p u threads is within done inputs dmas interrupts)

@@ -1,6 +1,6 @@
 -- What a log says of a commit leaves a sound replay.
 use Rattle.std.proofs.Common.{◌≡◌, ℕ, suc, ◌≤◌, List, length, Option, Some, None, refl, sym, ap, ◌∙◌, subst, arith}
-use Rattle.std.specs.Prelude.{slice_get}
+use Rattle.std.specs.Prelude.{slice_get, option_map}
 use Rattle.std.proofs.lemmas.Bool.{true≢false}
 use Rattle.std.proofs.lemmas.Option.{none-some}
 use Rattle.dl_entry.specs.declared.Actor.{Actor}
@@ -11,20 +11,22 @@ use Rattle.spec_log.specs.declared.LogParts.{LogParts}
 use Rattle.spec_kernel.specs.Devices.{Devices, HaveByteInput}
 use Rattle.spec_kernel.specs.Interrupts.{takes_interrupt, interrupted}
 use Rattle.spec_play.specs.Effects.{Effect}
-use Rattle.spec_play.specs.Progress.{position, with_effect, with_interrupt}
+use Rattle.spec_play.specs.Progress.{position, with_interrupt}
 use Rattle.spec_play.specs.declared.used.Used.{Used}
 use Rattle.spec_play.specs.Turns.{Turn, Ended}
 use Rattle.spec_play.specs.Plays.{with_threads}
 use Rattle.spec_play.specs.Verdicts.{LogVerdict, Goes, Fails, unless, interrupt_at, with_interrupted, ended}
+use Rattle.spec_strata.specs.Standing.{after_thread}
 use Rattle.spec_protocol.specs.machine.Spheres.{Cursor, Role, Replay, Sphere, is_over, actor_of, most_in}
-use Rattle.spec_protocol.specs.machine.Commits.{diverged, by_verdict}
+use Rattle.spec_protocol.specs.machine.Commits.{with_commit, diverged, by_verdict}
 use Rattle.spec_protocol.specs.machine.Machine.{SphereSetup}
 use Rattle.spec_protocol.specs.promises.Sound.{IsDoneInOrder, due, IsSoundCursor, IsSoundRole, IsSoundSphere}
 use Rattle.spec_protocol.proofs.Invariants.Cores.{branch}
+use Rattle.spec_protocol.proofs.Moves.Joining.{MayGo, turn_in_order, none-mapped}
 use Rattle.spec_protocol.proofs.Sound.Words.{sound-none}
 use Rattle.spec_protocol.proofs.Replays.Order.{done-commit}
 use Rattle.spec_protocol.proofs.Replays.Uses.{Rising, once-more, same-due, one-due}
-use Rattle.spec_protocol.proofs.Sound.Commits.{IsSoundEffect, next-position, IsSoundMoved, granted-sound, interrupted-effect}
+use Rattle.spec_protocol.proofs.Sound.Commits.{IsSoundEffect, commit-position, IsSoundMoved, granted-sound, interrupted-effect}
 use Rattle.spec_protocol.proofs.Replays.Turns.{over-turn, turned-sound}
 
 -- ---- cursors
@@ -79,7 +81,7 @@ over-sound commits threads b how s =
       within = s.within;
       going = λ e. absurd (true≢false e);
       done = s.done;
-      named = λ actor e. absurd (none-some actor e);
+      named = λ actor none e. absurd (none-some actor e);
       inputs = s.inputs;
       dmas = s.dmas;
       interrupts = s.interrupts;
@@ -111,14 +113,18 @@ diverged-sound s image now b why devices p cursor sound few d =
     }
 
 -- a commit leaves a sound replay, whether it goes on or diverges
-pub verdict-sound : (s : ℕ) (image : SphereSetup) (now k : ℕ) (b : Cursor) (t : Parts) (x : LogVerdict) (devices : Devices) (p : Sphere) → IsSoundCursor (position p.progress) p.threads b → b.now ≡ Turn k → IsSoundSphere s image now p → length p.threads ≤ b.log.threads → slice_get p.threads k ≡ Some t
+pub verdict-sound : (s : ℕ) (image : SphereSetup) (now k : ℕ) (b : Cursor) (t : Parts) (x : LogVerdict) (devices : Devices) (p : Sphere) → IsSoundCursor (position p.progress) p.threads b → MayGo b k → IsSoundSphere s image now p → length p.threads ≤ b.log.threads → slice_get p.threads k ≡ Some t
     → IfGoes (SoundlyIn (length image.memory) b.log k p.threads t) x → HaveByteInput devices → IsSoundMoved s image (suc now) (by_verdict b k x devices p)
 verdict-sound s image now k b t (Fails why) devices p cursor turn sound few is goes d = diverged-sound s image now b why devices p cursor sound few d
 verdict-sound s image now k b t (Goes e u) devices p cursor turn sound few is goes d =
-    let n = next-position k e p.progress in
-    let l = cursor.going (ap is_over turn) in
+    let n = commit-position b.strata k e p.progress in
+    let l = cursor.going turn.going in
     let effect = goes.0 in
-    let done = done-commit b.log.mode b.log.order (position p.progress) k p.threads e.spawned t e.thread is effect.commits effect.fresh (cursor.named (Actor.Thread k) (ap actor_of turn)) cursor.done in
-    granted-sound s image now k _ t e devices p sound is effect
-    (turned-sound b.log b.interval (with_effect k e p.progress) u (with_threads k e p.threads) cursor.log (omega (arith, n, l))
-    (subst (λ (m : ℕ). IsDoneInOrder b.log.mode b.log.order m (with_threads k e p.threads)) (sym n) done) goes.1.inputs goes.1.dmas goes.1.interrupts) d
+    let done : b.strata ≡ None → IsDoneInOrder b.log.mode b.log.order (suc (position p.progress)) (with_threads k e p.threads) =
+    λ none. done-commit b.log.mode b.log.order (position p.progress) k p.threads e.spawned t e.thread is effect.commits effect.fresh
+    (cursor.named (Actor.Thread k) none (ap actor_of (turn_in_order b k turn none))) (cursor.done none)
+    in
+    granted-sound s image now k b.strata _ t e devices p sound is effect
+    (turned-sound b.log b.interval (option_map (after_thread k) b.strata) (with_commit b.strata k e p.progress) u (with_threads k e p.threads) cursor.log (omega (arith, n, l))
+    (λ none. subst (λ (m : ℕ). IsDoneInOrder b.log.mode b.log.order m (with_threads k e p.threads)) (sym n) (done (none-mapped (after_thread k) b.strata none)))
+    goes.1.inputs goes.1.dmas goes.1.interrupts) d

@@ -1,7 +1,8 @@
 -- A commit of a thread leaves a sound sphere: what its effect leaves, and what a recording notes of it.
-use Rattle.std.proofs.Common.{◌≡◌, ℕ, zero, suc, ◌+◌, ◌%◌, ◌≤◌, inl, inr, Bool, List, [], ◌∷◌, length, Option, Some, sym, ap, ◌∙◌, subst, set, arith}
-use Rattle.std.specs.Prelude.{slice_get, slice_set}
+use Rattle.std.proofs.Common.{◌≡◌, ℕ, zero, suc, ◌+◌, ◌%◌, ◌≤◌, inl, inr, Bool, List, [], ◌∷◌, length, Option, Some, None, refl, sym, ap, ◌∙◌, subst, set, arith}
+use Rattle.std.specs.Prelude.{slice_get, slice_set, insert, take, drop}
 use Rattle.std.proofs.Math.ListN.{length-set, length-append}
+use Rattle.std.proofs.lemmas.List.{take-append-drop}
 use Rattle.std.proofs.lemmas.Option.{none-some}
 use Rattle.dl_entry.specs.declared.Input.{Input}
 use Rattle.dl_entry.specs.declared.Request.{Request}
@@ -17,8 +18,9 @@ use Rattle.spec_play.specs.Effects.{Effect, chunk_effect, serial_effect}
 use Rattle.spec_play.specs.Progress.{Progress, position, with_effect}
 use Rattle.spec_play.specs.Plays.{with_threads}
 use Rattle.spec_play.specs.Recording.{noted}
+use Rattle.spec_strata.specs.Standing.{Standing, place_of}
 use Rattle.spec_protocol.specs.machine.Spheres.{Role, Sphere, most_in}
-use Rattle.spec_protocol.specs.machine.Commits.{MovedSphere, granted_as}
+use Rattle.spec_protocol.specs.machine.Commits.{MovedSphere, with_commit, granted_in}
 use Rattle.spec_protocol.specs.machine.Machine.{SphereSetup}
 use Rattle.spec_protocol.specs.promises.Sound.{AreSoundWords, IsSoundIf, IsSoundLog, IsSoundRole, IsSoundThread, IsSoundSphere}
 use Rattle.spec_protocol.proofs.Moves.Threads.{AreNew, serve-keeps}
@@ -60,6 +62,25 @@ later-thread m n x l s = record { thread = s.thread; few = (let k = s.few in ome
 pub next-position : (k : ℕ) (e : Effect) (p : Progress) → position (with_effect k e p) ≡ suc (position p)
 next-position k e p = position-more p e.commit
 
+-- in strata too, wherever the commit has its place
+inserted-length : {A : Type 0} (xs : List A) (i : ℕ) (x : A) → length (insert xs i x) ≡ suc (length xs)
+inserted-length xs i x =
+    let l = length-append (take i xs) (x ∷ drop i xs) in
+    let whole = sym (length-append (take i xs) (drop i xs)) ∙ ap length (take-append-drop i xs) in
+    omega (arith, l, whole)
+
+pub commit-position : (o : Option Standing) (k : ℕ) (e : Effect) (p : Progress) → position (with_commit o k e p) ≡ suc (position p)
+commit-position None k e p = next-position k e p
+commit-position (Some x) k e p = let l = inserted-length p.commits (place_of k x) e.commit in omega (arith, l)
+
+pub commit-request : (o : Option Standing) (k : ℕ) (e : Effect) (p : Progress) → (with_commit o k e p).request ≡ e.request
+commit-request None k e p = refl
+commit-request (Some x) k e p = refl
+
+commit-count : (o : Option Standing) (k : ℕ) (e : Effect) (p : Progress) → length (with_commit o k e p).commits ≡ suc (length p.commits)
+commit-count None k e p = let n = next-position k e p in omega (arith, n)
+commit-count (Some x) k e p = inserted-length p.commits (place_of k x) e.commit
+
 commit-threads : (n size most k : ℕ) (ts : List Parts) (t : Parts) (e : Effect) → slice_get ts k ≡ Some t → IsSoundEffect size most ts t e → ((j : ℕ) (x : Parts) → slice_get ts j ≡ Some x → IsSoundThread n x)
     → (j : ℕ) (x : Parts) → slice_get (with_threads k e ts) j ≡ Some x → IsSoundThread (suc n) x
 commit-threads n size most k ts t e is effect old j x there =
@@ -80,20 +101,21 @@ pub record IsSoundMoved (s : ℕ) (image : SphereSetup) (now : ℕ) (v : MovedSp
   pub devices : HaveByteInput v.devices
 
 -- a commit with a sound effect leaves a sound sphere, if its role is left sound
-pub granted-sound : (s : ℕ) (image : SphereSetup) (now k : ℕ) (role : Role) (t : Parts) (e : Effect) (devices : Devices) (p : Sphere) → IsSoundSphere s image now p → slice_get p.threads k ≡ Some t → IsSoundEffect (length image.memory) (most_in role) p.threads t e
-    → IsSoundRole s (position (with_effect k e p.progress)) (with_threads k e p.threads) role → HaveByteInput devices → IsSoundMoved s image (suc now) (granted_as role k e devices p)
-granted-sound s image now k role t e devices p sound is effect role_sound devices_sound =
-    let n = next-position k e p.progress in
+pub granted-sound : (s : ℕ) (image : SphereSetup) (now k : ℕ) (o : Option Standing) (role : Role) (t : Parts) (e : Effect) (devices : Devices) (p : Sphere) → IsSoundSphere s image now p → slice_get p.threads k ≡ Some t → IsSoundEffect (length image.memory) (most_in role) p.threads t e
+    → IsSoundRole s (position (with_commit o k e p.progress)) (with_threads k e p.threads) role → HaveByteInput devices → IsSoundMoved s image (suc now) (granted_in o role k e devices p)
+granted-sound s image now k o role t e devices p sound is effect role_sound devices_sound =
+    let n = commit-position o k e p.progress in
+    let count = commit-count o k e p.progress in
     let l = commit-length k p.threads e in
     record {
       sphere = record {
         size = sound.size;
         bytes = sound.bytes;
-        request = effect.request;
+        request = subst (IsSoundIf (length image.memory)) (sym (commit-request o k e p.progress)) effect.request;
         some = (let a = sound.some in omega (arith, l, a));
         few = (let a = effect.few in omega (arith, l, a));
         threads = λ j x h. subst (λ (m : ℕ). IsSoundThread m x) (sym n) (commit-threads (position p.progress) (length image.memory) (most_in role) k p.threads t e is effect sound.threads j x h);
-        commits = (let a = sound.commits in omega (arith, n, a));
+        commits = (let a = sound.commits in omega (arith, count, a));
         role = role_sound;
       };
       words = effect.words;

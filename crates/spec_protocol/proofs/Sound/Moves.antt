@@ -26,7 +26,7 @@ use Rattle.spec_play.specs.Turns.{Turn}
 use Rattle.spec_play.specs.Plays.{with_threads}
 use Rattle.spec_play.specs.Recording.{noted, input_noted}
 use Rattle.spec_play.specs.Verdicts.{ended, chunk_why, chunk_verdict, TakenRecord, given, serial_why, served_verdict, serial_verdict}
-use Rattle.spec_protocol.specs.machine.Spheres.{Cursor, Role, Plain, Record, Replay, Sphere, whole_limit, most_in}
+use Rattle.spec_protocol.specs.machine.Spheres.{Cursor, Role, Plain, Record, Replay, Sphere, actor_of, whole_limit, most_in}
 use Rattle.spec_protocol.specs.machine.Commits.{joined, piece_moved, replayed_chunk, chunk_in, chunk_moved, served_as, serial_noted, serial_in, serial_moved}
 use Rattle.spec_protocol.specs.machine.Machine.{SphereSetup}
 use Rattle.spec_protocol.specs.promises.Sound.{IsDoneInOrder, AreSoundWords, IsSoundIf, HasThread, IsSoundCursor, IsSoundLog, IsSoundRole, IsSoundThread, IsSoundSphere}
@@ -36,6 +36,7 @@ use Rattle.spec_protocol.proofs.Sound.Threads.{Brings, BringsIf}
 use Rattle.spec_protocol.proofs.Sound.Devices.{IsSoundTaken, taken-sound, written-devices}
 use Rattle.spec_protocol.proofs.Replays.Order.{done-piece}
 use Rattle.spec_protocol.proofs.Replays.Uses.{rising-of, due-still, piece-commits}
+use Rattle.spec_protocol.proofs.Moves.Joining.{MayGo, turn_in_order}
 use Rattle.spec_protocol.proofs.Sound.Commits.{set-all, IsSoundMoved, granted-sound, chunk-effect, serial-effect, noted-sound}
 use Rattle.spec_protocol.proofs.Replays.Verdicts.{Uses, IfGoes, unless-goes, SoundlyIn, ended-goes, verdict-sound}
 
@@ -64,13 +65,13 @@ cursor-uses commits threads b s = record { rising = rising-of b.log.interrupts s
 -- where it is a piece, its commit has room for it and an instruction more
 pub record FitsRole (k : ℕ) (t : Parts) (piece : Bool) (r : Run) (role : Role) : Type 0 where
   pub live : is_live t ≡ true
-  pub turn : (b : Cursor) → role ≡ Replay b → b.now ≡ Turn k
+  pub turn : (b : Cursor) → role ≡ Replay b → MayGo b k
   pub room : (b : Cursor) → role ≡ Replay b → piece ≡ true → b.total + r.n < whole_limit b.log k t.commits
 
 -- at this moment sphere p is sound, thread k of it is t, and the input is bytes
 module _ (s : ℕ) (image : SphereSetup) (now k : ℕ) (t : Parts) (devices : Devices) (p : Sphere) (sound : IsSoundSphere s image now p) (is : slice_get p.threads k ≡ Some t) (d : HaveByteInput devices) where
   -- a piece leaves the thread's commits, and room for an instruction more
-  piece-sound : (b : Cursor) (r : Run) → IsSoundCursor (position p.progress) p.threads b → b.now ≡ Turn k → is_live t ≡ true → IsSoundRun (length image.memory) t r → b.total + r.n < whole_limit b.log k t.commits → length p.threads ≤ b.log.threads
+  piece-sound : (b : Cursor) (r : Run) → IsSoundCursor (position p.progress) p.threads b → MayGo b k → is_live t ≡ true → IsSoundRun (length image.memory) t r → b.total + r.n < whole_limit b.log k t.commits → length p.threads ≤ b.log.threads
       → IsSoundMoved s image (suc now) (piece_moved b k r devices p)
   piece-sound b r cursor turn live run room few =
       let n = position p.progress in
@@ -90,14 +91,14 @@ module _ (s : ℕ) (image : SphereSetup) (now k : ℕ) (t : Parts) (devices : De
           role = record {
             log = cursor.log;
             within = cursor.within;
-            going = cursor.going;
-            done = subst (IsDoneInOrder b.log.mode b.log.order n) (append-nil us) (done-piece b.log.mode b.log.order n k p.threads t r.thread is c cursor.done);
-            named = cursor.named;
+            going = λ e. cursor.going turn.going;
+            done = λ none. subst (IsDoneInOrder b.log.mode b.log.order n) (append-nil us) (done-piece b.log.mode b.log.order n k p.threads t r.thread is c (cursor.done none));
+            named = λ actor none e. cursor.named actor none (ap actor_of (turn_in_order b k turn none) ∙ e);
             inputs = cursor.inputs;
             dmas = cursor.dmas;
             interrupts = cursor.interrupts ∙ sym (due-still b.log.interrupts p.threads us (piece-commits p.threads k t r.thread is c));
             loads = (let l = length-append b.loads r.loads in let a = cursor.loads in let q = run.loads in omega (arith, l, a, q));
-            turn = λ j e. subst (HasThread (record b { total = b.total + r.n; loads = b.loads ++ r.loads }) us) (let q : Turn k ≡ Turn j = sym turn ∙ e in let h : k ≡ j = cc in h)
+            turn = λ j e. subst (HasThread (record b { now = Turn k; total = b.total + r.n; loads = b.loads ++ r.loads }) us) (let q : Turn k ≡ Turn j = e in let h : k ≡ j = cc in h)
                 (record { thread = r.thread; there = there; live = lives; room = subst (λ (m : ℕ). b.total + r.n < whole_limit b.log k m) (sym c) room });
           };
         };
@@ -116,12 +117,12 @@ module _ (s : ℕ) (image : SphereSetup) (now k : ℕ) (t : Parts) (devices : De
   chunk-in-sound : (role : Role) (piece short : Bool) (r : Run) → IsSoundRole s (position p.progress) p.threads role → FitsRole k t piece r role → IsSoundRun (length image.memory) t r → length p.threads ≤ most_in role
       → IsSoundMoved s image (suc now) (chunk_in role k piece short r devices p)
   chunk-in-sound Plain piece short r role fits run few =
-      granted-sound s image now k Plain t (chunk_effect k p.progress.request r) devices p sound is
+      granted-sound s image now k None Plain t (chunk_effect k p.progress.request r) devices p sound is
       (chunk-effect (length image.memory) plain_threads k p.threads t p.progress.request r run.thread run.commits run.words sound.request few) tt d
   chunk-in-sound (Record recording) piece short r role fits run few =
       let e = chunk_effect k p.progress.request r in
       let effect = chunk-effect (length image.memory) recording.log.threads k p.threads t p.progress.request r run.thread run.commits run.words sound.request few in
-      granted-sound s image now k (Record (record recording { log = noted e.commit r.thread.commits short recording.log })) t e devices p sound is effect
+      granted-sound s image now k None (Record (record recording { log = noted e.commit r.thread.commits short recording.log })) t e devices p sound is effect
       (noted-sound s k r.thread.commits short recording.log t e p is effect.commits role) d
   chunk-in-sound (Replay b) piece short r role fits run few = replayed-sound b piece r role fits run few
 
@@ -199,11 +200,11 @@ served-sound : (s : ℕ) (image : SphereSetup) (now k : ℕ) (role : Role) (t : 
     → IsSoundMoved s image (suc now) (served_as role k t g p)
 served-sound s image now k role t g p whole sound is taken_ few role_sound =
     let v = serve (most_in role) k p.threads p.progress.request t p.memory g.input in
-    granted-sound s image now k role t (serial_effect k v) (console_written t p.memory v.outputs g.devices) p sound is
+    granted-sound s image now k None role t (serial_effect k v) (console_written t p.memory v.outputs g.devices) p sound is
     (serial-effect (length image.memory) (most_in role) k p.threads p.progress.request t p.memory g.input sound.size whole taken_.brings (sound.threads k t is).thread sound.request few)
     role_sound (written-devices t p.memory v.outputs g.devices taken_.devices)
 
-serial-in-sound : (s : ℕ) (image : SphereSetup) (now k moment : ℕ) (role : Role) (t : Parts) (devices : Devices) (p : Sphere) → length image.memory % 4 ≡ 0 → IsSoundRole s (position p.progress) p.threads role → ((b : Cursor) → role ≡ Replay b → b.now ≡ Turn k)
+serial-in-sound : (s : ℕ) (image : SphereSetup) (now k moment : ℕ) (role : Role) (t : Parts) (devices : Devices) (p : Sphere) → length image.memory % 4 ≡ 0 → IsSoundRole s (position p.progress) p.threads role → ((b : Cursor) → role ≡ Replay b → MayGo b k)
     → IsSoundSphere s image now p → length p.threads ≤ most_in role → slice_get p.threads k ≡ Some t → HaveByteInput devices → IsSoundMoved s image (suc now) (serial_in role k moment t devices p)
 serial-in-sound s image now k moment Plain t devices p whole role going sound few is d =
     served-sound s image now k Plain t (taken (need t p.memory) devices moment) p whole sound is (taken-sound t p.memory devices moment sound.bytes d) few tt
@@ -219,7 +220,7 @@ serial-in-sound s image now k moment (Replay b) t devices p whole role going sou
     (serial-goes (length image.memory) k b.log p.progress b.used p.threads t p.memory is (cursor-uses (position p.progress) p.threads b role) sound.size whole (sound.threads k t is).thread sound.request few) d
 
 -- a granted serial step leaves a sound sphere
-pub serial-sound : (s : ℕ) (image : SphereSetup) (now k moment : ℕ) (t : Parts) (devices : Devices) (p : Sphere) → length image.memory % 4 ≡ 0 → ((b : Cursor) → p.role ≡ Replay b → b.now ≡ Turn k)
+pub serial-sound : (s : ℕ) (image : SphereSetup) (now k moment : ℕ) (t : Parts) (devices : Devices) (p : Sphere) → length image.memory % 4 ≡ 0 → ((b : Cursor) → p.role ≡ Replay b → MayGo b k)
     → IsSoundSphere s image now p → slice_get p.threads k ≡ Some t → HaveByteInput devices → IsSoundMoved s image (suc now) (serial_moved k moment t devices p)
 unfolding serial_moved
 serial-sound s image now k moment t devices p whole going sound is d = serial-in-sound s image now k moment p.role t devices p whole sound.role going sound sound.few is d

@@ -21,9 +21,10 @@ use Rattle.spec_play.specs.Plays.{Played, opened, settled, size_or_standard, thr
 use Rattle.spec_play.specs.Intervals.{before, without_commits}
 use Rattle.spec_protocol.specs.machine.Spheres.{Cursor, Sphere}
 use Rattle.spec_protocol.specs.machine.Commits.{MovedSphere, between}
-use Rattle.spec_protocol.specs.machine.Machine.{ReplaySetup, all_of, SphereSetup, first_played, replay_at}
+use Rattle.spec_protocol.specs.machine.Machine.{ReplaySetup, all_of, SphereSetup, first_played, first_standing, replay_at}
 use Rattle.spec_protocol.specs.machine.Serial.{laid}
 use Rattle.spec_protocol.specs.promises.Sound.{IsImage, HaveBytes, AreSoundWords, IsSoundIf, IsSoundCursor, IsSoundThread, IsSoundSphere}
+use Rattle.spec_protocol.proofs.Moves.Joining.{its_turn}
 use Rattle.spec_protocol.proofs.Moves.Threads.{run-keeps}
 use Rattle.spec_protocol.proofs.Sound.Words.{sound-none, lay-bytes}
 use Rattle.spec_protocol.proofs.Sound.Threads.{started-thread}
@@ -35,7 +36,7 @@ use Rattle.spec_protocol.proofs.Sound.Transfers.{IfDmaGoes, dma-goes, dma-verdic
 use Rattle.spec_protocol.proofs.Sound.Limits.{version-least}
 use Rattle.spec_protocol.proofs.Replays.Order.{done-none}
 use Rattle.spec_protocol.proofs.Replays.Uses.{none-due_first}
-use Rattle.spec_protocol.proofs.Replays.Turns.{between-sound, turned-sound}
+use Rattle.spec_protocol.proofs.Replays.Turns.{between-sound, strata-sound, turned-sound}
 use Rattle.spec_protocol.proofs.Replays.Verdicts.{Uses, IfGoes, SoundlyIn, as-role, verdict-sound}
 
 -- ---- a run
@@ -103,7 +104,7 @@ verdict-goes size k log y t (Some kind) is uses same whole thread request few =
 -- The image s is whole words, and after so many commits the sphere that replays the log is sound.
 module _ (s : ℕ) (image : SphereSetup) (now : ℕ) (log : LogParts) (y : Played) (whole : length image.memory % 4 ≡ 0) (sound : IsSoundSphere s image now (replaying log y)) where
   abbrev cursor : Cursor
-  cursor = between log None (position y.progress) y.used y.now
+  cursor = between log None None (position y.progress) y.used y.now
 
   -- what the devices hold doesn't matter
   abbrev none : Devices
@@ -118,9 +119,9 @@ module _ (s : ℕ) (image : SphereSetup) (now : ℕ) (log : LogParts) (y : Playe
   settled-sound : (k : ℕ) (t : Parts) (v : LogVerdict) → y.now ≡ Turn k → slice_get y.threads k ≡ Some t → IfGoes (SoundlyIn (length image.memory) log k y.threads t) v
       → IsSoundSphere s image (suc now) (replaying log (settled log y k v))
   settled-sound k t (Goes e u) turn is goes =
-      laid-sound s image (suc now) _ (verdict-sound s image now k cursor t (Goes e u) none (replaying log y) sound.role turn sound sound.few is goes none-bytes)
+      laid-sound s image (suc now) _ (verdict-sound s image now k cursor t (Goes e u) none (replaying log y) sound.role (its_turn cursor k turn) sound sound.few is goes none-bytes)
   settled-sound k t (Fails why) turn is goes =
-      laid-sound s image (suc now) _ (verdict-sound s image now k cursor t (Fails why) none (replaying log y) sound.role turn sound sound.few is goes none-bytes)
+      laid-sound s image (suc now) _ (verdict-sound s image now k cursor t (Fails why) none (replaying log y) sound.role (its_turn cursor k turn) sound sound.few is goes none-bytes)
 
   thread-sound : (k : ℕ) (o : Option Parts) → y.now ≡ Turn k → slice_get y.threads k ≡ o → IsSoundSphere s image (suc now) (replaying log (play_thread log y k o))
   thread-sound k None turn is = later
@@ -164,7 +165,7 @@ opened-sound s image log is good =
       few = version-least log.version log.threads good.version;
       threads = λ k x e. first-thread image.entry k x is.aligned e;
       commits = omega arith;
-      role = turned-sound log None no_progress nothing_used (t ∷ []) good (omega arith) (done-none log.mode log.order t refl) (omega arith) (omega arith)
+      role = turned-sound log None None no_progress nothing_used (t ∷ []) good (omega arith) (λ none. done-none log.mode log.order t refl) (omega arith) (omega arith)
           (sym (none-due_first t log.interrupts refl));
     }
 
@@ -188,8 +189,9 @@ without-sound s image n asked y sound =
       few = sound.few;
       threads = λ k t is. subst (λ (i : ℕ). IsSoundThread i t) (sym e) (sound.threads k t is);
       commits = omega arith;
-      role = subst (λ (i : ℕ). IsSoundCursor i y.threads (between asked.log asked.interval i y.used y.now)) (sym e)
-          (between-sound asked.log asked.interval (position y.progress) y.used y.threads y.now sound.role);
+      role = subst (λ (i : ℕ). IsSoundCursor i y.threads (between asked.log asked.interval (first_standing asked) i y.used y.now)) (sym e)
+          (strata-sound asked.log asked.interval (first_standing asked) (position y.progress) y.used y.threads y.now
+          (between-sound asked.log asked.interval None (position y.progress) y.used y.threads y.now sound.role));
     }
 
 -- a replayed sphere begins sound

@@ -30,7 +30,7 @@ use Rattle.spec_protocol.specs.promises.Invariants.{IsGood}
 use Rattle.spec_protocol.specs.promises.Promises.{IsSetup, AreSizesKept}
 use Rattle.spec_protocol.specs.promises.Sound.{IsRole, IsImage, IsWithinLimits, AreSoundWords, no_image, image_at, size_of, IsSoundCursor, IsSoundRole, IsSoundSphere, IsSoundChunk, IsSound, WorldsAreSound, EventsKeepSound}
 use Rattle.spec_protocol.proofs.Invariants.Preserved.{SameSizes}
-use Rattle.spec_protocol.proofs.Moves.Granted.{turn-is}
+use Rattle.spec_protocol.proofs.Moves.Joining.{MayGo, may_go, own_pieces, joins-whole}
 use Rattle.spec_protocol.proofs.Moves.Transfers.{dma-turn_is}
 use Rattle.spec_protocol.proofs.Points.Counts.{act-untold}
 use Rattle.spec_protocol.proofs.Invariants.Schedules.{happens-preserved, free_slots, first_held, start-good, sizes_kept}
@@ -38,7 +38,7 @@ use Rattle.spec_protocol.proofs.Sound.Changes.{Properties, Holds, Lands, Asks, K
 use Rattle.spec_protocol.proofs.Sound.Words.{lay-bytes}
 use Rattle.spec_protocol.proofs.Sound.Devices.{start-bytes}
 use Rattle.spec_protocol.proofs.Sound.Chunks.{IsSoundIn, step-sound, cut-sound, squash-sound, fresh-sound}
-use Rattle.spec_protocol.proofs.Sound.Limits.{limit-most, version-least}
+use Rattle.spec_protocol.proofs.Sound.Limits.{limit-most, version-least, whole-positive}
 use Rattle.spec_protocol.proofs.Logs.Fresh.{fresh-none}
 use Rattle.spec_protocol.proofs.Sound.Commits.{IsSoundMoved}
 use Rattle.spec_protocol.proofs.Replays.Verdicts.{as-role}
@@ -96,10 +96,10 @@ drained-both s now f w ws p e words k =
 going-on : (p : Sphere) → is_stopped p.role ≡ false → (b : Cursor) → p.role ≡ Replay b → is_over b.now ≡ false
 going-on p going b e = ap is_stopped (sym e) ∙ going
 
-has-turn : (p : Sphere) (k : ℕ) → is_stopped p.role ≡ false → turn_against p (Actor.Thread k) ≡ None → (b : Cursor) → p.role ≡ Replay b → b.now ≡ Turn k
+has-turn : (p : Sphere) (k : ℕ) → is_stopped p.role ≡ false → turn_against p (Actor.Thread k) ≡ None → (b : Cursor) → p.role ≡ Replay b → MayGo b k
 unfolding turn_against
 has-turn p k going turn b e =
-    turn-is b.now k (going-on p going b e) (ap (λ (r : Role). turn_in r p (Actor.Thread k)) (sym e) ∙ turn)
+    may_go b k p (going-on p going b e) (ap (λ (r : Role). turn_in r p (Actor.Thread k)) (sym e) ∙ turn)
 
 dma-has-turn : (p : Sphere) → is_stopped p.role ≡ false → turn_against p Actor.Dma ≡ None → (b : Cursor) → p.role ≡ Replay b → b.now ≡ TurnOfDma
 unfolding turn_against
@@ -112,20 +112,20 @@ piece-how How.Serial e h = true≢false (sym e)
 piece-how How.Overflow e h = cc
 piece-how How.Cut e h = cc
 
-own-pieces : (k total : ℕ) → pieces_of (Turn k) k total ≡ total
-own-pieces k total = ap (λ (b : Bool). cond b total 0) (eq-eqb k k refl)
-
-limit-is : (s k : ℕ) (b : Cursor) (t : Parts) → b.now ≡ Turn k → limit_of s (Replay b) k t ≡ max 1 (whole_limit b.log k t.commits - b.total)
+limit-is : (s k : ℕ) (b : Cursor) (t : Parts) → MayGo b k → limit_of s (Replay b) k t ≡ max 1 (whole_limit b.log k t.commits - b.total)
 unfolding limit_of
-limit-is s k b t turn =
-    ap (λ (n : ℕ). max 1 (whole_limit b.log k t.commits - n)) (ap (λ (now : TurnOrEnd). pieces_of now k b.total) turn ∙ own-pieces k b.total)
+limit-is s k b t may = ap (λ (n : ℕ). max 1 (whole_limit b.log k t.commits - n)) (own_pieces b k may)
 
 -- what the cursor says of thread k's turn, which is t
-turn-room : (n k : ℕ) (p : Sphere) (b : Cursor) (t : Parts) → IsSoundCursor n p.threads b → b.now ≡ Turn k → slice_get p.threads k ≡ Some t → b.total < whole_limit b.log k t.commits
-turn-room n k p b t cursor turn is =
-    let h = cursor.turn k turn in
-    let q : h.thread ≡ t = (let o : Some h.thread ≡ Some t = sym h.there ∙ is in cc) in
-    subst (λ (x : Parts). b.total < whole_limit b.log k x.commits) q h.room
+turn-room : (n k : ℕ) (p : Sphere) (b : Cursor) (t : Parts) → IsSoundCursor n p.threads b → MayGo b k → slice_get p.threads k ≡ Some t → b.total < whole_limit b.log k t.commits
+turn-room n k p b t cursor may is = elim may.turn [
+  | inl turn ↦ (
+      let h = cursor.turn k turn in
+      let q : h.thread ≡ t = (let o : Some h.thread ≡ Some t = sym h.there ∙ is in cc) in
+      subst (λ (x : Parts). b.total < whole_limit b.log k x.commits) q h.room
+      )
+  | inr joins ↦ subst (λ (m : ℕ). m < whole_limit b.log k t.commits) (sym (joins-whole b.strata k b.total joins)) (whole-positive b.log k t.commits cursor.log)
+]
 
 room-left : (n total whole limit : ℕ) → total < whole → limit ≡ max 1 (whole - total) → n < limit → total + n < whole
 room-left n total whole limit a e l = omega (arith, a, e, l)

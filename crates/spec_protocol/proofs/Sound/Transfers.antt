@@ -1,6 +1,6 @@
 -- What a DMA or an interrupt makes of a sound sphere is sound.
 use Rattle.std.proofs.Common.{◌≡◌, ℕ, suc, ◌%◌, ◌<◌, ◌≤◌, false, eqb, List, length, Option, Some, None, refl, sym, ap, subst, set, arith}
-use Rattle.std.specs.Prelude.{slice_get, nat_le}
+use Rattle.std.specs.Prelude.{slice_get, nat_le, option_map}
 use Rattle.std.proofs.Math.ListN.{length-set}
 use Rattle.std.proofs.lemmas.Bool.{true≢false, leb-true, and_parts}
 use Rattle.std.proofs.lemmas.Option.{none-some, slice_get_within}
@@ -22,12 +22,14 @@ use Rattle.spec_play.specs.declared.used.Used.{Used}
 use Rattle.spec_play.specs.Turns.{TurnOfDma}
 use Rattle.spec_play.specs.Verdicts.{serial_why}
 use Rattle.spec_play.specs.Transfers.{DmaVerdict, DmaGoes, DmaFails, is_for, transferred, dma_unless, dma_verdict}
+use Rattle.spec_strata.specs.Standing.{after_dma}
 use Rattle.spec_protocol.specs.machine.Spheres.{Recording, Cursor, Role, Plain, Record, Replay, Sphere, is_over, actor_of, most_in}
 use Rattle.spec_protocol.specs.machine.Commits.{MovedSphere, dma_as, live_dma, dma_log, dma_by_verdict, dma_in, dma_moved, role_raised, raised}
 use Rattle.spec_protocol.specs.machine.Placing.{replays}
 use Rattle.spec_protocol.specs.machine.Machine.{SphereSetup}
 use Rattle.spec_protocol.specs.promises.Sound.{IsDoneInOrder, AreSoundWords, IsSoundIf, IsSoundCursor, IsSoundLog, IsSoundRole, IsSoundThread, IsSoundSphere}
 use Rattle.spec_protocol.proofs.Invariants.Cores.{branch}
+use Rattle.spec_protocol.proofs.Moves.Joining.{none-mapped}
 use Rattle.spec_protocol.proofs.Sound.Words.{dma-sound}
 use Rattle.spec_protocol.proofs.Sound.Threads.{interrupted-thread}
 use Rattle.spec_protocol.proofs.Sound.Devices.{dma-few, dma-devices}
@@ -122,10 +124,12 @@ dma-verdict-sound s image now b (DmaFails why) devices p cursor turn sound goes 
 dma-verdict-sound s image now b (DmaGoes words) devices p cursor turn sound goes few d =
     let n = dma-position p.progress in
     let l = cursor.going (ap is_over turn) in
-    let done = done-dma b.log.mode b.log.order (position p.progress) p.threads (cursor.named Actor.Dma (ap actor_of turn)) cursor.done in
+    let done : b.strata ≡ None → IsDoneInOrder b.log.mode b.log.order (suc (position p.progress)) p.threads =
+    λ none. done-dma b.log.mode b.log.order (position p.progress) p.threads (cursor.named Actor.Dma none (ap actor_of turn)) (cursor.done none)
+    in
     dma-as-sound s image now _ words devices p sound goes.words_sound
-    (turned-sound b.log b.interval (with_dma p.progress) (with_dma_used b.used) p.threads cursor.log (omega (arith, n, l))
-    (subst (λ (m : ℕ). IsDoneInOrder b.log.mode b.log.order m p.threads) (sym n) done) cursor.inputs goes.among cursor.interrupts) few d
+    (turned-sound b.log b.interval (option_map after_dma b.strata) (with_dma p.progress) (with_dma_used b.used) p.threads cursor.log (omega (arith, n, l))
+    (λ none. subst (λ (m : ℕ). IsDoneInOrder b.log.mode b.log.order m p.threads) (sym n) (done (none-mapped after_dma b.strata none))) cursor.inputs goes.among cursor.interrupts) few d
 
 dma-in-sound : (s : ℕ) (image : SphereSetup) (now : ℕ) (role : Role) (devices : Devices) (p : Sphere) → length image.memory % 4 ≡ 0 → IsSoundRole s (position p.progress) p.threads role → ((b : Cursor) → role ≡ Replay b → b.now ≡ TurnOfDma) → IsSoundSphere s image now p → length p.threads ≤ most_in role
     → HaveByteInput devices → IfMoved s image (suc now) (dma_in role devices p)

@@ -1,5 +1,5 @@
 -- What a granted request makes of its sphere. The machine lets the words fly; the serial execution lays them at once.
-use Rattle.std.specs.Prelude.{ℕ, ◌+◌, Bool, true, false, List, [], ◌++◌, slice_set, Option, Some, None}
+use Rattle.std.specs.Prelude.{ℕ, ◌+◌, nat_lt, Bool, true, false, List, [], ◌++◌, insert, slice_set, Option, Some, None, option_map, if◌then◌else◌}
 use Rattle.dl_entry.specs.declared.End.{End}
 use Rattle.dl_entry.specs.declared.Request.{Request}
 use Rattle.dl_entry.specs.declared.Why.{Why}
@@ -17,12 +17,13 @@ use Rattle.spec_play.specs.Effects.{Effect, chunk_effect, serial_effect, dma_com
 use Rattle.spec_play.specs.Progress.{Progress, position, with_effect, with_dma, with_dma_used}
 use Rattle.spec_play.specs.declared.used.Used.{Used}
 use Rattle.spec_play.specs.declared.interval.Interval.{Interval}
-use Rattle.spec_play.specs.Turns.{TurnOrEnd, Ended, now_at}
+use Rattle.spec_play.specs.Turns.{TurnOrEnd, Turn, Ended, now_at, turn_of, at_end, has_left_over}
 use Rattle.spec_play.specs.Intervals.{now_in}
 use Rattle.spec_play.specs.Verdicts.{LogVerdict, Goes, Fails, chunk_verdict, serial_verdict}
 use Rattle.spec_play.specs.Transfers.{DmaVerdict, DmaGoes, DmaFails, dma_verdict}
 use Rattle.spec_play.specs.Plays.{with_threads}
 use Rattle.spec_play.specs.Recording.{noted, input_noted, dma_noted, interrupt_noted}
+use Rattle.spec_strata.specs.Standing.{Standing, head_standing, after_thread, after_dma, place_of, is_last}
 use Rattle.spec_engine.specs.declared.answers.How.{How}
 use Rattle.spec_protocol.specs.machine.Spheres.{Cursor, Role, Plain, Record, Replay, Sphere, most_in}
 
@@ -43,18 +44,31 @@ pub record MovedSphere : Type 0 where
 
 -- ---- whole commits of threads
 
-abbrev pub granted_as : Role → (thread : ℕ) → Effect → Devices → Sphere → MovedSphere
-granted_as role k e devices p =
+-- one more commit, of thread k: the last one; or in strata after those of the stratum that are of threads up to k
+abbrev pub with_commit : Option Standing → (thread : ℕ) → Effect → Progress → Progress
+with_commit None k e p = with_effect k e p
+with_commit (Some x) k e p =
+    record p {
+      commits = insert p.commits (place_of k x) e.commit;
+      last = if is_last k x then Some k else p.last;
+      request = e.request;
+    }
+
+abbrev pub granted_in : Option Standing → Role → (thread : ℕ) → Effect → Devices → Sphere → MovedSphere
+granted_in strata role k e devices p =
     record {
       outcome = Granted;
       sphere = record p {
         threads = with_threads k e p.threads;
-        progress = with_effect k e p.progress;
+        progress = with_commit strata k e p.progress;
         role = role;
       };
       words = e.words;
       devices = devices;
     }
+
+abbrev pub granted_as : Role → (thread : ℕ) → Effect → Devices → Sphere → MovedSphere
+granted_as role k e devices p = granted_in None role k e devices p
 
 -- only the end is noted
 abbrev pub diverged : Cursor → Why → Devices → Sphere → MovedSphere
@@ -67,19 +81,30 @@ diverged b why devices p =
     }
 
 -- the cursor after so many whole commits of a log, if in the log's own play it would now be this turn
-abbrev pub between : LogParts → Option Interval → (commits : ℕ) → Used → TurnOrEnd → Cursor
-between log i n used now =
-    record { log = log; interval = i; used = used; now = now_in i log.count n now; total = 0; loads = [] }
+abbrev pub between : LogParts → Option Interval → Option Standing → (commits : ℕ) → Used → TurnOrEnd → Cursor
+between log i strata n used now =
+    record { log = log; interval = i; strata = strata; used = used; now = now_in i log.count n now; total = 0; loads = [] }
+
+-- whose turn it is: in strata that of their head
+abbrev pub now_by : Option Standing → LogParts → Progress → Used → List Parts → TurnOrEnd
+now_by None log progress used threads = now_at log progress used threads
+now_by (Some x) log progress used threads =
+    if nat_lt (position progress) log.count
+    then turn_of (position progress) threads (head_standing x)
+    else at_end (position progress) (has_left_over log used threads)
 
 -- after a whole commit that left this progress and these threads
-abbrev pub turned : LogParts → Option Interval → Progress → Used → List Parts → Cursor
-turned log i progress used threads = between log i (position progress) used (now_at log progress used threads)
+abbrev pub turned : LogParts → Option Interval → Option Standing → Progress → Used → List Parts → Cursor
+turned log i strata progress used threads =
+    between log i strata (position progress) used (now_by strata log progress used threads)
 
 -- as the log says
 abbrev pub by_verdict : Cursor → (thread : ℕ) → LogVerdict → Devices → Sphere → MovedSphere
 by_verdict b k (Fails why) devices p = diverged b why devices p
 by_verdict b k (Goes e u) devices p =
-    granted_as (Replay (turned b.log b.interval (with_effect k e p.progress) u (with_threads k e p.threads))) k e devices p
+    let strata = option_map (after_thread k) b.strata in
+    let progress = with_commit b.strata k e p.progress in
+    granted_in b.strata (Replay (turned b.log b.interval strata progress u (with_threads k e p.threads))) k e devices p
 
 -- ---- chunks
 
@@ -94,14 +119,14 @@ is_piece How.Cut = true
 abbrev pub joined : Cursor → Run → Run
 joined b r = record r { loads = b.loads ++ r.loads; n = b.total + r.n }
 
--- the thread's state moves on; the reservation and the turn stay
+-- the thread's state moves on; its reservation stays, and the turn is its own until the commit is whole
 abbrev pub piece_moved : Cursor → (thread : ℕ) → Run → Devices → Sphere → MovedSphere
 piece_moved b k r devices p =
     record {
       outcome = Piece;
       sphere = record p {
         threads = slice_set p.threads k r.thread;
-        role = Replay (record b { total = b.total + r.n; loads = b.loads ++ r.loads });
+        role = Replay (record b { now = Turn k; total = b.total + r.n; loads = b.loads ++ r.loads });
       };
       words = r.words;
       devices = devices;
@@ -174,7 +199,8 @@ dma_log log devices p (Some request) =
 abbrev pub dma_by_verdict : Cursor → DmaVerdict → Devices → Sphere → MovedSphere
 dma_by_verdict b (DmaFails why) devices p = diverged b why devices p
 dma_by_verdict b (DmaGoes words) devices p =
-    dma_as (Replay (turned b.log b.interval (with_dma p.progress) (with_dma_used b.used) p.threads)) words devices p
+    let strata = option_map after_dma b.strata in
+    dma_as (Replay (turned b.log b.interval strata (with_dma p.progress) (with_dma_used b.used) p.threads)) words devices p
 
 abbrev pub dma_in : Role → Devices → Sphere → Option MovedSphere
 dma_in Plain devices p = live_dma Plain devices p p.progress.request

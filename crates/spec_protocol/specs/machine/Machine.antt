@@ -1,5 +1,5 @@
 -- The machine: how it starts, and what any event answers and leaves.
-use Rattle.std.specs.Prelude.{ℕ, zero, suc, ◌%◌, List, [], ◌∷◌, ◌++◌, length, map, replicate, Option, Some, None}
+use Rattle.std.specs.Prelude.{ℕ, zero, suc, ◌%◌, List, [], ◌∷◌, ◌++◌, length, map, replicate, Option, Some, None, option_map}
 use Rattle.dl_entry.specs.declared.Point.{Point}
 use Rattle.dl_entry.specs.declared.ReplyName.{ReplyName}
 use Rattle.dl_entry.specs.Counts.{no_counts, counted}
@@ -14,6 +14,10 @@ use Rattle.spec_play.specs.declared.interval.Interval.{Interval}
 use Rattle.spec_play.specs.Plays.{Played, plays}
 use Rattle.spec_play.specs.Intervals.{begun, commits_in}
 use Rattle.spec_play.specs.Epochs.{Epochs}
+use Rattle.spec_strata.specs.declared.stratum.Stratum.{Stratum}
+use Rattle.spec_strata.specs.declared.strata.StrataParts.{StrataParts}
+use Rattle.spec_strata.specs.Canonical.{canonical}
+use Rattle.spec_strata.specs.Standing.{Standing, stratum_begun}
 use Rattle.spec_protocol.specs.declared.event.Event.{Event}
 use Rattle.spec_protocol.specs.declared.reply.Reply.{Reply}
 use Rattle.spec_protocol.specs.machine.Spheres.{Recording, Role, Plain, Record, Replay, Sphere}
@@ -38,14 +42,20 @@ pub record RecordSetup : Type 0 where
   pub mode : ModeName
   pub epochs : Option EpochSetup
 
--- what is replayed: the commits of a log, or those of an interval
+-- what is replayed: the commits of a log, or those of an interval; and in which runs they may be done in another order, if
+-- there are such runs
 pub record ReplaySetup : Type 0 where
   pub log : LogParts
   pub interval : Option Interval
+  pub strata : Option (List Stratum)
 
 -- all commits of a log
 abbrev pub all_of : LogParts → ReplaySetup
-all_of log = record { log = log; interval = None }
+all_of log = record { log = log; interval = None; strata = None }
+
+-- the commits of strata, which are those of their log
+abbrev pub in_strata : StrataParts → ReplaySetup
+in_strata v = record { log = canonical v; interval = None; strata = Some v.strata }
 
 -- what a plan says of a sphere: it is plain, or recorded, or replayed
 pub data RoleSetup : Type 0 where
@@ -86,6 +96,10 @@ abbrev pub last_played : SphereSetup → ReplaySetup → Played
 last_played image asked =
     plays asked.log (first_played image asked) (commits_in asked.log.count asked.interval)
 
+-- nothing of the first stratum is done
+abbrev pub first_standing : ReplaySetup → Option Standing
+first_standing asked = option_map (λ strata. stratum_begun strata 0) asked.strata
+
 -- a replayed sphere where its play begins
 abbrev pub replay_at : ReplaySetup → Played → Sphere
 replay_at asked y =
@@ -93,7 +107,7 @@ replay_at asked y =
       memory = y.memory;
       threads = y.threads;
       progress = y.progress;
-      role = Replay (between asked.log asked.interval (position y.progress) y.used y.now);
+      role = Replay (between asked.log asked.interval (first_standing asked) (position y.progress) y.used y.now);
     }
 
 -- ---- a sphere

@@ -1,5 +1,5 @@
 -- A sphere: its memory, its threads, how far it has come, and its role.
-use Rattle.std.specs.Prelude.{ℕ, ◌-◌, Bool, true, false, max, nat_eq, nat_lt, List, [], map, Option, Some, None, option_map, if◌then◌else◌}
+use Rattle.std.specs.Prelude.{ℕ, ◌-◌, Bool, true, false, ◌&&◌, not, max, nat_eq, nat_lt, List, [], map, Option, Some, None, option_map, if◌then◌else◌}
 use Rattle.dl_entry.specs.declared.Actor.{Actor}
 use Rattle.dl_entry.specs.Numbers.{plain_threads}
 use Rattle.spec_isa.specs.declared.thread.Parts.{Parts}
@@ -14,12 +14,14 @@ use Rattle.spec_play.specs.declared.used.Used.{Used}
 use Rattle.spec_play.specs.declared.interval.Interval.{Interval}
 use Rattle.spec_play.specs.Turns.{TurnOrEnd, Turn, TurnOfDma, Ended}
 use Rattle.spec_play.specs.Epochs.{Epochs}
+use Rattle.spec_strata.specs.Standing.{Standing, has_chunks_left}
 
--- a replayed sphere's log, which of its commits are replayed if a plan says so, how far it is in it, and of the pieces of
--- the present commit the instructions and the loads
+-- a replayed sphere's log; which of its commits are replayed, if a plan says so, or in which strata they are; how far the
+-- replay is in it; and of the pieces of the present commit the instructions and the loads
 pub record Cursor : Type 0 where
   pub log : LogParts
   pub interval : Option Interval
+  pub strata : Option Standing
   pub used : Used
   pub now : TurnOrEnd
   pub total : ℕ
@@ -86,9 +88,16 @@ other_than (Actor.Thread k) (Some Actor.Dma) = Some Actor.Dma
 other_than Actor.Dma (Some (Actor.Thread j)) = Some (Actor.Thread j)
 other_than Actor.Dma (Some Actor.Dma) = None
 
+-- a thread with chunks left in the present stratum may commit before those whose turn it is, unless a part of a commit is done
+abbrev pub joins_in : Option Standing → (thread total : ℕ) → Bool
+joins_in None k total = false
+joins_in (Some x) k total = nat_eq total 0 && has_chunks_left x.strata x.done k
+
 -- whether the actor waits for its turn: threads do, and in a replay DMAs too
 abbrev pub takes_turns : Actor → Role → Bool
-takes_turns (Actor.Thread k) role = true
+takes_turns (Actor.Thread k) Plain = true
+takes_turns (Actor.Thread k) (Record recording) = true
+takes_turns (Actor.Thread k) (Replay b) = not (joins_in b.strata k b.total)
 takes_turns Actor.Dma Plain = false
 takes_turns Actor.Dma (Record recording) = false
 takes_turns Actor.Dma (Replay b) = true

@@ -1,6 +1,6 @@
 -- What is promised of replays: that nothing of a sphere comes between two pieces of a commit, and nothing after its end; and
 -- that a piece counts as no commit.
-use Rattle.std.specs.Prelude.{◌≡◌, ◌≢◌, ℕ, ◌<◌, true, false, List, Some}
+use Rattle.std.specs.Prelude.{◌≡◌, ◌≢◌, ℕ, ◌<◌, true, false, List, Some, None}
 use Rattle.spec_play.specs.Turns.{Turn}
 use Rattle.spec_engine.specs.declared.answers.How.{How}
 use Rattle.spec_protocol.specs.declared.event.Event.{Event}
@@ -43,11 +43,13 @@ StoppedSpheresStay =
 
 -- ---- counted
 
--- the sphere, which was p and is q, has the same commits, last thread and request, and whose turn it was, it is
-pub record CountsNothing (b : Cursor) (p q : Sphere) : Type 0 where
+-- the sphere, which was p and is q, has the same commits, last thread and request, and it is thread k's turn; except in strata,
+-- where others may commit before those whose turn it is, it was its turn before
+pub record CountsNothing (b : Cursor) (k : ℕ) (p q : Sphere) : Type 0 where
   pub cursor : Cursor
   pub role : q.role ≡ Replay cursor
-  pub turn : cursor.now ≡ b.now
+  pub turn : cursor.now ≡ Turn k
+  pub same : b.strata ≡ None → cursor.now ≡ b.now
   pub progress : q.progress ≡ p.progress
 
 -- so it is after a chunk of a replay that was closed by want of room or by Cut
@@ -57,4 +59,4 @@ PiecesCountNothing =
     → let w = after s es in (sphere_at w i).role ≡ Replay b
     → (e : Event) (m : Move) (k : ℕ) (how : How) (n limit : ℕ) → (happens w e).move ≡ Some m
     → m.sphere ≡ i → m.what ≡ OfChunk k how n limit → is_piece how ≡ true
-    → CountsNothing b (sphere_at w i) (sphere_at (happens w e).world i)
+    → CountsNothing b k (sphere_at w i) (sphere_at (happens w e).world i)

@@ -19,13 +19,17 @@ use Rattle.spec_play.specs.Progress.{position}
 use Rattle.spec_play.specs.Intervals.{IsWithinIf}
 use Rattle.spec_play.specs.Turns.{Turn}
 use Rattle.spec_play.specs.Verdicts.{interrupt_at}
+use Rattle.spec_strata.specs.declared.stratum.Stratum.{Stratum}
+use Rattle.spec_strata.specs.declared.strata.StrataParts.{StrataParts}
+use Rattle.spec_strata.specs.Strata.{HaveSome}
+use Rattle.spec_strata.specs.OnImages.{IsParallelOn}
 use Rattle.spec_engine.specs.Signatures.{is_size}
 use Rattle.spec_engine.specs.Flights.{Flight, AreInside, at}
 use Rattle.spec_engine.specs.Chunks.{Chunk}
 use Rattle.spec_protocol.specs.declared.event.Event.{Event}
 use Rattle.spec_protocol.specs.machine.Spheres.{Cursor, Role, Plain, Record, Replay, Sphere, is_over, actor_of, whole_limit, most_in}
 use Rattle.spec_protocol.specs.machine.World.{Occupant, World, moment, sphere_at}
-use Rattle.spec_protocol.specs.machine.Machine.{EpochSetup, RecordSetup, RoleSetup, IsPlain, IsRecorded, IsReplayed, SphereSetup, Setup, happens}
+use Rattle.spec_protocol.specs.machine.Machine.{EpochSetup, RecordSetup, ReplaySetup, in_strata, RoleSetup, IsPlain, IsRecorded, IsReplayed, SphereSetup, Setup, happens}
 use Rattle.spec_protocol.specs.promises.Promises.{AreSizesKept, after}
 use Rattle.spec_protocol.specs.promises.Invariants.{IsGood}
 
@@ -58,6 +62,17 @@ IsRecordable s asked =
     × IsStandard asked.version s
     × AreEpochsIf asked.version asked.epochs
 
+-- strata are replayed whole, on an image on which they are parallel, and each has commits
+pub record AreReplayable (memory : List ℕ) (entry : ℕ) (asked : ReplaySetup) : Type 0 where
+  pub strata : StrataParts
+  pub asks : asked ≡ in_strata strata
+  pub some : HaveSome strata.strata
+  pub parallel : IsParallelOn strata memory entry
+
+abbrev pub AreReplayableIf : (memory : List ℕ) → (entry : ℕ) → ReplaySetup → Option (List Stratum) → Type 0
+AreReplayableIf memory entry asked None = Unit {0}
+AreReplayableIf memory entry asked (Some strata) = AreReplayable memory entry asked
+
 -- what is replayed is a log, and an interval is within it
 abbrev pub IsRole : (s : ℕ) → RoleSetup → Type 0
 IsRole s IsPlain = Unit {0}
@@ -73,6 +88,9 @@ pub record IsImage (s : ℕ) (image : SphereSetup) : Type 0 where
   pub aligned : image.entry % 4 ≡ 0
   pub inside : image.entry < length image.memory
   pub role : IsRole s image.role
+  pub strata : (asked : ReplaySetup)
+      → image.role ≡ IsReplayed asked
+      → AreReplayableIf image.memory image.entry asked asked.strata
 
 pub record IsWithinLimits (s : Setup) : Type 0 where
   pub cores : AreFew s.cores
@@ -183,14 +201,16 @@ pub record HasThread (b : Cursor) (threads : List Parts) (k : ℕ) : Type 0 wher
   pub live : is_live thread ≡ true
   pub room : b.total < whole_limit b.log k thread.commits
 
--- a replay after so many commits: it has no more than its log, and before its end fewer, in the log's order; no more of the
--- log is used than there is, of its interrupts those that are due; and pieces load no more often than they run instructions
+-- a replay after so many commits: it has no more than its log, and before its end fewer, in the log's order unless it is in
+-- strata; no more of the log is used than there is, of its interrupts those that are due; and pieces load no more often than
+-- they run instructions
 pub record IsSoundCursor (commits : ℕ) (threads : List Parts) (b : Cursor) : Type 0 where
   pub log : IsLog b.log
   pub within : commits ≤ b.log.count
   pub going : is_over b.now ≡ false → commits < b.log.count
-  pub done : IsDoneInOrder b.log.mode b.log.order commits threads
+  pub done : b.strata ≡ None → IsDoneInOrder b.log.mode b.log.order commits threads
   pub named : (actor : Actor)
+      → b.strata ≡ None
       → actor_of b.now ≡ Some actor
       → IsNamed b.log.mode b.log.order commits actor
   pub inputs : b.used.inputs ≤ length b.log.inputs

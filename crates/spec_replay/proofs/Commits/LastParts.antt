@@ -24,7 +24,7 @@ use Rattle.spec_protocol.proofs.Moves.Threads.{run-keeps}
 use Rattle.spec_protocol.proofs.PlayingBack.Verdicts.{run-first, run-stops}
 use Rattle.spec_protocol.proofs.PlayingBack.Sizes.{size_by, size-is, limit_by, limit-is, not-serial}
 use Rattle.spec_replay.proofs.Commits.Judging.{AreAlike, chunks-alike}
-use Rattle.spec_replay.proofs.Commits.Pieces.{IsPart, part-is, part-limit, piece-reaches}
+use Rattle.spec_replay.proofs.Commits.Pieces.{IsPart, IsAtCommit, part-is, part-limit, at-commit, piece-reaches}
 use Rattle.spec_replay.proofs.Commits.Done.{Reaches, HasTurn, commit-reaches}
 
 -- ---- the last part
@@ -39,7 +39,7 @@ play_says log y k t size = chunk_verdict log y.progress y.used k (run y.memory t
 turn_says : (log : LogParts) (y : Played) (k : ℕ) (t : Parts) (n : ℕ) → 0 < n → (run y.memory t n).n ≡ n → thread_verdict log y k t (next_kind t y.memory) ≡ play_says log y k t (size_or_standard log k t.commits)
 turn_says log y k t n some ran = ap (thread_verdict log y k t) (run-first y.memory t n some ran)
 
-not_limit : (how : How) → is_piece how ≡ true → how ≢ How.Limit
+pub not_limit : (how : How) → is_piece how ≡ true → how ≢ How.Limit
 not_limit How.Limit e = absurd (true≢false (sym e))
 not_limit How.Serial e = absurd (true≢false (sym e))
 not_limit How.Overflow e = λ h. cc
@@ -116,6 +116,7 @@ module _ (asked : ReplaySetup) (start y : Played) (p : Sphere) (b : Cursor) (k :
   -- a chunk of the thread leaves the sphere in its log's play
   pub chunk-reaches : (z : Numbers) (u : Parts) (how : How) (n limit : ℕ) (devices : Devices) → slice_get p.threads k ≡ Some u → ChunkFits z p k u how n limit → Reaches asked start (laid (replayed_chunk (is_piece how) b k (run p.memory u n) devices p))
   chunk-reaches z u how n limit devices there f =
-      let part : IsPart y k t u p b n (run p.memory u n) = part-is asked start y p b k t h u n there f.ran in
-      let limited : b.total + limit ≡ whole_limit asked.log k t.commits = part-limit asked start y p b k t h z u limit part.commits (f.replayed (ap replays h.beside.role)) in
+      let at_ : IsAtCommit asked.log y p b k t = at-commit asked start y p b k t h in
+      let part : IsPart y k t u p b n (run p.memory u n) = part-is asked.log y p b k t at_ u n there f.ran in
+      let limited : b.total + limit ≡ whole_limit asked.log k t.commits = part-limit asked.log y p b k t at_ z u limit part.commits (f.replayed (ap replays h.beside.role)) in
       by_piece z u how n limit devices (is_piece how) refl part f limited

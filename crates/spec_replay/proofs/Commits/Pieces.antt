@@ -1,7 +1,6 @@
 -- A chunk of a replayed sphere as a part of its play's next commit; and a piece, which moves the sphere on in it.
-use Rattle.std.proofs.Common.{◌≡◌, ℕ, ◌+◌, ◌-◌, ◌<◌, inl, Bool, cond, List, ◌++◌, Some, refl, sym, ap, ◌∙◌, subst, arith, set}
+use Rattle.std.proofs.Common.{◌≡◌, ℕ, ◌+◌, ◌-◌, ◌<◌, inl, List, ◌++◌, Some, refl, sym, ap, ◌∙◌, subst, arith, set}
 use Rattle.std.specs.Prelude.{slice_get, max}
-use Rattle.std.proofs.lemmas.Bool.{eq-eqb}
 use Rattle.spec_isa.specs.declared.thread.Parts.{Parts}
 use Rattle.spec_isa.specs.declared.thread.Load.{Load}
 use Rattle.spec_isa.specs.Words.{lays}
@@ -9,12 +8,14 @@ use Rattle.spec_isa.specs.Runs.{Run, run}
 use Rattle.spec_kernel.specs.Devices.{Devices}
 use Rattle.spec_play.specs.Turns.{TurnOrEnd, Turn}
 use Rattle.spec_play.specs.Plays.{Played}
-use Rattle.spec_protocol.specs.machine.Spheres.{Cursor, Role, Sphere, whole_limit, pieces_of, limit_in, limit_of}
+use Rattle.spec_log.specs.declared.LogParts.{LogParts}
+use Rattle.spec_protocol.specs.machine.Spheres.{Cursor, Role, Replay, Sphere, whole_limit, pieces_of, limit_in, limit_of}
 use Rattle.spec_protocol.specs.machine.Commits.{piece_moved}
 use Rattle.spec_protocol.specs.machine.World.{Numbers}
 use Rattle.spec_protocol.specs.machine.Machine.{ReplaySetup}
 use Rattle.spec_protocol.specs.machine.Serial.{laid}
 use Rattle.spec_protocol.proofs.Moves.Granted.{get-set_same}
+use Rattle.spec_protocol.proofs.Moves.Joining.{pieces_own}
 use Rattle.spec_protocol.proofs.Moves.Threads.{run-keeps}
 use Rattle.spec_replay.specs.Following.{IsMovedOn, StandsAt, Follows}
 use Rattle.spec_replay.proofs.Commits.Joining.{IsJoined, rest_of, run-joined}
@@ -34,16 +35,19 @@ pub record IsPart (y : Played) (k : ℕ) (t u : Parts) (p : Sphere) (b : Cursor)
 
 -- ---- limits
 
-pieces_own : (k total : ℕ) → pieces_of (Turn k) k total ≡ total
-pieces_own k total = ap (λ (b : Bool). cond b total 0) (eq-eqb k k refl)
-
 limit_left : (a w : ℕ) → a < w → a + max 1 (w - a) ≡ w
 limit_left a w l = omega arith
 
--- ---- within a turn
+-- ---- within a commit
 
--- it is the turn of thread k, which is t in the play
-module _ (asked : ReplaySetup) (start y : Played) (p : Sphere) (b : Cursor) (k : ℕ) (t : Parts) (h : HasTurn asked start y p b k t) where
+-- the replay is at a commit of thread k, which is t in the play; the pieces that are done are the thread's own
+pub record IsAtCommit (log : LogParts) (y : Played) (p : Sphere) (b : Cursor) (k : ℕ) (t : Parts) : Type 0 where
+  pub role : p.role ≡ Replay b
+  pub same_log : b.log ≡ log
+  pub own : pieces_of b.now k b.total ≡ b.total
+  pub moved : IsMovedOn log y k t p b
+
+module _ (log : LogParts) (y : Played) (p : Sphere) (b : Cursor) (k : ℕ) (t : Parts) (h : IsAtCommit log y p b k t) where
   part_from : (u : Parts) (n : ℕ) → u ≡ (run y.memory t b.total).thread → (rest_of y.memory (run y.memory t b.total) n).n ≡ n → IsPart y k t u p b n (rest_of y.memory (run y.memory t b.total) n)
   part_from u n is ran =
       let r : Run = run y.memory t b.total in
@@ -57,32 +61,37 @@ module _ (asked : ReplaySetup) (start y : Played) (p : Sphere) (b : Cursor) (k :
         loads = ap (λ (ls : List Load). ls ++ (rest_of y.memory r n).loads) h.moved.loads ∙ sym j.loads;
       }
 
+  -- what the thread runs next goes on from the pieces
+  thread-is : (u : Parts) → slice_get p.threads k ≡ Some u → u ≡ (run y.memory t b.total).thread
+  thread-is u there =
+      let r : Run = run y.memory t b.total in
+      let same : Some u ≡ Some r.thread = sym there ∙ ap (λ (ts : List Parts). slice_get ts k) h.moved.threads ∙ get-set_same y.threads k r.thread t h.moved.is in cc
+
+  pub rest-is : (u : Parts) (n : ℕ) → slice_get p.threads k ≡ Some u → rest_of y.memory (run y.memory t b.total) n ≡ run p.memory u n
+  rest-is u n there = (λ i. run (sym h.moved.memory i) (sym (thread-is u there) i) n)
+
   -- what a chunk of the thread ran is a part of the play's next commit
   pub part-is : (u : Parts) (n : ℕ) → slice_get p.threads k ≡ Some u → (run p.memory u n).n ≡ n → IsPart y k t u p b n (run p.memory u n)
   part-is u n there ran =
-      let r : Run = run y.memory t b.total in
-      let is : u ≡ r.thread = (let same : Some u ≡ Some r.thread = sym there ∙ ap (λ (ts : List Parts). slice_get ts k) h.moved.threads ∙ get-set_same y.threads k r.thread t h.moved.is in cc) in
-      let same : rest_of y.memory r n ≡ run p.memory u n = (λ i. run (sym h.moved.memory i) (sym is i) n) in
-      subst (IsPart y k t u p b n) same (part_from u n is (ap (λ (x : Run). x.n) same ∙ ran))
+      let same : rest_of y.memory (run y.memory t b.total) n ≡ run p.memory u n = rest-is u n there in
+      subst (IsPart y k t u p b n) same (part_from u n (thread-is u there) (ap (λ (x : Run). x.n) same ∙ ran))
 
   -- ---- the limit of a part
 
   -- the instructions of the pieces and the limit of a new part are together the limit of the commit
-  pub part-limit : (z : Numbers) (u : Parts) (limit : ℕ) → u.commits ≡ t.commits → limit ≡ limit_of z.s p.role k u → b.total + limit ≡ whole_limit asked.log k t.commits
+  pub part-limit : (z : Numbers) (u : Parts) (limit : ℕ) → u.commits ≡ t.commits → limit ≡ limit_of z.s p.role k u → b.total + limit ≡ whole_limit log k t.commits
   unfolding limit_of
   part-limit z u limit commits limited =
-      let turn : b.now ≡ Turn k = h.same ∙ h.turn in
-      let l : limit ≡ max 1 (whole_limit asked.log k t.commits - b.total) =
-      limited ∙ ap (λ (r : Role). limit_in r z.s k u.commits) h.beside.role
-      ∙ (λ i. max 1 (whole_limit (h.beside.same_log i) k (commits i) - pieces_of (turn i) k b.total))
-      ∙ ap (λ (n : ℕ). max 1 (whole_limit asked.log k t.commits - n)) (pieces_own k b.total)
+      let l : limit ≡ max 1 (whole_limit log k t.commits - b.total) =
+      limited ∙ ap (λ (r : Role). limit_in r z.s k u.commits) h.role
+      ∙ (λ i. max 1 (whole_limit (h.same_log i) k (commits i) - h.own i))
       in
-      ap (λ (n : ℕ). b.total + n) l ∙ limit_left b.total (whole_limit asked.log k t.commits) h.moved.within
+      ap (λ (n : ℕ). b.total + n) l ∙ limit_left b.total (whole_limit log k t.commits) h.moved.within
 
   -- ---- a piece
 
-  moved_piece : (u : Parts) (n : ℕ) (r : Run) (devices : Devices) → IsPart y k t u p b n r → b.total + n < whole_limit asked.log k t.commits
-      → IsMovedOn asked.log y k t (laid (piece_moved b k r devices p)) (record b { total = b.total + r.n; loads = b.loads ++ r.loads })
+  pub moved_piece : (u : Parts) (n : ℕ) (r : Run) (devices : Devices) → IsPart y k t u p b n r → b.total + n < whole_limit log k t.commits
+      → IsMovedOn log y k t (laid (piece_moved b k r devices p)) (record b { now = Turn k; total = b.total + r.n; loads = b.loads ++ r.loads })
   moved_piece u n r devices part within =
       let whole : Run = run y.memory t (b.total + n) in
       let e : run y.memory t (b.total + r.n) ≡ whole = ap (λ (x : ℕ). run y.memory t (b.total + x)) part.size in
@@ -96,10 +105,23 @@ module _ (asked : ReplaySetup) (start y : Played) (p : Sphere) (b : Cursor) (k :
         within = (let l = part.size in omega arith);
       }
 
+-- ---- within a turn
+
+-- it is the turn of thread k, which is t in the play
+module _ (asked : ReplaySetup) (start y : Played) (p : Sphere) (b : Cursor) (k : ℕ) (t : Parts) (h : HasTurn asked start y p b k t) where
+  pub at-commit : IsAtCommit asked.log y p b k t
+  at-commit =
+      record {
+        role = h.beside.role;
+        same_log = h.beside.same_log;
+        own = ap (λ (now : TurnOrEnd). pieces_of now k b.total) (h.same ∙ h.turn) ∙ pieces_own k b.total;
+        moved = h.moved;
+      }
+
   -- a piece leaves the sphere in its log's play
   pub piece-reaches : (u : Parts) (n : ℕ) (r : Run) (devices : Devices) → IsPart y k t u p b n r → b.total + n < whole_limit asked.log k t.commits → Reaches asked start (laid (piece_moved b k r devices p))
   piece-reaches u n r devices part within =
-      let c : Cursor = record b { total = b.total + r.n; loads = b.loads ++ r.loads } in
+      let c : Cursor = record b { now = Turn k; total = b.total + r.n; loads = b.loads ++ r.loads } in
       let q : Sphere = laid (piece_moved b k r devices p) in
       let follows : Follows asked y q = record {
         cursor = c;
@@ -108,12 +130,13 @@ module _ (asked : ReplaySetup) (start y : Played) (p : Sphere) (b : Cursor) (k :
         same_interval = h.beside.same_interval;
         progress = h.beside.progress;
         used = h.beside.used;
-        now = inl h.same;
-        ended = λ how e. h.same ∙ e;
-        state = subst (λ (x : TurnOrEnd). StandsAt asked.log y x q c) (sym h.turn) (t, moved_piece u n r devices part within);
+        now = inl (sym h.turn);
+        ended = λ how e. sym h.turn ∙ e;
+        state = subst (λ (x : TurnOrEnd). StandsAt asked.log y x q c) (sym h.turn) (t, moved_piece asked.log y p b k t at-commit u n r devices part within);
       }
       in
       record {
         follows = subst (λ (z : Played). Follows asked z q) h.at_ follows;
         within = (let l = h.room in omega arith);
+        in_order = h.beside.in_order;
       }

@@ -32,7 +32,7 @@ set_twice (z ∷ zs) (suc k) x y = ap (λ (us : List _). z ∷ us) (set_twice zs
 -- ---- without pieces
 
 -- if no piece is done, what is moved on is the play's state itself
-moved_whole : (log : LogParts) (y : Played) (k : ℕ) (p : Sphere) (b : Cursor) → 0 < log.s → Lives y.threads k → IsWhole y p b → StandsAt log y (Turn k) p b
+pub moved_whole : (log : LogParts) (y : Played) (k : ℕ) (p : Sphere) (b : Cursor) → 0 < log.s → Lives y.threads k → IsWhole y p b → StandsAt log y (Turn k) p b
 moved_whole log y k p b s l w = (
   l.thread,
   rw w.total

@@ -80,8 +80,8 @@ two_agree asked start p q b c k l =
 
 -- two replays of the same log on the same image agree
 pub replays_alike : ReplaysAgree
-replays_alike image asked s z es fs i j p q b c x w role other =
+replays_alike image asked s z es fs i j p q b c x w none role other =
     let start : Played = first_played image asked in
     two_agree asked start p q b c
-    (reached asked start p b (is-start image asked) role (replays_reach image asked s es i p x))
-    (reached asked start q c (is-start image asked) other (replays_reach image asked z fs j q w))
+    (reached asked start p b (is-start image asked) role (replays_reach image asked s es i p x none))
+    (reached asked start q c (is-start image asked) other (replays_reach image asked z fs j q w none))

@@ -21,16 +21,18 @@ use Rattle.spec_protocol.specs.machine.Asking.{is_short}
 use Rattle.spec_protocol.specs.machine.Machine.{ReplaySetup}
 use Rattle.spec_protocol.specs.machine.Serial.{SerialState, laid, do_moved, do_serial, do_dma}
 use Rattle.spec_protocol.specs.machine.Moves.{move_chunk, do_what, FitsChunk, SerialFits, FitsSerial, DmaFits, FitsWhat}
-use Rattle.spec_protocol.proofs.Moves.Granted.{get-set_same, turn-is}
+use Rattle.spec_protocol.proofs.Moves.Granted.{get-set_same}
+use Rattle.spec_protocol.proofs.Moves.Joining.{MayGo, may_go, turn_in_order}
 use Rattle.spec_protocol.proofs.Moves.Transfers.{dma-turn_is}
 use Rattle.spec_protocol.proofs.PlayingBack.Sizes.{serial-turn}
 use Rattle.spec_replay.specs.Following.{IsMovedOn, StandsAt, EndsWithin, Follows}
 use Rattle.spec_replay.proofs.Intervals.{commits_of, now_as, IsStart, room-left}
 use Rattle.spec_replay.proofs.Commits.Standing.{set_here}
 use Rattle.spec_replay.proofs.Commits.Judging.{alike_same}
-use Rattle.spec_replay.proofs.Commits.Done.{done_in, Reaches, Beside, HasTurn, commit-reaches, transfer-reaches}
+use Rattle.spec_replay.proofs.Commits.Done.{done_in, InOrder, Reaches, Beside, HasTurn, commit-reaches, transfer-reaches}
 use Rattle.spec_replay.proofs.Commits.LastParts.{chunk-reaches}
 use Rattle.spec_protocol.proofs.Replays.Pieces.{no_raise}
+use Rattle.spec_replay.proofs.Replays.Keeping.{Stands}
 
 -- ---- whose turn it is
 
@@ -46,12 +48,12 @@ record Going (asked : ReplaySetup) (y : Played) (p : Sphere) (b : Cursor) (now :
   turn : now_as asked y ≡ now
   state : StandsAt asked.log y now p b
 
-going_at : (asked : ReplaySetup) (y : Played) (p : Sphere) (now : TurnOrEnd) → 0 < asked.log.s → (f : Follows asked y p) → is_over f.cursor.now ≡ false → f.cursor.now ≡ now → Going asked y p f.cursor now
-going_at asked y p now s f going is =
+going_at : (asked : ReplaySetup) (y : Played) (p : Sphere) (now : TurnOrEnd) → 0 < asked.log.s → (f : Follows asked y p) → InOrder p.role → is_over f.cursor.now ≡ false → f.cursor.now ≡ now → Going asked y p f.cursor now
+going_at asked y p now s f in_order going is =
     let same : f.cursor.now ≡ now_as asked y = goes_with asked y f.cursor f.now going in
     let turn : now_as asked y ≡ now = sym same ∙ is in
     record {
-      beside = record { role = f.role; same_log = f.same_log; same_interval = f.same_interval; progress = f.progress; used = f.used; standard = s };
+      beside = record { role = f.role; same_log = f.same_log; same_interval = f.same_interval; in_order = subst InOrder f.role in_order; progress = f.progress; used = f.used; standard = s };
       same = same;
       turn = turn;
       state = subst (λ (n : TurnOrEnd). StandsAt asked.log y n p f.cursor) turn f.state;
@@ -61,10 +63,13 @@ not_over : (r : Role) (b : Cursor) → r ≡ Replay b → is_stopped r ≡ false
 not_over r b role going = ap is_stopped (sym role) ∙ going
 
 -- a replay that another thread's turn doesn't hold up has this thread's turn
-pub turn_of_thread : (p : Sphere) (b : Cursor) (k : ℕ) → p.role ≡ Replay b → is_stopped p.role ≡ false → turn_against p (Actor.Thread k) ≡ None → b.now ≡ Turn k
+pub may-go : (p : Sphere) (b : Cursor) (k : ℕ) → p.role ≡ Replay b → is_stopped p.role ≡ false → turn_against p (Actor.Thread k) ≡ None → MayGo b k
 unfolding turn_against
-turn_of_thread p b k role going free =
-    turn-is b.now k (not_over p.role b role going) (ap (λ (r : Role). turn_in r p (Actor.Thread k)) (sym role) ∙ free)
+may-go p b k role going free =
+    may_go b k p (not_over p.role b role going) (ap (λ (r : Role). turn_in r p (Actor.Thread k)) (sym role) ∙ free)
+
+turn_of_thread : (p : Sphere) (b : Cursor) (k : ℕ) → p.role ≡ Replay b → InOrder p.role → is_stopped p.role ≡ false → turn_against p (Actor.Thread k) ≡ None → b.now ≡ Turn k
+turn_of_thread p b k role in_order going free = turn_in_order b k (may-go p b k role going free) (subst InOrder role in_order)
 
 -- a replay that no thread's turn holds up before a DMA has the DMA's
 pub turn_of_dma : (p : Sphere) (b : Cursor) → p.role ≡ Replay b → is_stopped p.role ≡ false → turn_against p Actor.Dma ≡ None → b.now ≡ TurnOfDma
@@ -115,12 +120,6 @@ serial_reaches asked start y p b k u devices h g there f =
 
 -- ---- moves
 
--- the sphere i is in the play
-pub record StandsInPlay (asked : ReplaySetup) (start : Played) (x : SerialState) (i : ℕ) : Type 0 where
-  pub sphere : Sphere
-  pub there : slice_get x.spheres i ≡ Some sphere
-  pub reaches : Reaches asked start sphere
-
 -- how the play begins, if the log has a standard size
 pub record CanReplay (asked : ReplaySetup) (start : Played) : Type 0 where
   pub from : IsStart asked start
@@ -128,8 +127,8 @@ pub record CanReplay (asked : ReplaySetup) (start : Played) : Type 0 where
 
 -- the replayed sphere i, which is p, is in the play of its log
 module _ (asked : ReplaySetup) (start : Played) (x : SerialState) (i : ℕ) (p : Sphere) (c : CanReplay asked start) (is : slice_get x.spheres i ≡ Some p) (r : Reaches asked start p) where
-  moved_stands : (v : MovedSphere) → Reaches asked start (laid v) → StandsInPlay asked start (do_moved x i v) i
-  moved_stands v reaches = record { sphere = laid v; there = get-set_same x.spheres i (laid v) p is; reaches = reaches }
+  moved_stands : (v : MovedSphere) → Reaches asked start (laid v) → Stands (Reaches asked start) (do_moved x i v) i
+  moved_stands v reaches = record { sphere = laid v; there = get-set_same x.spheres i (laid v) p is; is = reaches }
 
   is_in : IsIn asked start (plays asked.log start (done_in p)) p
   is_in = record { from = c.from; at_ = refl }
@@ -137,48 +136,48 @@ module _ (asked : ReplaySetup) (start : Played) (x : SerialState) (i : ℕ) (p :
   thread_going : (k : ℕ) → is_stopped p.role ≡ false → turn_against p (Actor.Thread k) ≡ None → Going asked (plays asked.log start (done_in p)) p r.follows.cursor (Turn k)
   thread_going k going free =
       let f = r.follows in
-      going_at asked (plays asked.log start (done_in p)) p (Turn k) c.standard f (not_over p.role f.cursor f.role going) (turn_of_thread p f.cursor k f.role going free)
+      going_at asked (plays asked.log start (done_in p)) p (Turn k) c.standard f r.in_order (not_over p.role f.cursor f.role going) (turn_of_thread p f.cursor k f.role r.in_order going free)
 
-  chunk_stands : (z : Numbers) (k : ℕ) (how : How) (n limit : ℕ) (o : Option Parts) → slice_get p.threads k ≡ o → FitsChunk z p k how n limit o → StandsInPlay asked start (move_chunk z x i k how n limit p o) i
+  chunk_stands : (z : Numbers) (k : ℕ) (how : How) (n limit : ℕ) (o : Option Parts) → slice_get p.threads k ≡ o → FitsChunk z p k how n limit o → Stands (Reaches asked start) (move_chunk z x i k how n limit p o) i
   unfolding chunk_moved
   chunk_stands z k how n limit None there fits = absurd fits
   chunk_stands z k how n limit (Some u) there fits =
       let y : Played = plays asked.log start (done_in p) in
       let b : Cursor = r.follows.cursor in
       let g : Going asked y p b (Turn k) = thread_going k fits.going fits.turn in
-      subst (λ (v : MovedSphere). StandsInPlay asked start (do_moved x i v) i)
+      subst (λ (v : MovedSphere). Stands (Reaches asked start) (do_moved x i v) i)
       (sym (ap (λ (role : Role). chunk_in role k (is_piece how) (is_short z.s how limit) (run p.memory u n) x.devices p) r.follows.role))
       (moved_stands (replayed_chunk (is_piece how) b k (run p.memory u n) x.devices p)
       (chunk-reaches asked start y p b k g.state.0 (has_turn asked start y p b k is_in g) z u how n limit x.devices there fits))
 
-  serial_stands : (moment k : ℕ) (o : Option Parts) → slice_get p.threads k ≡ o → FitsSerial p k o → StandsInPlay asked start (do_serial x i k moment p o) i
+  serial_stands : (moment k : ℕ) (o : Option Parts) → slice_get p.threads k ≡ o → FitsSerial p k o → Stands (Reaches asked start) (do_serial x i k moment p o) i
   unfolding serial_moved
   serial_stands moment k None there fits = absurd fits
   serial_stands moment k (Some u) there fits =
       let y : Played = plays asked.log start (done_in p) in
       let b : Cursor = r.follows.cursor in
-      subst (λ (v : MovedSphere). StandsInPlay asked start (do_moved x i v) i)
+      subst (λ (v : MovedSphere). Stands (Reaches asked start) (do_moved x i v) i)
       (sym (ap (λ (role : Role). serial_in role k moment u x.devices p) r.follows.role))
       (moved_stands (serial_in (Replay b) k moment u x.devices p) (serial_reaches asked start y p b k u x.devices is_in (thread_going k fits.going fits.turn) there fits))
 
-  dma_stands : DmaFits x.devices p → StandsInPlay asked start (do_dma x i (dma_moved x.devices p)) i
+  dma_stands : DmaFits x.devices p → Stands (Reaches asked start) (do_dma x i (dma_moved x.devices p)) i
   unfolding dma_moved
   dma_stands fits =
       let y : Played = plays asked.log start (done_in p) in
       let f = r.follows in
       let b : Cursor = f.cursor in
       let turn : b.now ≡ TurnOfDma = turn_of_dma p b f.role fits.going fits.turn in
-      let g : Going asked y p b TurnOfDma = going_at asked y p TurnOfDma c.standard f (not_over p.role b f.role fits.going) turn in
+      let g : Going asked y p b TurnOfDma = going_at asked y p TurnOfDma c.standard f r.in_order (not_over p.role b f.role fits.going) turn in
       let v : DmaVerdict = dma_verdict b.log p.progress b.used in
       let room = room_now asked start y p b TurnOfDma is_in g refl in
-      subst (λ (o : Option MovedSphere). StandsInPlay asked start (do_dma x i o) i)
+      subst (λ (o : Option MovedSphere). Stands (Reaches asked start) (do_dma x i o) i)
       (sym (ap (λ (role : Role). dma_in role x.devices p) f.role))
       (moved_stands (dma_by_verdict b v x.devices p)
       (transfer-reaches asked start y p b v x.devices (record { at_ = refl; room = room; beside = g.beside; turn = g.turn; whole = g.state })
       (λ j. dma_verdict (sym g.beside.same_log j) (sym g.beside.progress j) (sym g.beside.used j))))
 
   -- a move of a replayed sphere leaves it in its log's play
-  pub what-stands : (z : Numbers) (moment : ℕ) (what : MoveKind) → FitsWhat z x.devices p what → StandsInPlay asked start (do_what z x moment i p what) i
+  pub what-stands : (z : Numbers) (moment : ℕ) (what : MoveKind) → FitsWhat z x.devices p what → Stands (Reaches asked start) (do_what z x moment i p what) i
   what-stands z moment (OfChunk k how n limit) fits = chunk_stands z k how n limit (slice_get p.threads k) refl fits
   what-stands z moment (OfSerial k) fits = serial_stands moment k (slice_get p.threads k) refl fits
   what-stands z moment OfDma fits = dma_stands fits

@@ -1,5 +1,5 @@
 -- A replay that has stopped has done the whole play of what it was asked for.
-use Rattle.std.proofs.Common.{◌≡◌, ℕ, suc, ◌+◌, ◌-◌, ◌<◌, ◌≤◌, inl, inr, Bool, true, false, refl, sym, ap, ◌∙◌, subst, arith}
+use Rattle.std.proofs.Common.{◌≡◌, ℕ, suc, ◌+◌, ◌-◌, ◌<◌, ◌≤◌, inl, inr, Bool, true, false, List, None, refl, sym, ap, ◌∙◌, subst, arith}
 use Rattle.std.specs.Prelude.{◌⊎◌}
 use Rattle.std.proofs.lemmas.Bool.{true≢false}
 use Rattle.dl_entry.specs.declared.End.{End}
@@ -8,9 +8,10 @@ use Rattle.spec_play.specs.Turns.{TurnOrEnd, Ended}
 use Rattle.spec_play.specs.Plays.{Played, plays}
 use Rattle.spec_play.proofs.Going.{plays-stay}
 use Rattle.spec_protocol.specs.machine.Spheres.{Cursor, Replay, Sphere, is_over}
-use Rattle.spec_protocol.specs.machine.Machine.{ReplaySetup, last_played, first_played}
+use Rattle.spec_protocol.specs.machine.Machine.{ReplaySetup, SphereSetup, Setup, last_played, first_played}
+use Rattle.spec_protocol.specs.declared.event.Event.{Event}
 use Rattle.spec_replay.specs.Following.{IsWhole, StandsAt, EndsWithin, Follows}
-use Rattle.spec_replay.specs.Promises.{ends_between, StoppedArePlayed}
+use Rattle.spec_replay.specs.Promises.{IsReplay, IsPlayed, ends_between}
 use Rattle.spec_replay.proofs.Intervals.{commits_of, now_as, end-in, diverged-in, ended_in, IsStart, is-start, room-left, last-there}
 use Rattle.spec_replay.proofs.Commits.Done.{done_in, Reaches}
 use Rattle.spec_replay.proofs.Replays.Ending.{ends-between}
@@ -126,11 +127,11 @@ whole_at asked start p b how r is between =
 
 -- ---- the promise
 
--- a replay that has stopped has done the whole play
-pub stopped_played : StoppedArePlayed
-stopped_played image asked s es i p b x role stopped =
+-- a replay that has stopped, and isn't in strata, has done the whole play
+pub stopped_in_order : (image : SphereSetup) (asked : ReplaySetup) (s : Setup) (es : List Event) (i : ℕ) (p : Sphere) (b : Cursor) → IsReplay image asked s es i p → asked.strata ≡ None → p.role ≡ Replay b → is_over b.now ≡ true → IsPlayed asked (last_played image asked) p b
+stopped_in_order image asked s es i p b x none role stopped =
     let start : Played = first_played image asked in
-    let r : Reached asked start p b = reached asked start p b (is-start image asked) role (replays_reach image asked s es i p x) in
+    let r : Reached asked start p b = reached asked start p b (is-start image asked) role (replays_reach image asked s es i p x none) in
     let l : IsLast asked (last_played image asked) p b = is_last asked start p b r stopped in
     record {
       progress = l.progress;

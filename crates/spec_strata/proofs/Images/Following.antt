@@ -163,7 +163,7 @@ thread-turn : (i j k : ℕ) (o : Option Parts) → turn_of_thread i j o ≡ Turn
 thread-turn i j k None e = cc
 thread-turn i j k (Some t) e = live-turn i j k (is_live t) e
 
-named-thread : (i k : ℕ) (ts : List Parts) (o : Option Actor) → turn_of i ts o ≡ Turn k → o ≡ Some (Actor.Thread k)
+pub named-thread : (i k : ℕ) (ts : List Parts) (o : Option Actor) → turn_of i ts o ≡ Turn k → o ≡ Some (Actor.Thread k)
 named-thread i k ts None e = cc
 named-thread i k ts (Some Actor.Dma) e = cc
 named-thread i k ts (Some (Actor.Thread j)) e = ap (λ (n : ℕ). Some (Actor.Thread n)) (thread-turn i j k (slice_get ts j) e)
@@ -176,7 +176,7 @@ thread-dma : {A : Type 0} (i j : ℕ) (o : Option Parts) → turn_of_thread i j 
 thread-dma i j None e = cc
 thread-dma i j (Some t) e = live-dma i j (is_live t) e
 
-named-dma : (i : ℕ) (ts : List Parts) (o : Option Actor) → turn_of i ts o ≡ TurnOfDma → o ≡ Some Actor.Dma
+pub named-dma : (i : ℕ) (ts : List Parts) (o : Option Actor) → turn_of i ts o ≡ TurnOfDma → o ≡ Some Actor.Dma
 named-dma i ts None e = cc
 named-dma i ts (Some Actor.Dma) e = refl
 named-dma i ts (Some (Actor.Thread j)) e = thread-dma i j (slice_get ts j) e

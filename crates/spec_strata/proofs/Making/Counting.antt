@@ -33,11 +33,11 @@ pub bumps-at : (c d : ℕ → ℕ) (ks : List ℕ) (j : ℕ) → c j ≡ d j →
 bumps-at c d [] j e = e
 bumps-at c d (k ∷ ks) j e = bumps-at (bump c k) (bump d k) ks j (bump-at c d k j e)
 
-bumps-often : (c : ℕ → ℕ) (n k : ℕ) → bumps c (replicate n k) k ≡ c k + n
+pub bumps-often : (c : ℕ → ℕ) (n k : ℕ) → bumps c (replicate n k) k ≡ c k + n
 bumps-often c zero k = omega arith
 bumps-often c (suc n) k = let h = bumps-often (bump c k) n k in let s = bump_same c k in omega (arith, h, s)
 
-bumps-other : (c : ℕ → ℕ) (n k j : ℕ) → j ≢ k → bumps c (replicate n k) j ≡ c j
+pub bumps-other : (c : ℕ → ℕ) (n k j : ℕ) → j ≢ k → bumps c (replicate n k) j ≡ c j
 bumps-other c zero k j ne = refl
 bumps-other c (suc n) k j ne = bumps-other (bump c k) n k j ne ∙ bump_other c k j ne
 
@@ -97,7 +97,7 @@ counts-same counted ks j all =
 
 -- ---- live threads
 
-live-of : (y : Played) (ks : List ℕ) (j : ℕ) → AreLive y ks → 0 < counts_of ks j → (t : Parts) → slice_get y.threads j ≡ Some t → is_live t ≡ true
+pub live-of : (y : Played) (ks : List ℕ) (j : ℕ) → AreLive y ks → 0 < counts_of ks j → (t : Parts) → slice_get y.threads j ≡ Some t → is_live t ≡ true
 live-of y [] j live l t is = absurd (omega (arith, l))
 live-of y (k ∷ ks) j live l t is =
     elim (cases_eq j k) [

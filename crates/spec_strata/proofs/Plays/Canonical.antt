@@ -27,7 +27,7 @@ same-played log a b like commits last la lb =
     let now : b.now ≡ a.now = lb ∙ (λ i. now_at log (progress i) (like.used i) (like.threads i)) ∙ sym la in
     (λ i. record { memory = like.memory i; threads = like.threads i; progress = progress i; used = like.used i; now = now i })
 
-like_refl : (y : Played) → IsLike y y
+pub like_refl : (y : Played) → IsLike y y
 like_refl y = record { memory = refl; threads = refl; request = refl; used = refl; first = refl; count = refl; each = λ by. refl }
 
 -- ---- the place of the last commit
@@ -38,7 +38,7 @@ none-of f (o ∷ os) e =
     ap (λ (rs : List Run). map (f 0) rs ++ commits_of (λ j. f (suc j)) os) (e 0 o refl)
     ∙ none-of (λ j. f (suc j)) os (λ j p h. e (suc j) p h)
 
-length-mapped : (f : Run → Commit) (rs : List Run) (cs : List Commit) → length (map f rs ++ cs) ≡ length rs + length cs
+pub length-mapped : (f : Run → Commit) (rs : List Run) (cs : List Commit) → length (map f rs ++ cs) ≡ length rs + length cs
 length-mapped f [] cs = omega arith
 length-mapped f (r ∷ rs) cs = let h = length-mapped f rs cs in omega (arith, h)
 
@@ -52,7 +52,7 @@ place-last f (o ∷ os) (suc k) e =
     let h = length-mapped (f 0) o.runs (commits_of (λ j. f (suc j)) os) in
     let g = place-last (λ j. f (suc j)) os k (λ j p l is. e (suc j) p (omega arith) is) in omega (arith, h, g)
 
-insert-last : {A : Type 0} (x : A) (xs : List A) → insert_at (length xs) x xs ≡ xs ++ x ∷ []
+pub insert-last : {A : Type 0} (x : A) (xs : List A) → insert_at (length xs) x xs ≡ xs ++ x ∷ []
 insert-last x [] = refl
 insert-last x (y ∷ ys) = ap (λ zs. y ∷ zs) (insert-last x ys)
 
@@ -98,7 +98,7 @@ canonical-on log y count done (k ∷ ks) from parallel good few rising later_ =
 
 -- ---- the start
 
-at-none : (log : LogParts) (y : Played) → IsLooked log y → y ≡ in_stratum log y (λ k. 0)
+pub at-none : (log : LogParts) (y : Played) → IsLooked log y → y ≡ in_stratum log y (λ k. 0)
 at-none log y looked =
     let none = none-committed chunk_commit y.threads in
     let start = at-start (rule_of log) y.memory y.threads in

@@ -56,11 +56,11 @@ followed_status : (r : Run) (m : List ℕ) (o : InstructionOutcome) → one r.th
 followed_status r m (Serial kind) e = refl
 followed_status r m (Next u load store) e = one_status r.thread m u load store e
 
-run-status : (m : List ℕ) (t : Parts) (n : ℕ) → (run m t n).thread.status ≡ t.status
+pub run-status : (m : List ℕ) (t : Parts) (n : ℕ) → (run m t n).thread.status ≡ t.status
 run-status m t zero = refl
 run-status m t (suc n) = followed_status (run m t n) (lays m (run m t n).words) _ refl ∙ run-status m t n
 
-after-status : (o : Option ℕ) (t : Parts) → (after_interrupt o t).status ≡ t.status
+pub after-status : (o : Option ℕ) (t : Parts) → (after_interrupt o t).status ≡ t.status
 after-status None t = refl
 after-status (Some value) t = refl
 
@@ -71,7 +71,7 @@ has-order ModeName.OrderSize log i last live ne = refl
 has-order ModeName.OrderOnly log i last live ne = refl
 has-order ModeName.Picolog log i last live ne = absurd (ne refl)
 
-turn-there : (i k : ℕ) (t : Parts) → is_live t ≡ true → turn_of_thread i k (Some t) ≡ Turn k
+pub turn-there : (i k : ℕ) (t : Parts) → is_live t ≡ true → turn_of_thread i k (Some t) ≡ Turn k
 turn-there i k t live = rw live refl
 
 pub turn-now : (log : LogParts) (p : Progress) (u : Used) (ts : List Parts) (k : ℕ) (t : Parts) → log.mode ≢ ModeName.Picolog → position p < log.count → slice_get log.order (position p) ≡ Some (Actor.Thread k)

@@ -1,7 +1,7 @@
 //! Spheres in each of their roles.
 ghost use Rattle.std.specs.Prelude.{◌≡◌, ℕ, None, IfOk, length};
 ghost use Rattle.spec_log.specs.Versions.{IsStandard};
-ghost use Rattle.dl_sphere.specs.Setups.{IsRecordableIf, begun_as, role_setup};
+ghost use Rattle.dl_sphere.specs.Setups.{IsRecordableIf, begun_as, role_setup, strata_as};
 
 mod beginnings;
 mod moves;
@@ -37,6 +37,7 @@ fn begin(alloc: Global, file: &[u8], begins: Begins, s: u32) -> Result<Sphere, F
 fn role(alloc: Global, begins: Begins) -> Result<Role, Fail>
     ensures recorded { IfOk result (λ role. (s : ℕ) → IsStandard 1 s → IsRecordableIf s (role_setup role)) }
     ensures begun { IfOk result (λ role. begun_as role ≡ None) }
+    ensures strata { IfOk result (λ role. strata_as role ≡ None) }
 {
     match begins {
         Begins::Plain => Ok(Role::Plain),
@@ -53,6 +54,7 @@ fn role(alloc: Global, begins: Begins) -> Result<Role, Fail>
         Begins::Replayed(bytes) => Ok(Role::Replay(Replay {
             log: read_log(alloc, bytes)?,
             begun: None,
+            strata: None,
         })),
     }
 }

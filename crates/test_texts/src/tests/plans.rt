@@ -27,6 +27,9 @@ const SPHERE: &str =
 /// Its sphere's role and mode.
 const RECORDED_ROLE: &str = "role = \"record\"\nmode = \"order-size\"";
 
+/// These and its log.
+const RECORDED_LOG: &str = "role = \"record\"\nmode = \"order-size\"\nlog = \"a.log\"";
+
 /// A plan with what the other one doesn't have.
 const OTHER: &str = "cores = 8\n\
       chunk = 64\n\
@@ -58,7 +61,12 @@ const OTHER: &str = "cores = 8\n\
       log = \"a.log\"\n\
       from = 2\n\
       to = 4\n\
-      account = \"c.txt\"\n";
+      account = \"c.txt\"\n\
+      [[sphere]]\n\
+      image = \"b.elf\"\n\
+      memory = 4096\n\
+      role = \"replay\"\n\
+      strata = \"a.strata\"\n";
 
 /// What the plan is read as once its first `from` is `to`.
 fn changed(alloc: Global, from: &str, to: &str) -> Result<Result<Plan, PlanError>, Fail> {
@@ -103,7 +111,8 @@ const OTHER_SHOWN: &str = concat!(
     "Sphere { image: \"a.elf\", memory: 4096, role: Plain, account: None }, ",
     "Sphere { image: \"b.elf\", memory: 8192, role: Record { mode: Picolog, version: 2, log: \"b.log\", epochs: Some(Epochs { size: 8, keep: 2 }) }, ",
     "account: None }, ",
-    "Sphere { image: \"b.elf\", memory: 16777216, role: Replay { log: \"a.log\", from: Some(2), to: Some(4) }, account: Some(\"c.txt\") }",
+    "Sphere { image: \"b.elf\", memory: 16777216, role: Replay { log: \"a.log\", from: Some(2), to: Some(4) }, account: Some(\"c.txt\") }, ",
+    "Sphere { image: \"b.elf\", memory: 4096, role: InStrata { strata: \"a.strata\" }, account: None }",
     "] }"
 );
 
@@ -188,6 +197,8 @@ const LIMITS: &[(&str, &str)] = &[
     (RECORDED_ROLE, "role = \"replay\"\nfrom = 16777216"),
     (RECORDED_ROLE, "role = \"replay\"\nto = 16777216"),
     (RECORDED_ROLE, "role = \"replay\"\nfrom = 3\nto = 3"),
+    (RECORDED_LOG, "role = \"replay\"\nstrata = \"a.strata\""),
+    (RECORDED_LOG, "role = \"replay\"\nstrata = \"a.elf\""),
     ("account", "version = 2\nepoch = 1\nkeep = 1\naccount"),
     (
         "account",
@@ -212,6 +223,7 @@ const NO_DOCUMENT_OR_OTHER_KEYS: &[(&str, &str, u8)] = &[
     ("account", "depth = 2\naccount", 2),
     ("cores", "version = 2\ncores", 2),
     ("cores", "from = 2\ncores", 2),
+    ("cores", "strata = \"a.strata\"\ncores", 2),
     ("\"a.txt\"\n", "\"a.txt\"\ncores = 1\n", 2),
     (
         SPHERE,
@@ -240,6 +252,7 @@ const MISSING_KEYS_AND_OTHER_KINDS: &[(&str, &str, u8)] = &[
     ("account", "version = 2.0\naccount", 3),
     ("account", "from = \"2\"\naccount", 3),
     ("account", "to = 4.0\naccount", 3),
+    ("account", "strata = 1\naccount", 3),
     ("4096", "\"4096\"", 3),
     ("\"record\"", "\"Record\"", 3),
     ("\"order-size\"", "\"order\"", 3),
@@ -315,22 +328,14 @@ const LACKING: &[(&str, &str, u8)] = &[
     ("mode = \"order-size\"\n", "", 6),
     ("log = \"a.log\"\n", "", 6),
     ("\"record\"", "\"replay\"", 6),
-    (
-        "role = \"record\"\nmode = \"order-size\"\nlog = \"a.log\"",
-        "role = \"replay\"",
-        6,
-    ),
+    (RECORDED_LOG, "role = \"replay\"", 6),
     ("\"record\"", "\"plain\"", 6),
     (
         "role = \"record\"\nmode = \"order-size\"",
         "role = \"plain\"",
         6,
     ),
-    (
-        "role = \"record\"\nmode = \"order-size\"\nlog = \"a.log\"",
-        "role = \"plain\"\nmode = \"picolog\"",
-        6,
-    ),
+    (RECORDED_LOG, "role = \"plain\"\nmode = \"picolog\"", 6),
     (
         "role = \"record\"\nmode = \"order-size\"\nlog = \"a.log\"\n",
         "role = \"plain\"\nversion = 1\n",
@@ -339,6 +344,24 @@ const LACKING: &[(&str, &str, u8)] = &[
     (
         "role = \"record\"\nmode = \"order-size\"",
         "role = \"replay\"\nversion = 1",
+        6,
+    ),
+    (RECORDED_ROLE, "role = \"replay\"\nstrata = \"a.strata\"", 6),
+    ("account", "strata = \"a.strata\"\naccount", 6),
+    (
+        RECORDED_LOG,
+        "role = \"record\"\nmode = \"order-size\"\nstrata = \"a.strata\"",
+        6,
+    ),
+    (RECORDED_LOG, "role = \"plain\"\nstrata = \"a.strata\"", 6),
+    (
+        RECORDED_LOG,
+        "role = \"replay\"\nmode = \"order-size\"\nstrata = \"a.strata\"",
+        6,
+    ),
+    (
+        RECORDED_LOG,
+        "role = \"replay\"\nversion = 2\nstrata = \"a.strata\"",
         6,
     ),
 ];
@@ -361,6 +384,9 @@ const CONFLICTS: &[(&str, &str, u8)] = &[
     ("\"a.log\"", "\"p.toml\"", 7),
     ("\"a.txt\"", "\"a.elf\"", 7),
     ("cores", "input = \"a.txt\"\ncores", 7),
+    (RECORDED_LOG, "role = \"replay\"\nstrata = \"\"", 7),
+    (RECORDED_LOG, "role = \"replay\"\nstrata = \"a.txt\"", 7),
+    (RECORDED_LOG, "role = \"replay\"\nstrata = \"r.txt\"", 7),
     (
         SPHERE,
         "[[sphere]]\n\
@@ -391,6 +417,22 @@ const CONFLICTS: &[(&str, &str, u8)] = &[
           memory = 8192\n\
           role = \"plain\"\n\
           account = \"a.txt\"\n",
+        7,
+    ),
+    (
+        SPHERE,
+        "[[sphere]]\n\
+          image = \"a.elf\"\n\
+          memory = 4096\n\
+          role = \"record\"\n\
+          mode = \"order-size\"\n\
+          log = \"a.log\"\n\
+          account = \"a.txt\"\n\
+          [[sphere]]\n\
+          image = \"b.elf\"\n\
+          memory = 8192\n\
+          role = \"replay\"\n\
+          strata = \"a.log\"\n",
         7,
     ),
 ];
@@ -424,6 +466,7 @@ const CHUNKS: &[(u32, &str, u8)] = &[
     (65537, RECORDED_2, 4),
     (65536, "role = \"plain\"", 0),
     (65536, "role = \"replay\"\nlog = \"a.log\"", 0),
+    (65536, "role = \"replay\"\nstrata = \"a.strata\"", 0),
     (4097, RECORDED_FROM, 8),
     (4096, RECORDED_FROM, 9),
 ];
@@ -446,15 +489,26 @@ fn refuses_intervals_that_are_not_replayed_or_end_before_they_begin(
 const INTERVALS: &[(&str, &str, u8)] = &[
     ("account", "from = 0\naccount", 9),
     ("account", "to = 16777216\naccount", 9),
-    (
-        "role = \"record\"\nmode = \"order-size\"\nlog = \"a.log\"",
-        "role = \"plain\"\nfrom = 0\nto = 0",
-        9,
-    ),
+    (RECORDED_LOG, "role = \"plain\"\nfrom = 0\nto = 0", 9),
     (RECORDED_ROLE, "role = \"replay\"\nfrom = 3\nto = 2", 9),
     (
         RECORDED_ROLE,
         "role = \"replay\"\nfrom = 16777216\nto = 0",
+        9,
+    ),
+    (
+        RECORDED_LOG,
+        "role = \"replay\"\nstrata = \"a.strata\"\nfrom = 0",
+        9,
+    ),
+    (
+        RECORDED_LOG,
+        "role = \"replay\"\nstrata = \"a.strata\"\nto = 16777216",
+        9,
+    ),
+    (
+        RECORDED_LOG,
+        "role = \"replay\"\nstrata = \"a.strata\"\nfrom = 2\nto = 4",
         9,
     ),
 ];
@@ -470,9 +524,10 @@ const EPOCHS: &[(&str, &str, u8)] = &[
     ("account", "epoch = 8\nkeep = 2\naccount", 10),
     ("account", "version = 1\nepoch = 8\nkeep = 2\naccount", 10),
     (RECORDED_ROLE, "role = \"replay\"\nepoch = 8\nkeep = 2", 10),
+    (RECORDED_LOG, "role = \"plain\"\nepoch = 8", 10),
     (
-        "role = \"record\"\nmode = \"order-size\"\nlog = \"a.log\"",
-        "role = \"plain\"\nepoch = 8",
+        RECORDED_LOG,
+        "role = \"replay\"\nstrata = \"a.strata\"\nepoch = 8\nkeep = 2",
         10,
     ),
 ];
@@ -519,6 +574,21 @@ const TWO_RULES: &[(&str, &str, u8)] = &[
         RECORDED_ROLE,
         "role = \"replay\"\nmode = \"order-size\"\nfrom = 3\nto = 2",
         6,
+    ),
+    (
+        RECORDED_ROLE,
+        "role = \"replay\"\nstrata = \"a.strata\"\nfrom = 0",
+        6,
+    ),
+    (
+        RECORDED_LOG,
+        "role = \"replay\"\nstrata = \"\"\nfrom = 0",
+        7,
+    ),
+    (
+        RECORDED_LOG,
+        "role = \"replay\"\nstrata = \"a.strata\"\nto = 4\nepoch = 8",
+        9,
     ),
     (
         "report = \"r.txt\"\n",

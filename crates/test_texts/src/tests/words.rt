@@ -46,6 +46,8 @@ const NONE: &[&[&str]] = &[
     &["when", "a", "4096", "l", "256", "4294967296"],
     &["migrate", "a.log"],
     &["migrate", "a.log", "b.log", "c.log"],
+    &["strata", "a", "4096", "l"],
+    &["strata", "a", "4097", "l", "s"],
     &["make", "4294967296", "x"],
     &["make", "00", "x"],
     &["make", "1_0", "x"],
@@ -143,6 +145,8 @@ fn words_mean_their_command_or_none(rt: HostRuntime) {
     mean(&rt, alloc, tail, Command::Tail { name });
     let migrate = &["migrate", "a.log", "x.elf"];
     mean(&rt, alloc, migrate, Command::Migrate { log, name });
+    let strata = &["strata", "a.elf", "16777216", "a.log", "x.elf"];
+    mean(&rt, alloc, strata, Command::Strata { playback, name });
     for words in NONE {
         assert!(rt; read(rt.alloc(), words) == Ok(None));
     }

@@ -1,5 +1,5 @@
 use Rattle.std.proofs.Common.{◌≡◌, ◌∙◌, ℕ, ap, refl, sym}
-use Rattle.dl_words.specs.Commands.{CommandValues, Run, Inspect, Walk, Query, Interval, Tail, Make, Drill, Asm, Migrate, command_view}
+use Rattle.dl_words.specs.Commands.{CommandValues, Run, Inspect, Walk, Query, Interval, Tail, Make, Drill, Asm, Migrate, Strata, command_view}
 use Rattle.spec_program.specs.commands.Drill.{finish}
 use Rattle.dl_commands.proofs.preparing.compute_command.Goals as goal
 
@@ -27,6 +27,9 @@ returns-in-Asm-clause-halt g c = rw c.in-Asm.is c.assemble_source.ensures.halt
 pub returns-in-Migrate-clause-halt : goal.returns-in-Migrate-clause-halt
 returns-in-Migrate-clause-halt g c = rw c.in-Migrate.is c.migrate.ensures.halt
 
+pub returns-in-Strata-clause-halt : goal.returns-in-Strata-clause-halt
+returns-in-Strata-clause-halt g c = rw c.in-Strata.is c.cut_log.ensures.halt
+
 -- the number of a drill
 abbrev drilled : CommandValues → ℕ
 drilled (Run plan) = 0
@@ -39,6 +42,7 @@ drilled (Make number name) = 0
 drilled (Drill number) = number
 drilled (Asm source name) = 0
 drilled (Migrate log name) = 0
+drilled (Strata playback name) = 0
 
 pub returns-in_ok-drill_number-in-Drill-clause-drill : goal.returns-in_ok-drill_number-in-Drill-clause-drill
 returns-in_ok-drill_number-in-Drill-clause-drill g c =

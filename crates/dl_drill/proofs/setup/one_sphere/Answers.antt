@@ -22,4 +22,4 @@ pub returns-clause-begun : goal.returns-clause-begun
 returns-clause-begun c =
     let made : SphereSetup = record { image = c.in_ok-image.image; role = c.args.role } in
     subst (All HasBegun) (sym (c.in_ok-push.ensures.ok ∙ ap (λ (xs : List SphereSetup). xs ++ made ∷ []) c.new-spheres.ensures))
-    (one_begun made (unless_begun (setup_of made) c.args.role c.requires))
+    (one_begun made (unless_begun (setup_of made) c.args.role c.requires.begun c.requires.strata))

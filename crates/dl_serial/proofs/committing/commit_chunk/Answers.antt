@@ -33,7 +33,7 @@ note-requires-clause-number g c =
     let left = c.end_chunk.new.state in
     let ran = looked_at c.args.chunk in
     let v = chunk_verdict r.log p s.past.state.used k ran in
-    let went = gone r s.past.state p new left k v (rw c.in-Went.is at (c.end_chunk.ensures.judged p ran agrees refl refl)) in
+    let went = gone r s.past.state p new left k v c.requires.playing.order (rw c.in-Went.is at (c.end_chunk.ensures.judged p ran agrees refl refl)) in
     omega (arith, c.requires.playing.counted, ap length c.in_ok-reserve.ensures.items, ap (λ (x : State). x.commits) went.state)
 
 pub note-requires-clause-inside : goal.note-requires-clause-inside
@@ -47,7 +47,7 @@ note-requires-clause-inside g c =
     let left = c.end_chunk.new.state in
     let ran = looked_at c.args.chunk in
     let v = chunk_verdict r.log p s.past.state.used k ran in
-    let went = gone r s.past.state p new left k v (rw c.in-Went.is at (c.end_chunk.ensures.judged p ran agrees refl refl)) in
+    let went = gone r s.past.state p new left k v c.requires.playing.order (rw c.in-Went.is at (c.end_chunk.ensures.judged p ran agrees refl refl)) in
     subst (λ (x : State). AreInside (length x.memory) s.words.words) (sym went.state) c.requires.inside
 
 pub returns-in-Went-clause-log : goal.returns-in-Went-clause-log
@@ -61,7 +61,7 @@ returns-in-Went-clause-log g c =
     let left = c.end_chunk.new.state in
     let ran = looked_at c.args.chunk in
     let v = chunk_verdict r.log p s.past.state.used k ran in
-    let went = gone r s.past.state p new left k v (rw c.in-Went.is at (c.end_chunk.ensures.judged p ran agrees refl refl)) in
+    let went = gone r s.past.state p new left k v c.requires.playing.order (rw c.in-Went.is at (c.end_chunk.ensures.judged p ran agrees refl refl)) in
     ap (λ (x : Following). x.log) went.replay
 
 pub returns-in-Went-clause-playing : goal.returns-in-Went-clause-playing
@@ -75,7 +75,7 @@ returns-in-Went-clause-playing g c =
     let left = c.end_chunk.new.state in
     let ran = looked_at c.args.chunk in
     let v = chunk_verdict r.log p s.past.state.used k ran in
-    let went = gone r s.past.state p new left k v (rw c.in-Went.is at (c.end_chunk.ensures.judged p ran agrees refl refl)) in
+    let went = gone r s.past.state p new left k v c.requires.playing.order (rw c.in-Went.is at (c.end_chunk.ensures.judged p ran agrees refl refl)) in
     let n : Sphere = record { past = c.note.new.past; stores = c.note.new.stores; words = c.note.new.words } in
     let noted : IsNoted s n c.chunk_commit-commit.result =
     record {
@@ -99,7 +99,7 @@ returns-in-Went-clause-came g c ran e w =
     let left = c.end_chunk.new.state in
     let v = chunk_verdict r.log p s.past.state.used k ran in
     let said = c.end_chunk.ensures.judged p ran agrees (sym (ap (λ (x : Chunk). x.thread) e)) (sym (ap (λ (x : Chunk). x.n) e)) in
-    let went = gone r s.past.state p new left k v (rw c.in-Went.is at said) in
+    let went = gone r s.past.state p new left k v c.requires.playing.order (rw c.in-Went.is at said) in
     let by = chunk-left r.log p s.past.state.used k ran went.effect went.used went.verdict in
     let commit : c.chunk_commit-commit.result ≡ chunk_commit k ran =
     c.chunk_commit-commit.ensures ran (ap (λ (x : Chunk). x.n) e) (ap (λ (x : Chunk). x.loads) e)

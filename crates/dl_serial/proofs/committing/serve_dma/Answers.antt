@@ -23,7 +23,7 @@ note-requires-clause-number g c =
     let agrees : Agrees s.past.state p = record { commits = c.requires.playing.counted; last = refl; request = refl } in
     let new = c.serve_dma.new.self in
     let left = c.serve_dma.new.state in
-    let went = dma-gone r s.past.state p new left v (rw c.in-Ok.is at (c.in_ok-words.ensures.judged p agrees)) in
+    let went = dma-gone r s.past.state p new left v c.requires.playing.order (rw c.in-Ok.is at (c.in_ok-words.ensures.judged p agrees)) in
     omega (arith, c.requires.playing.counted, ap length c.in_ok-reserve.ensures.items, ap (λ (x : State). x.commits) went.state)
 
 pub note-requires-clause-inside : goal.note-requires-clause-inside
@@ -35,7 +35,7 @@ note-requires-clause-inside g c =
     let agrees : Agrees s.past.state p = record { commits = c.requires.playing.counted; last = refl; request = refl } in
     let new = c.serve_dma.new.self in
     let left = c.serve_dma.new.state in
-    let went = dma-gone r s.past.state p new left v (rw c.in-Ok.is at (c.in_ok-words.ensures.judged p agrees)) in
+    let went = dma-gone r s.past.state p new left v c.requires.playing.order (rw c.in-Ok.is at (c.in_ok-words.ensures.judged p agrees)) in
     let stored = rw c.in-Ok.is at (c.in_ok-words.ensures.stored p agrees) in
     let size = length s.past.state.memory in
     subst (λ (x : State). AreInside (length x.memory) c.in-Ok.words.words) (sym went.state)
@@ -50,7 +50,7 @@ returns-in-Ok-clause-log g c =
     let agrees : Agrees s.past.state p = record { commits = c.requires.playing.counted; last = refl; request = refl } in
     let new = c.serve_dma.new.self in
     let left = c.serve_dma.new.state in
-    let went = dma-gone r s.past.state p new left v (rw c.in-Ok.is at (c.in_ok-words.ensures.judged p agrees)) in
+    let went = dma-gone r s.past.state p new left v c.requires.playing.order (rw c.in-Ok.is at (c.in_ok-words.ensures.judged p agrees)) in
     ap (λ (x : Following). x.log) went.replay
 
 pub returns-in-Ok-clause-playing : goal.returns-in-Ok-clause-playing
@@ -62,7 +62,7 @@ returns-in-Ok-clause-playing g c =
     let agrees : Agrees s.past.state p = record { commits = c.requires.playing.counted; last = refl; request = refl } in
     let new = c.serve_dma.new.self in
     let left = c.serve_dma.new.state in
-    let went = dma-gone r s.past.state p new left v (rw c.in-Ok.is at (c.in_ok-words.ensures.judged p agrees)) in
+    let went = dma-gone r s.past.state p new left v c.requires.playing.order (rw c.in-Ok.is at (c.in_ok-words.ensures.judged p agrees)) in
     let commit = c.dma_commit-commit.result in
     let n : Sphere = record { past = c.note.new.past; stores = c.note.new.stores; words = s.words } in
     let noted : IsNoted s n commit =
@@ -83,7 +83,7 @@ returns-in-Ok-clause-came g c =
     let agrees : Agrees s.past.state p = record { commits = c.requires.playing.counted; last = refl; request = refl } in
     let new = c.serve_dma.new.self in
     let left = c.serve_dma.new.state in
-    let went = dma-gone r s.past.state p new left v (rw c.in-Ok.is at (c.in_ok-words.ensures.judged p agrees)) in
+    let went = dma-gone r s.past.state p new left v c.requires.playing.order (rw c.in-Ok.is at (c.in_ok-words.ensures.judged p agrees)) in
     let stored = rw c.in-Ok.is at (c.in_ok-words.ensures.stored p agrees) in
     let commit = c.dma_commit-commit.result in
     let n : Sphere = record { past = c.note.new.past; stores = c.note.new.stores; words = s.words } in

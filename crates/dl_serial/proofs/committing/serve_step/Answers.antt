@@ -30,7 +30,7 @@ note-requires-clause-number g c =
     let agrees : Agrees s.past.state p = record { commits = c.requires.playing.counted; last = refl; request = refl } in
     let new = c.serve_step.new.self in
     let left = c.serve_step.new.state in
-    let went = gone r s.past.state p new left k v (rw c.in-Ok.is at (c.in_ok-words.ensures.judged p t agrees there)) in
+    let went = gone r s.past.state p new left k v c.requires.playing.order (rw c.in-Ok.is at (c.in_ok-words.ensures.judged p t agrees there)) in
     omega (arith, c.requires.playing.counted, ap length c.in_ok-reserve.ensures.items, ap (λ (x : State). x.commits) went.state)
 
 pub note-requires-clause-inside : goal.note-requires-clause-inside
@@ -49,7 +49,7 @@ note-requires-clause-inside g c =
     let can : CanStep t m s.past.state.request =
     record { whole = whole-words (length m) c.size.ensures.memory.size; thread = subst IsThread c.parts.ensures.value c.parts.ensures.thread; request_sound = c.requires.playing.request }
     in
-    let went = gone r s.past.state p new left k v (rw c.in-Ok.is at (c.in_ok-words.ensures.judged p t agrees there)) in
+    let went = gone r s.past.state p new left k v c.requires.playing.order (rw c.in-Ok.is at (c.in_ok-words.ensures.judged p t agrees there)) in
     let by = step-left r.log p s.past.state.used k s.past.state.threads t m went.effect went.used can went.verdict in
     let served = (rw c.in-Ok.is at (c.in_ok-words.ensures.served p t agrees there)) ∙ ap served_by went.verdict in
     subst (λ (x : State). AreInside (length x.memory) c.in-Ok.field-0.words.words) (sym went.state)
@@ -68,7 +68,7 @@ returns-in-Ok-clause-log g c =
     let agrees : Agrees s.past.state p = record { commits = c.requires.playing.counted; last = refl; request = refl } in
     let new = c.serve_step.new.self in
     let left = c.serve_step.new.state in
-    let went = gone r s.past.state p new left k v (rw c.in-Ok.is at (c.in_ok-words.ensures.judged p t agrees there)) in
+    let went = gone r s.past.state p new left k v c.requires.playing.order (rw c.in-Ok.is at (c.in_ok-words.ensures.judged p t agrees there)) in
     ap (λ (x : Following). x.log) went.replay
 
 pub returns-in-Ok-clause-playing : goal.returns-in-Ok-clause-playing
@@ -87,7 +87,7 @@ returns-in-Ok-clause-playing g c =
     let can : CanStep t m s.past.state.request =
     record { whole = whole-words (length m) c.size.ensures.memory.size; thread = subst IsThread c.parts.ensures.value c.parts.ensures.thread; request_sound = c.requires.playing.request }
     in
-    let went = gone r s.past.state p new left k v (rw c.in-Ok.is at (c.in_ok-words.ensures.judged p t agrees there)) in
+    let went = gone r s.past.state p new left k v c.requires.playing.order (rw c.in-Ok.is at (c.in_ok-words.ensures.judged p t agrees there)) in
     let by = step-left r.log p s.past.state.used k s.past.state.threads t m went.effect went.used can went.verdict in
     let commit = c.serial_commit-commit.result in
     let n : Sphere = record { past = c.note.new.past; stores = c.note.new.stores; words = s.words } in
@@ -115,7 +115,7 @@ returns-in-Ok-clause-came g c t there =
     let can : CanStep t m s.past.state.request =
     record { whole = whole-words (length m) c.size.ensures.memory.size; thread = subst IsThread (c.parts.ensures.value ∙ same) c.parts.ensures.thread; request_sound = c.requires.playing.request }
     in
-    let went = gone r s.past.state p new left k v (rw c.in-Ok.is at (c.in_ok-words.ensures.judged p t agrees there)) in
+    let went = gone r s.past.state p new left k v c.requires.playing.order (rw c.in-Ok.is at (c.in_ok-words.ensures.judged p t agrees there)) in
     let by = step-left r.log p s.past.state.used k s.past.state.threads t m went.effect went.used can went.verdict in
     let served = (rw c.in-Ok.is at (c.in_ok-words.ensures.served p t agrees there)) ∙ ap served_by went.verdict in
     let commit = c.serial_commit-commit.result in

@@ -1,4 +1,6 @@
 use Rattle.std.proofs.Common.{sym, subst, ◌≤◌, ◌<◌, ◌^◌, ◌≡◌, ◌%◌}
+use Rattle.dl_sphere.specs.Setups.{IsParallelAs, setup_of}
+use Rattle.dl_sphere.proofs.Standing.Start.{parallel_as}
 use Rattle.dl_sphere.proofs.making.entry_of.Goals as goal
 
 pub returns-clause-image : goal.returns-clause-image
@@ -13,4 +15,5 @@ returns-clause-image c s role =
       aligned = is.aligned;
       inside = subst (λ n. image.entry < n) (sym is.whole) is.inside;
       role = role;
+      strata = λ asked is. subst (IsParallelAs (setup_of c.args.setup.now)) is (parallel_as (setup_of c.args.setup.now) c.args.setup.now.role c.requires);
     }

@@ -22,7 +22,7 @@ player_of-requires-clause-request c =
     let image = setup_of c.args.setup.now in
     let r = c.in-Replay.replay in
     let start : state_in c.args.state.now ≡ start_as image (role_setup (Role.Replay r)) = subst (λ (x : Role). state_in c.args.state.now ≡ start_as image (role_setup x)) c.in-Replay.is c.requires.start in
-    let begun : IsBegunIf image (replay_setup r) r.begun = subst (λ (x : Role). IsBegunAs image x) c.in-Replay.is c.requires.begun in
+    let begun : IsBegunIf image (replay_setup r) r.begun = (subst (λ (x : Role). IsBegunAs image x) c.in-Replay.is c.requires.begun).0 in
     let role : image.role ≡ IsReplayed (replay_setup r) = ap role_setup c.in-Replay.is in
     let whole : IsImage c.args.s image = c.requires.image (subst (IsRole c.args.s) (sym role) (role_of_replay c.args.s image r c.parts.ensures.good begun)) in
     start_request c.args.s image (replay_setup r) (state_in c.args.state.now) whole role start
@@ -32,7 +32,7 @@ returns-in_ok-player_of-in-Replay-clause-kept c =
     let image = setup_of c.args.setup.now in
     let r = c.in-Replay.replay in
     let start : state_in c.args.state.now ≡ start_as image (role_setup (Role.Replay r)) = subst (λ (x : Role). state_in c.args.state.now ≡ start_as image (role_setup x)) c.in-Replay.is c.requires.start in
-    let begun : IsBegunIf image (replay_setup r) r.begun = subst (λ (x : Role). IsBegunAs image x) c.in-Replay.is c.requires.begun in
+    let begun : IsBegunIf image (replay_setup r) r.begun = (subst (λ (x : Role). IsBegunAs image x) c.in-Replay.is c.requires.begun).0 in
     ap (Replaying c.in_ok-player_of-in-Replay.field-0) c.new-in-Replay.ensures.items
     ∙ ap (λ (f : Following). Replaying f []) (c.in_ok-player_of-in-Replay.ensures.from ∙ follows_start image r (state_in c.args.state.now) begun start)
     ∙ sym (ap (λ (x : Role). keeping_at image c.args.s (role_setup x)) c.in-Replay.is)
@@ -41,5 +41,5 @@ pub returns-in_ok-player_of-in-Replay-clause-role : goal.returns-in_ok-player_of
 returns-in_ok-player_of-in-Replay-clause-role c =
     let image = setup_of c.args.setup.now in
     let r = c.in-Replay.replay in
-    let begun : IsBegunIf image (replay_setup r) r.begun = subst (λ (x : Role). IsBegunAs image x) c.in-Replay.is c.requires.begun in
+    let begun : IsBegunIf image (replay_setup r) r.begun = (subst (λ (x : Role). IsBegunAs image x) c.in-Replay.is c.requires.begun).0 in
     subst (λ (x : Role). IsRole c.args.s (role_setup x)) (sym c.in-Replay.is) (role_of_replay c.args.s image r c.parts.ensures.good begun)

@@ -1,17 +1,21 @@
-use Rattle.std.proofs.Common.{◌≡◌, ◌+◌, ◌≤◌, ◌∷◌, ◌++◌, Bool, true, false, [], length, suc, refl, sym, ap, subst, ◌∙◌, arith}
+use Rattle.std.proofs.Common.{◌≡◌, ◌+◌, ◌≤◌, Bool, true, false, List, [], length, suc, IfSome, sym, ap, subst, ◌∙◌, arith}
+use Rattle.dl_entry.specs.declared.Commit.{Commit}
+use Rattle.spec_isa.specs.declared.thread.Parts.{Parts}
 use Rattle.spec_isa.specs.Runs.{Run}
 use Rattle.spec_play.specs.Effects.{chunk_commit}
 use Rattle.spec_play.specs.Verdicts.{chunk_verdict}
 use Rattle.spec_protocol.specs.machine.Commits.{Diverged, Granted, Piece, is_piece, joined, chunk_moved, replayed_chunk}
 use Rattle.spec_protocol.specs.machine.Spheres.{Cursor, Replay}
-use Rattle.spec_protocol.proofs.Logs.Growing.{pushed_length}
+use Rattle.spec_strata.specs.Standing.{place_of}
 use Rattle.spec_log.proofs.Threads.{log-among}
 use Rattle.dl_kernel.specs.States.{PlayState as State}
 use Rattle.dl_replay.specs.Judged.{Judged}
 use Rattle.dl_sphere.specs.Inside.{cursor_in, replayed_at}
+use Rattle.dl_sphere.specs.Moving.{put_at}
+use Rattle.dl_sphere.specs.Roles.{HasAllIf}
 use Rattle.dl_sphere.proofs.Replays.Judging.{chunk_is}
-use Rattle.dl_sphere.proofs.Replays.Limits.{part_fits}
-use Rattle.dl_sphere.proofs.Replays.Moved.{HasCounted, agreed, commit_counted, commit_log, commit_moved, in_state, made_of}
+use Rattle.dl_sphere.proofs.Replays.Limits.{may_going, part_fits}
+use Rattle.dl_sphere.proofs.Replays.Moved.{HasCounted, agreed, commit_all, commit_counted, commit_log, commit_moved, in_state, made_of, place_fits, put_in, put_length}
 use Rattle.dl_sphere.proofs.replaying.commit_part.Goals as goal
 
 pub commit_piece-requires-clause-fits : goal.commit_piece-requires-clause-fits
@@ -19,7 +23,7 @@ commit_piece-requires-clause-fits g c =
     let can = c.requires.1.1.0.1 in
     let ch = c.args.chunk.now.chunk in
     let b = cursor_in c.args.past.now c.args.replay.now in
-    part_fits b c.args.thread ch.done.n ch.done.thread c.requires.1.1.1.replaying.is_log can.part.turn can.part.room (subst (λ n. ch.done.n ≤ n) can.part.limit can.part.most)
+    part_fits b c.args.thread ch.done.n ch.done.thread c.requires.1.1.1.replaying.is_log can.part.may can.part.room (subst (λ n. ch.done.n ≤ n) can.part.limit can.part.most)
 
 pub returns-then-is_piece-clause-moved : goal.returns-then-is_piece-clause-moved
 unfolding chunk_moved
@@ -43,7 +47,7 @@ overflow_add-size g c =
     let ch = c.args.chunk.now.chunk in
     let b = cursor_in c.args.past.now c.args.replay.now in
     let is = c.requires.1.1.1.replaying.is_log in
-    let fits = part_fits b c.args.thread ch.done.n ch.done.thread is can.part.turn can.part.room (subst (λ n. ch.done.n ≤ n) can.part.limit can.part.most) in
+    let fits = part_fits b c.args.thread ch.done.n ch.done.thread is can.part.may can.part.room (subst (λ n. ch.done.n ≤ n) can.part.limit can.part.most) in
     let most = (log-among b.log is).most in
     let total = c.pieces.ensures in
     let n = c.n.ensures.value in
@@ -71,8 +75,8 @@ returns-in-Went-clause-moved g c short d =
     let v = chunk_verdict r.log x.progress s.used k all in
     let said = rw c.in-Went.is at (c.end_chunk.ensures.judged x.progress all agrees (sym c.state.ensures) size) in
     let piece : false ≡ is_piece g.how = sym c.if-is_piece.false ∙ c.is_piece.ensures g.how can.closed in
-    let commits : c.push_reserved.new.self.items ≡ past.commits.items ++ chunk_commit k all ∷ [] =
-    c.push_reserved.ensures.items ∙ (λ i. c.in_ok-reserve.ensures.items i ++ whole i ∷ [])
+    let commits : c.put.new.commits.items ≡ put_in past r k (chunk_commit k all) =
+    c.put.ensures ∙ (λ i. put_at (c.place-place.ensures.value i) (whole i) (c.in_ok-reserve.ensures.items i))
     in
     (λ i. record {
       outcome = Granted;
@@ -80,7 +84,7 @@ returns-in-Went-clause-moved g c short d =
       words = (c.in_ok-words.ensures ∙ c.words.ensures.words) i;
       devices = d;
     })
-    ∙ ap (made_of past loads d (chunk_commit k all) run.words) said
+    ∙ ap (made_of past loads d (put_in past r k (chunk_commit k all)) run.words) said
     ∙ commit_moved past loads d r k v (chunk_commit k all) run.words counted (chunk_is r.log x.progress s.used k all)
     ∙ ap (λ (y : Bool). replayed_chunk y b k run d x) piece
 
@@ -99,10 +103,32 @@ returns-in-Went-clause-at g c =
     let said = rw c.in-Went.is at (c.end_chunk.ensures.judged x.progress all (agreed past (Replay b) was) (sym c.state.ensures) size) in
     let more = subst (HasCounted s) (sym said) (commit_counted r s x.progress k (chunk_verdict r.log x.progress s.used k all)) in
     let commit = c.in_ok-commit.commit in
-    let count : length c.push_reserved.new.self.items ≡ suc (length past.commits.items) =
-    ap length (c.push_reserved.ensures.items ∙ ap (λ xs. xs ++ commit ∷ []) c.in_ok-reserve.ensures.items) ∙ pushed_length past.commits.items commit (length past.commits.items) refl
+    let at = c.requires.1.1.1 in
+    let fits = place_fits (place_of k) r.strata c.place-place.result past.first (length past.commits.items) s.commits c.place-place.ensures.value (c.place-place.ensures.within s at.replaying) at.all was in
+    let count : length c.put.new.commits.items ≡ suc (length past.commits.items) =
+    ap length (c.put.ensures ∙ ap (put_at c.place-place.result commit) c.in_ok-reserve.ensures.items) ∙ put_length c.place-place.result commit past.commits.items fits
     in
-    record { replaying = c.end_chunk.ensures.at; counted = omega (arith, was, more, count) }
+    record {
+      replaying = c.end_chunk.ensures.at;
+      counted = omega (arith, was, more, count);
+      all = subst (λ (j : Judged). HasAllIf j.replay.strata past.first) (sym said) (commit_all r s x.progress k (chunk_verdict r.log x.progress s.used k all) past.first at.all);
+    }
+
+pub put-requires-clause-within : goal.put-requires-clause-within
+put-requires-clause-within g c =
+    let past = c.args.past.now in
+    let r = c.args.replay.now.player in
+    let at = c.requires.1.1.1 in
+    subst (λ (cs : List Commit). IfSome c.place-place.result (λ i. i ≤ length cs)) (sym c.in_ok-reserve.ensures.items)
+    (place_fits (place_of c.args.thread) r.strata c.place-place.result past.first (length past.commits.items) past.state.commits c.place-place.ensures.value (c.place-place.ensures.within past.state at.replaying) at.all at.counted)
+
+pub commit_piece-requires-clause-going : goal.commit_piece-requires-clause-going
+commit_piece-requires-clause-going g c =
+    may_going (cursor_in c.args.past.now c.args.replay.now) c.args.thread c.requires.1.1.0.1.part.may
+
+pub end_chunk-requires-clause-going : goal.end_chunk-requires-clause-going
+end_chunk-requires-clause-going g c =
+    may_going (cursor_in c.args.past.now c.args.replay.now) c.args.thread c.requires.1.1.0.1.part.may
 
 pub returns-in-Went-clause-log : goal.returns-in-Went-clause-log
 returns-in-Went-clause-log g c =
@@ -142,7 +168,7 @@ returns-in-Diverged-clause-moved g c short d =
       words = [];
       devices = d;
     })
-    ∙ ap (made_of past loads d (chunk_commit k all) run.words) said
+    ∙ ap (made_of past loads d (put_in past r k (chunk_commit k all)) run.words) said
     ∙ commit_moved past loads d r k v (chunk_commit k all) run.words counted (chunk_is r.log x.progress s.used k all)
     ∙ ap (λ (y : Bool). replayed_chunk y b k run d x) piece
 
@@ -162,7 +188,11 @@ returns-in-Diverged-clause-at g c =
     let still : c.end_chunk.new.state ≡ s = subst (HasCounted s) (sym said) (commit_counted r s x.progress k (chunk_verdict r.log x.progress s.used k all)) in
     let same : c.end_chunk.new.state.commits ≡ s.commits = ap (λ (y : State). y.commits) still in
     let count : length c.reserve.new.self.items ≡ length past.commits.items = ap length c.in_ok-reserve.ensures.items in
-    record { replaying = c.end_chunk.ensures.at; counted = omega (arith, was, same, count) }
+    record {
+      replaying = c.end_chunk.ensures.at;
+      counted = omega (arith, was, same, count);
+      all = subst (λ (j : Judged). HasAllIf j.replay.strata past.first) (sym said) (commit_all r s x.progress k (chunk_verdict r.log x.progress s.used k all) past.first c.requires.1.1.1.all);
+    }
 
 pub returns-in-Diverged-clause-log : goal.returns-in-Diverged-clause-log
 returns-in-Diverged-clause-log g c =
@@ -175,3 +205,11 @@ returns-in-Diverged-clause-log g c =
     let size : all.n ≡ c.pieces.result + c.n.result = (λ i. sym c.pieces.ensures i + sym c.n.ensures.value i) in
     ap (λ (j : Judged). j.replay.log) (c.end_chunk.ensures.judged x.progress all (agreed past (Replay b) c.requires.1.1.1.counted) (sym c.state.ensures) size)
     ∙ commit_log replay.player s x.progress c.args.thread (chunk_verdict replay.player.log x.progress s.used c.args.thread all)
+
+pub end_chunk-requires-clause-commits : goal.end_chunk-requires-clause-commits
+end_chunk-requires-clause-commits g c =
+    let t = c.thread_at.result in
+    let there = c.thread_at.ensures.thread in
+    let same : c.args.chunk.now.chunk.done.thread.commits ≡ t.commits = c.requires.1.1.0.1.commits t there in
+    let few : t.commits ≤ c.args.past.now.state.commits = c.requires.1.1.1.replaying.bounded.threads c.args.thread t there in
+    omega (arith, same, few, ap (λ (u : Parts). u.commits) c.state.ensures)

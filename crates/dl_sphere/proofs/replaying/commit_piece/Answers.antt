@@ -1,6 +1,8 @@
 use Rattle.std.proofs.Common.{ap, sym, subst, ◌∙◌}
 use Rattle.spec_isa.specs.declared.thread.Parts.{Parts}
 use Rattle.dl_replay.specs.Replays.{IsReplaying}
+use Rattle.dl_replay.specs.Following.{Following}
+use Rattle.dl_sphere.specs.Roles.{HasAllIf}
 use Rattle.dl_sphere.proofs.Replays.Limits.{moved_on}
 use Rattle.dl_sphere.proofs.replaying.commit_piece.Goals as goal
 
@@ -16,4 +18,5 @@ returns-clause-at g c =
     record {
       replaying = subst (λ ts. IsReplaying c.accept_piece.new.self (record s { threads = ts })) (sym c.set.ensures) on;
       counted = c.requires.at.counted;
+      all = subst (λ (r : Following). HasAllIf r.strata c.args.past.now.first) (sym c.accept_piece.ensures.value) c.requires.at.all;
     }

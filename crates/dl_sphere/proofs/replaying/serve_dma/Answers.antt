@@ -6,8 +6,9 @@ use Rattle.spec_protocol.specs.machine.Spheres.{Replay}
 use Rattle.spec_protocol.proofs.Logs.Growing.{pushed_length}
 use Rattle.dl_kernel.specs.States.{PlayState as State}
 use Rattle.dl_replay.specs.Judged.{Judged}
+use Rattle.dl_sphere.specs.Roles.{HasAllIf}
 use Rattle.dl_sphere.specs.Inside.{cursor_in, replayed_at}
-use Rattle.dl_sphere.proofs.Replays.Moved.{HasCounted, agreed, dma_counted, dma_goes, dma_left, dma_log, dma_stores, in_state, made_of}
+use Rattle.dl_sphere.proofs.Replays.Moved.{HasCounted, agreed, dma_all, dma_counted, dma_goes, dma_left, dma_log, dma_stores, in_state, made_of}
 use Rattle.dl_sphere.proofs.replaying.serve_dma.Goals as goal
 
 pub returns-in-Ok-clause-moved : goal.returns-in-Ok-clause-moved
@@ -35,7 +36,7 @@ returns-in-Ok-clause-moved c d =
       words = words.words;
       devices = d;
     })
-    ∙ ap (made_of past loads d dma_commit words.words) said
+    ∙ ap (made_of past loads d (past.commits.items ++ dma_commit ∷ []) words.words) said
     ∙ dma_goes past loads d r v words.words counted (dma_stores past loads d words.words v stored))
 
 pub returns-in-Ok-clause-at : goal.returns-in-Ok-clause-at
@@ -52,7 +53,11 @@ returns-in-Ok-clause-at c =
     let count : length c.push_reserved.new.self.items ≡ suc (length past.commits.items) =
     ap length (c.push_reserved.ensures.items ∙ ap (λ xs. xs ++ c.dma_commit.result ∷ []) c.in_ok-reserve.ensures.items) ∙ pushed_length past.commits.items c.dma_commit.result (length past.commits.items) refl
     in
-    record { replaying = c.serve_dma.ensures.at; counted = omega (arith, was, more, count) }
+    record {
+      replaying = c.serve_dma.ensures.at;
+      counted = omega (arith, was, more, count);
+      all = subst (λ (j : Judged). HasAllIf j.replay.strata past.first) (sym said) (dma_all r s x.progress (dma_verdict r.log x.progress s.used) past.first c.requires.at.all);
+    }
 
 pub returns-in-Ok-clause-log : goal.returns-in-Ok-clause-log
 returns-in-Ok-clause-log c =
@@ -98,7 +103,11 @@ returns-in-Err-clause-at c =
     let still : c.serve_dma.new.state ≡ s = subst (HasCounted s) (sym said) (dma_counted r s x.progress (dma_verdict r.log x.progress s.used)) in
     let same : c.serve_dma.new.state.commits ≡ s.commits = ap (λ (y : State). y.commits) still in
     let count : length c.reserve.new.self.items ≡ length past.commits.items = ap length c.in_ok-reserve.ensures.items in
-    record { replaying = c.serve_dma.ensures.at; counted = omega (arith, was, same, count) }
+    record {
+      replaying = c.serve_dma.ensures.at;
+      counted = omega (arith, was, same, count);
+      all = subst (λ (j : Judged). HasAllIf j.replay.strata past.first) (sym said) (dma_all r s x.progress (dma_verdict r.log x.progress s.used) past.first c.requires.at.all);
+    }
 
 pub returns-in-Err-clause-log : goal.returns-in-Err-clause-log
 returns-in-Err-clause-log c =

@@ -1,14 +1,17 @@
-use Rattle.std.proofs.Common.{◌≡◌, ◌∷◌, ◌++◌, [], length, suc, refl, sym, ap, subst, ◌∙◌, arith}
+use Rattle.std.proofs.Common.{◌≡◌, ◌≤◌, List, [], length, suc, IfSome, sym, ap, subst, ◌∙◌, arith}
+use Rattle.dl_entry.specs.declared.Commit.{Commit}
 use Rattle.spec_play.specs.Effects.{serial_commit}
 use Rattle.spec_play.specs.Verdicts.{serial_verdict}
 use Rattle.spec_protocol.specs.machine.Commits.{Diverged, Granted, serial_moved}
 use Rattle.spec_protocol.specs.machine.Spheres.{Replay}
-use Rattle.spec_protocol.proofs.Logs.Growing.{pushed_length}
+use Rattle.spec_strata.specs.Standing.{place_of}
 use Rattle.dl_kernel.specs.States.{PlayState as State}
 use Rattle.dl_replay.specs.Judged.{Judged}
 use Rattle.dl_sphere.specs.Inside.{cursor_in, replayed_at}
+use Rattle.dl_sphere.specs.Moving.{put_at}
+use Rattle.dl_sphere.specs.Roles.{HasAllIf}
 use Rattle.dl_sphere.proofs.Replays.Judging.{serial_is}
-use Rattle.dl_sphere.proofs.Replays.Moved.{HasCounted, agreed, commit_counted, commit_left, commit_log, commit_moved, in_state, made_of}
+use Rattle.dl_sphere.proofs.Replays.Moved.{HasCounted, agreed, commit_all, commit_counted, commit_left, commit_log, commit_moved, in_state, made_of, place_fits, put_in, put_length}
 use Rattle.dl_sphere.proofs.replaying.serve_step.Goals as goal
 
 pub returns-in-Ok-clause-moved : goal.returns-in-Ok-clause-moved
@@ -28,8 +31,8 @@ returns-in-Ok-clause-moved c moment t d there =
     let said = rw c.in-Ok.is at (c.in_ok-left.ensures.judged x.progress t agrees there) in
     let served = rw c.in-Ok.is at (c.in_ok-left.ensures.served x.progress t agrees there) in
     let commit = serial_commit k left.loads left.outputs in
-    let commits : c.push_reserved.new.self.items ≡ past.commits.items ++ commit ∷ [] =
-    c.push_reserved.ensures.items ∙ (λ i. c.in_ok-reserve.ensures.items i ++ c.serial_commit.ensures i ∷ [])
+    let commits : c.put.new.commits.items ≡ put_in past r k commit =
+    c.put.ensures ∙ (λ i. put_at (c.place-place.ensures.value i) (c.serial_commit-commit.ensures i) (c.in_ok-reserve.ensures.items i))
     in
     (λ i. record {
       outcome = Granted;
@@ -37,7 +40,7 @@ returns-in-Ok-clause-moved c moment t d there =
       words = left.words.words;
       devices = d;
     })
-    ∙ ap (made_of past loads d commit left.words.words) said
+    ∙ ap (made_of past loads d (put_in past r k commit) left.words.words) said
     ∙ commit_moved past loads d r k v commit left.words.words counted
     (serial_is r.log x.progress s.used k s.threads t s.memory (record { words = left.words.words; loads = left.loads; outputs = left.outputs }) served)
 
@@ -55,10 +58,25 @@ returns-in-Ok-clause-at c =
     let v = serial_verdict r.log x.progress s.used k s.threads t s.memory in
     let said = rw c.in-Ok.is at (c.in_ok-left.ensures.judged x.progress t agrees c.thread_at.ensures.thread) in
     let more = subst (HasCounted s) (sym said) (commit_counted r s x.progress k v) in
-    let count : length c.push_reserved.new.self.items ≡ suc (length past.commits.items) =
-    ap length (c.push_reserved.ensures.items ∙ ap (λ xs. xs ++ c.serial_commit.result ∷ []) c.in_ok-reserve.ensures.items) ∙ pushed_length past.commits.items c.serial_commit.result (length past.commits.items) refl
+    let at = c.requires.at in
+    let commit = c.serial_commit-commit.result in
+    let fits = place_fits (place_of k) r.strata c.place-place.result past.first (length past.commits.items) s.commits c.place-place.ensures.value (c.place-place.ensures.within s at.replaying) at.all was in
+    let count : length c.put.new.commits.items ≡ suc (length past.commits.items) =
+    ap length (c.put.ensures ∙ ap (put_at c.place-place.result commit) c.in_ok-reserve.ensures.items) ∙ put_length c.place-place.result commit past.commits.items fits
     in
-    record { replaying = c.serve_step.ensures.at; counted = omega (arith, was, more, count) }
+    record {
+      replaying = c.serve_step.ensures.at;
+      counted = omega (arith, was, more, count);
+      all = subst (λ (j : Judged). HasAllIf j.replay.strata past.first) (sym said) (commit_all r s x.progress k v past.first at.all);
+    }
+
+pub put-requires-clause-within : goal.put-requires-clause-within
+put-requires-clause-within c =
+    let past = c.args.past.now in
+    let r = c.args.replay.now.player in
+    let at = c.requires.at in
+    subst (λ (cs : List Commit). IfSome c.place-place.result (λ i. i ≤ length cs)) (sym c.in_ok-reserve.ensures.items)
+    (place_fits (place_of c.args.thread) r.strata c.place-place.result past.first (length past.commits.items) past.state.commits c.place-place.ensures.value (c.place-place.ensures.within past.state at.replaying) at.all at.counted)
 
 pub returns-in-Ok-clause-log : goal.returns-in-Ok-clause-log
 returns-in-Ok-clause-log c =
@@ -108,7 +126,11 @@ returns-in-Err-clause-at c =
     let still : c.serve_step.new.state ≡ s = subst (HasCounted s) (sym said) (commit_counted r s x.progress k (serial_verdict r.log x.progress s.used k s.threads t s.memory)) in
     let same : c.serve_step.new.state.commits ≡ s.commits = ap (λ (y : State). y.commits) still in
     let count : length c.reserve.new.self.items ≡ length past.commits.items = ap length c.in_ok-reserve.ensures.items in
-    record { replaying = c.serve_step.ensures.at; counted = omega (arith, was, same, count) }
+    record {
+      replaying = c.serve_step.ensures.at;
+      counted = omega (arith, was, same, count);
+      all = subst (λ (j : Judged). HasAllIf j.replay.strata past.first) (sym said) (commit_all r s x.progress k (serial_verdict r.log x.progress s.used k s.threads t s.memory) past.first c.requires.at.all);
+    }
 
 pub returns-in-Err-clause-log : goal.returns-in-Err-clause-log
 returns-in-Err-clause-log c =

@@ -3,7 +3,7 @@ use Rattle.dl_entry.specs.declared.End.{End}
 use Rattle.spec_log.specs.declared.LogParts.{LogParts}
 use Rattle.spec_play.specs.declared.walk_end.WalkEnd.{WalkEnd}
 use Rattle.spec_play.specs.Walks as play
-use Rattle.dl_strata.proofs.Ending.{fits-complete, walk-ended, never-reached, ends-as}
+use Rattle.spec_strata.proofs.Images.Ending.{fits-complete, walk-ended, never-reached, ends-as}
 use Rattle.dl_strata.proofs.stratifying.stratify.Goals as goal
 
 pub unreachable-requires : goal.unreachable-requires

@@ -9,11 +9,13 @@ pub returns : goal.returns
 returns c =
     let log : LogParts = c.args.log in
     let count = ap (λ (l : LogParts). l.count) c.parts.ensures.parts in
-    let last = c.min-last.ensures in
-    record {
-      within = record { order = omega arith; most = omega (arith, last, count) };
-      state =
-          c.first-state.ensures log
-          ∙ (λ i. first_state (record { memory = c.in_ok-new.ensures i; entry = c.entry.ensures.value i; role = IsPlain }));
-      come = refl;
-    }
+    let last = c.min-last.ensures in (
+      record {
+        within = record { order = omega arith; most = omega (arith, last, count) };
+        state =
+            c.first-state.ensures log
+            ∙ (λ i. first_state (record { memory = c.in_ok-new.ensures i; entry = c.entry.ensures.value i; role = IsPlain }));
+        come = refl;
+      },
+      tt,
+    )

@@ -1,4 +1,4 @@
-use Rattle.std.proofs.Common.{◌≡◌, ◌+◌, ◌<◌, ◌^◌, List, ◌∷◌, ◌++◌, [], sym, ap, ◌∙◌, subst, arith}
+use Rattle.std.proofs.Common.{◌≡◌, List, ◌∷◌, ◌++◌, [], sym, ap, ◌∙◌, subst, arith}
 use Rattle.std.proofs.lemmas.Result.{err_from_is_err_and}
 use Rattle.dl_entry.specs.declared.Counts.{Counts}
 use Rattle.spec_protocol.specs.declared.event.Event.{Event}
@@ -8,7 +8,7 @@ use Rattle.spec_protocol.specs.promises.Alike.{AreAlike}
 use Rattle.spec_protocol.specs.promises.Kept.{NoneIsDue}
 use Rattle.dl_machine.specs.Ready.{HasRoom}
 use Rattle.dl_machine.specs.Events.{IsWanted}
-use Rattle.dl_machine.specs.Runs.{HasRun, IsRun}
+use Rattle.dl_machine.specs.Runs.{IsRun}
 use Rattle.dl_machine.proofs.Worlds.Events.{act_counts}
 use Rattle.dl_machine.proofs.Worlds.Promised.{room_alike, run_ready}
 use Rattle.dl_machine.proofs.Worlds.Applied.{IsDone, IsPrepared, done_alike, done_led, done_reply, done_run, done_world, few_replies, still_led, still_wanted}

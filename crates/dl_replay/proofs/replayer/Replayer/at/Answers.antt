@@ -1,4 +1,4 @@
-use Rattle.std.proofs.Common.{◌≡◌, sym, subst}
+use Rattle.std.proofs.Common.{◌≡◌, None, sym, subst}
 use Rattle.spec_log.specs.Log.{IsLog}
 use Rattle.spec_log.specs.declared.log.LogParts.{LogParts}
 use Rattle.spec_play.specs.Resuming.{IsBounded}
@@ -18,4 +18,4 @@ returns-clause-at g c =
     let bounded = subst (λ (x : LogParts). IsBounded x (state_in s)) (sym same) c.requires.state in
     let turn = c.now_in-turn.ensures (progress_from (state_in s)) (agrees-self s) in
     subst (λ (x : Following). IsReplaying x s) (sym (followed-is log c.args.interval s (now_seen c.now_in-turn.result) turn))
-    (goes-on log c.args.interval s is bounded c.requires.request)
+    (goes-on log c.args.interval None s is bounded c.requires.request tt)

@@ -23,6 +23,7 @@ invariant_of-result g c =
       record {
         replaying = c.in_ok-replayer.ensures.at;
         all = ap (λ (r : Following). r.interval) begun;
+        order = ap (λ (r : Following). r.strata) begun;
         whole = ap (λ (r : Following). r.total) begun;
         turn = λ k e. named log (progress_from s) s.used s.threads k (sym (ap (λ (r : Following). r.now) begun) ∙ e);
         counted = omega (arith, ap (λ (cs : List Commit). length cs) c.new-2.ensures.items);

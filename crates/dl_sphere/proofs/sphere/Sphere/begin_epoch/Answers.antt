@@ -1,4 +1,4 @@
-use Rattle.std.proofs.Common.{◌≡◌, ◌-◌, ◌∙◌, true, false, drop, length, sym, ap, subst}
+use Rattle.std.proofs.Common.{◌≡◌, ◌-◌, ◌∙◌, drop, sym, ap, subst}
 use Rattle.spec_isa.specs.Words.{lays}
 use Rattle.spec_play.specs.Progress.{nothing_used}
 use Rattle.spec_protocol.specs.machine.Epochs.{epoch_begun, state_in}

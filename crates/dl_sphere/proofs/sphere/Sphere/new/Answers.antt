@@ -2,7 +2,7 @@ use Rattle.std.proofs.Common.{refl}
 use Rattle.dl_kernel.specs.declared.past.Past.{Past}
 use Rattle.dl_sphere.specs.Roles.{keeping_of}
 use Rattle.dl_sphere.specs.Setups.{setup_of}
-use Rattle.dl_sphere.proofs.Standing.Start.{Starts, start_standing, start_seen}
+use Rattle.dl_sphere.proofs.Standing.Start.{Starts, parallel_as, start_standing, start_seen}
 use Rattle.dl_sphere.proofs.sphere.Sphere.new.Goals as goal
 
 pub invariant_of-result : goal.invariant_of-result
@@ -17,6 +17,7 @@ invariant_of-result c =
       commits = c.new.ensures.items;
       kept = c.in_ok-part.ensures.kept;
       at = c.in_ok-part.ensures.at;
+      parallel = parallel_as image c.args.setup.now.role c.requires.begun;
     }
     in
     start_standing c.args.s image past x c.requires.size h
@@ -33,6 +34,7 @@ returns-clause-made c =
       commits = c.new.ensures.items;
       kept = c.in_ok-part.ensures.kept;
       at = c.in_ok-part.ensures.at;
+      parallel = parallel_as image c.args.setup.now.role c.requires.begun;
     }
     in
     (λ i. record { s = c.args.s; sphere = start_seen c.args.s image past x h i })

@@ -20,14 +20,14 @@ use Rattle.spec_protocol.proofs.Moves.Threads.{serve-keeps}
 use Rattle.dl_kernel.specs.Calls.{spawned_list}
 use Rattle.dl_replay.proofs.Requests.{serve-request}
 use Rattle.dl_sphere.specs.Roles.{Keeping, keeping_of, role_in, role_of, most_of, with_noted, IsLiveOf}
-use Rattle.dl_sphere.specs.Inside.{sphere_in}
+use Rattle.dl_sphere.specs.Inside.{cursor_in, sphere_in}
 use Rattle.dl_sphere.specs.Pasts.{sphere_with}
 use Rattle.dl_sphere.specs.Moving.{IsTurnOf}
 use Rattle.dl_sphere.specs.SizedSpheres.{SizedSphere}
 use Rattle.dl_sphere.specs.Setups.{standard_in}
 use Rattle.dl_sphere.proofs.Standing.Sizes.{noted_size}
 use Rattle.dl_sphere.proofs.Standing.Moves.{Commits, commits_stand, threads_few}
-use Rattle.dl_sphere.proofs.Replays.Limits.{alone, few_here, few_live, kept_live, live_part, replayed, stands_replayed}
+use Rattle.dl_sphere.proofs.Replays.Limits.{alone, few_here, few_live, kept_live, live_part, may_going, replayed, stands_replayed}
 use Rattle.dl_sphere.proofs.Live.Moved.{step_is_moved}
 use Rattle.dl_sphere.proofs.sphere.Sphere.serial_step.Goals as goal
 
@@ -132,12 +132,12 @@ returns-clause-ok c =
 
 -- ---- a replayed sphere
 
-pub serve_step-requires-clause-turn : goal.serve_step-requires-clause-turn
-serve_step-requires-clause-turn c =
+pub serve_step-requires-clause-going : goal.serve_step-requires-clause-going
+serve_step-requires-clause-going c =
     let a = c.self.inside in
     let k = c.args.thread in
     let here : IsTurnOf k (role_in a.past.state.used a.part) = subst (λ (v : SizedSphere). IsTurnOf k v.sphere.role) (sym c.self.view_is) c.requires.turn in
-    subst (λ (x : Part). IsTurnOf k (role_in a.past.state.used x)) c.in-Replayed.is here
+    may_going (cursor_in a.past c.in-Replayed.replay) k (subst (λ (x : Part). IsTurnOf k (role_in a.past.state.used x)) c.in-Replayed.is here)
 
 pub serve_step-requires-clause-at : goal.serve_step-requires-clause-at
 serve_step-requires-clause-at c =

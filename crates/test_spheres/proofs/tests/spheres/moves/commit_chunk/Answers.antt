@@ -1,5 +1,5 @@
 -- A chunk that was looked at can be committed.
-use Rattle.std.proofs.Common.{rules, ◌≡◌, ℕ, ◌-◌, ◌≤◌, ◌<◌, max, false, Some, sym, ap, ◌∙◌, subst, arith}
+use Rattle.std.proofs.Common.{rules, ◌≡◌, ℕ, ◌-◌, ◌≤◌, ◌<◌, max, false, inl, inr, Some, sym, ap, ◌∙◌, subst, arith}
 use Rattle.std.specs.Prelude.{slice_get}
 use Rattle.std.proofs.lemmas.Bool.{true≢false}
 use Rattle.std.proofs.lemmas.Option.{slice_get_within}
@@ -10,7 +10,8 @@ use Rattle.spec_protocol.specs.machine.Commits.{is_piece}
 use Rattle.spec_protocol.specs.machine.Placing.{replays}
 use Rattle.spec_play.specs.Turns.{TurnOrEnd, Turn}
 use Rattle.spec_protocol.specs.machine.Spheres.{Cursor, Sphere, Role, Plain, Record, Replay, limit_in, limit_of, pieces_of, whole_limit}
-use Rattle.dl_sphere.specs.Moving.{CanCommit, IsPartIn, IsTurnOf}
+use Rattle.dl_sphere.specs.Moving.{CanCommit, IsPartIn, IsTurnOf, MayCommit}
+use Rattle.spec_protocol.proofs.Moves.Joining.{joins-whole, pieces_none}
 use Rattle.test_spheres.proofs.tests.spheres.moves.commit_chunk.Invariants.{how_of}
 use Rattle.test_spheres.proofs.tests.spheres.moves.commit_chunk.Goals as goal
 
@@ -30,10 +31,18 @@ within Plain s n t most live = most
 within (Record recording) s n t most live = most
 within (Replay b) s n t most live = absurd (true≢false live)
 
-room : (b : Cursor) (m n : ℕ) → b.now ≡ Turn 0 → n ≡ limit_in (Replay b) 0 0 m → 2 ≤ n → b.total < whole_limit b.log 0 m
-room b m n turn is some =
-    let l : n ≡ max 1 (whole_limit b.log 0 m - b.total) = is ∙ ap (λ (now : TurnOrEnd). max 1 (whole_limit b.log 0 m - pieces_of now 0 b.total)) turn in
-    omega (arith, l, some)
+room : (b : Cursor) (m n : ℕ) → MayCommit b 0 → n ≡ limit_in (Replay b) 0 0 m → 2 ≤ n → b.total < whole_limit b.log 0 m
+room b m n may is some = elim may [
+  | inl turn ↦ (
+      let l : n ≡ max 1 (whole_limit b.log 0 m - b.total) = is ∙ ap (λ (now : TurnOrEnd). max 1 (whole_limit b.log 0 m - pieces_of now 0 b.total)) turn in
+      omega (arith, l, some)
+      )
+  | inr joins ↦ (
+      let none : b.total ≡ 0 = joins-whole b.strata 0 b.total joins.joins in
+      let l : n ≡ max 1 (whole_limit b.log 0 m - 0) = is ∙ ap (λ (q : ℕ). max 1 (whole_limit b.log 0 m - q)) (ap (pieces_of b.now 0) none ∙ pieces_none b.now 0) in
+      omega (arith, none, l, some)
+      )
+]
 
 part_in : (role : Role) (s : ℕ) (t : Parts) (how : How) (ch : Chunk) → Seen s role t how ch → IsPartIn role 0 how ch
 unfolding limit_of
@@ -42,7 +51,7 @@ part_in (Record recording) s t how ch h = tt
 part_in (Replay b) s t how ch h =
     let limit : ch.limit ≡ limit_in (Replay b) 0 0 ch.done.thread.commits = h.limit ∙ ap (λ (m : ℕ). limit_in (Replay b) 0 0 m) (sym h.commits) in
     record {
-      turn = h.turn;
+      may = h.turn;
       room = room b ch.done.thread.commits ch.limit h.turn limit h.some_limit;
       limit = limit;
       most = h.most;

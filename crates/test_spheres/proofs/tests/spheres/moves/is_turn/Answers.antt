@@ -1,5 +1,5 @@
 -- In a replay it was seen to be the turn of thread 0.
-use Rattle.std.proofs.Common.{rules, ◌≡◌, false, Some, sym, ◌∙◌}
+use Rattle.std.proofs.Common.{rules, ◌≡◌, inl, false, Some, sym, ◌∙◌}
 use Rattle.std.proofs.lemmas.Bool.{true≢false}
 use Rattle.dl_entry.specs.declared.Actor.{Actor}
 use Rattle.spec_play.specs.Turns.{TurnOrEnd, Turn, TurnOfDma, Ended}
@@ -22,7 +22,7 @@ turn_now (Ended how) is = cc
 turn_in : (role : Role) (p : Sphere) → head_in role p ≡ Some (Actor.Thread 0) → IsTurnOf 0 role
 turn_in Plain p is = tt
 turn_in (Record recording) p is = tt
-turn_in (Replay b) p is = turn_now b.now is
+turn_in (Replay b) p is = inl (turn_now b.now is)
 
 turn_of : (p : Sphere) → head_of p ≡ Some (Actor.Thread 0) → IsTurnOf 0 p.role
 unfolding head_of

@@ -117,6 +117,13 @@ fits-complete log memory entry n e =
     let all : n ≡ log.count = omega (arith, a, b, most, same) in
     e ∙ ap (λ (i : ℕ). Ended (End.Complete i)) all
 
+-- it has no more commits than its log
+pub few-commits : (log : LogParts) (memory : List ℕ) (entry : ℕ) → length (play log memory entry).progress.commits ≤ log.count
+few-commits log memory entry =
+    let most = plays-most log memory entry log.count in
+    let same = commits-are log memory entry in
+    omega (arith, most, same)
+
 -- ---- a walk to the end
 
 pub walk-ended : (log : LogParts) (memory : List ℕ) (entry to : ℕ) (how : End) → (walked log memory entry to).end ≡ WalkEnd.Ended how → (play log memory entry).now ≡ Ended how

@@ -1,0 +1,52 @@
+//! How many chunks of a stratum are counted and done, by thread.
+ghost use Rattle.std.specs.Prelude.{◌≡◌, ◌<◌, ◌≤◌, ◌^◌, length};
+ghost use Rattle.std.specs.List.{sum};
+ghost use Rattle.spec_strata.specs.Standing.{done_up_to, least_left};
+
+/// The least thread with fewer chunks done than are counted.
+pub fn least_left(counts: &[u8], done: &[u32]) -> Option<u8>
+    requires threads { length counts.now ≡ length done.now }
+    requires few { length counts.now ≤ 63 }
+    ensures { result ≡ least_left 0 counts.now done.now }
+{
+    for thread in 0..counts.len() {
+        if done[thread] < u32::from(counts[thread]) {
+            return Some(thread as u8);
+        }
+    }
+    None
+}
+
+/// How many are done of the threads up to a number.
+pub fn done_up_to(thread: u8, done: &[u32]) -> u32
+    requires { sum done.now < 2 ^ 32 }
+    ensures value { result ≡ done_up_to thread done.now }
+    ensures most { result ≤ sum done.now }
+{
+    let end = done.len().min(usize::from(thread) + 1);
+    total_of(&done[..end])
+}
+
+/// How many are done of all threads.
+pub fn total_of(done: &[u32]) -> u32
+    requires { sum done.now < 2 ^ 32 }
+    ensures { result ≡ sum done.now }
+{
+    let mut total = 0;
+    for count in done {
+        total += *count;
+    }
+    total
+}
+
+/// How many are counted of at most 63 threads.
+pub fn sum_of(counts: &[u8]) -> u32
+    requires { length counts.now ≤ 63 }
+    ensures { result ≡ sum counts.now }
+{
+    let mut sum = 0;
+    for count in counts {
+        sum += u32::from(*count);
+    }
+    sum
+}
