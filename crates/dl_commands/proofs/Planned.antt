@@ -5,7 +5,7 @@ use Rattle.std.proofs.lemmas.List.{drop_more, map-append}
 use Rattle.dl_plan.specs.declared.Output.{Output}
 use Rattle.dl_plan.specs.declared.Product.{Product}
 use Rattle.dl_plan.specs.Files.{OutputValues, into, log_written, written_by, written_from, outputs_of}
-use Rattle.dl_plan.specs.Values.{RoleValues, Plain, Record, Replay, SphereValues, PlanValues}
+use Rattle.dl_plan.specs.Values.{RoleValues, Plain, Record, Replay, InStrata, SphereValues, PlanValues}
 use Rattle.dl_plan.specs.Views.{output_view}
 use Rattle.dl_gather.proofs.Memories.{all_at}
 use Rattle.spec_program.specs.Writes.{Write}
@@ -33,6 +33,7 @@ log_products : (n i : ℕ) (role : RoleValues) → i < n → AreProducts n (log_
 log_products n i Plain h = tt
 log_products n i (Record values) h = (h, tt)
 log_products n i (Replay values) h = tt
+log_products n i (InStrata strata) h = tt
 
 from_products : (n i : ℕ) (ss : List SphereValues) → i + length ss ≤ n → AreProducts n (written_from i ss)
 from_products n i [] h = tt
