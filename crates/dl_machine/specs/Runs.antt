@@ -18,7 +18,7 @@ use Rattle.spec_replay.specs.Following.{Follows}
 use Rattle.spec_replay.specs.InStrata.{FollowsInStrata}
 use Rattle.spec_replay.specs.Promises.{IsPlayed}
 
--- the setup is within the limits, and the world shows what these events leave: all of it, but for what recordings in epochs
+-- the setup is within the limits, and the world shows what these events leave: all of it, except what recordings in epochs
 -- have given up
 pub record IsRun (s : Setup) (es : List Event) (w : World) : Type 0 where
   pub limits : IsWithinLimits s
@@ -31,7 +31,7 @@ pub record HasRun (w : World) : Type 0 where
   pub run : IsRun setup schedule w
 
 -- the plain and recorded spheres, with their current memories, and the devices are those of doing these points whole, one
--- at a time, but for what recordings in epochs have given up; and each point can be done as it says
+-- at a time, except what recordings in epochs have given up; and each point can be done as it says
 pub record IsSerial (s : Setup) (w : World) (points : List Point) : Type 0 where
   pub spheres : (i : ℕ) (p : Sphere)
       → slice_get (shown_of w).spheres i ≡ Some p
