@@ -1,7 +1,7 @@
 //! The program: it hands its words, the real files and the standard output to the one call `delorean`, and ends with its status.
 #![tactic(auto)]
 
-ghost use Rattle.std.specs.Prelude.{◌≡◌, ◌≢◌, [], drop, IfOk, IfErr, OnErr, IsErr};
+ghost use Rattle.std.specs.Prelude.{◌≡◌, ◌≢◌, [], drop, map, string_bytes, IfOk, IfErr, OnErr, IsErr};
 ghost use Rattle.std.specs.IoError.{error_kind};
 ghost use Rattle.std.specs.Vec.Iter.{into_iter_items};
 ghost use Rattle.spec_program.specs.declared.status.Status.{Status};
@@ -65,7 +65,9 @@ fn after_first(alloc: Global, mut args: Args<Global>) -> Result<Vec<String>, All
 }
 
 // The words as texts.
-fn texts_of<'a>(alloc: Global, words: &'a [String]) -> Result<Vec<&'a str>, AllocError> {
+fn texts_of<'a>(alloc: Global, words: &'a [String]) -> Result<Vec<&'a str>, AllocError>
+    ensures { IfOk result (λ texts. map (λ text. text.now) texts.items ≡ map string_bytes words.now) }
+{
     let mut borrowed = Vec::new(alloc);
     for word in words {
         borrowed.push(word.as_str())?;

@@ -27,7 +27,7 @@ Said diverged text old new from to Status.Absent = ⊥
 abbrev pub IsDue : (text : List ℕ) → (old new : Option (List ℕ)) → (from to : ℕ) → Type 0
 IsDue text old new from to = (Rose from to → ⊥) → TookAll text old new
 
--- the line of a refusal or a fault, whose status is the first one: nothing but a want of memory changes it
+-- the line of a refusal or a fault, whose status is the first one: it changes only if memory runs out
 abbrev pub SaidLine : Status → (text : List ℕ) → (old new : Option (List ℕ)) → (from to : ℕ) → Status → Type 0
 SaidLine due text old new from to s =
     ((s ≡ due) × IsDue text old new from to ⊎ (s ≡ Status.Memory) × (to ≡ from)) × Took text old new

@@ -1,8 +1,7 @@
 -- What is left to be done, once it is computed.
-use Rattle.std.specs.Prelude.{◌≡◌, ℕ, Bool, true, false, List, [], map, string_bytes, Option, Some, None, Result, Ok, Err}
+use Rattle.std.specs.Prelude.{◌≡◌, ℕ, Bool, true, false, List, map, string_bytes, Result, Ok, Err}
 use Rattle.dl_plan.specs.Values.{PlanValues}
 use Rattle.spec_log.specs.Bytes.{log_bytes}
-use Rattle.spec_log.specs.declared.LogParts.{LogParts}
 use Rattle.spec_protocol.specs.declared.event.Event.{Event}
 use Rattle.spec_protocol.specs.machine.Machine.{Setup}
 use Rattle.spec_protocol.specs.promises.Sound.{IsWithinLimits}
@@ -19,15 +18,10 @@ use Rattle.dl_commands.specs.declared.job.Job.{Job}
 use Rattle.dl_commands.specs.declared.writing.Content.{Content}
 use Rattle.dl_commands.specs.declared.writing.NamedContent.{NamedContent}
 
--- none if there is no log
-abbrev pub log_bytes_if : Option LogParts → List ℕ
-log_bytes_if None = []
-log_bytes_if (Some log) = log_bytes log
-
 -- the bytes that a file is to hold
 abbrev pub bytes_in : Content → List ℕ
 bytes_in (Content.Bytes bytes) = bytes.items
-bytes_in (Content.Log log) = log_bytes_if log
+bytes_in (Content.Log log) = log_bytes log
 
 -- logs are written in pieces
 abbrev pub is_in_pieces : Content → Bool

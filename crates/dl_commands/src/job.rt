@@ -39,7 +39,7 @@ pub fn filed(alloc: Global, name: &str, bytes: Vec<u8>, text: Vec<u8>) -> Result
 pub fn logged(alloc: Global, name: &str, log: Log, text: Vec<u8>) -> Result<Job, OutOfMemory>
     ensures { IfOk result (λ job. finish_of job ≡ logged_so name.now (log_bytes log) text.items) }
 {
-    one_file(alloc, name, Content::Log(Some(log)), text)
+    one_file(alloc, name, Content::Log(log), text)
 }
 
 fn one_file(alloc: Global, name: &str, content: Content, text: Vec<u8>) -> Result<Job, OutOfMemory>

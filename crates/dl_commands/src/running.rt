@@ -108,8 +108,8 @@ fn log_of(alloc: Global, sphere: usize, run: &Run) -> Result<Content, OutOfMemor
     ensures in_pieces { IfOk result (λ content. is_in_pieces content ≡ is_log run.now.setup (Product.Log sphere)) }
 {
     match run.log(alloc, sphere)? {
-        SphereLog::None => Ok(Content::Log(None)),
-        SphereLog::Whole(log) => Ok(Content::Log(Some(log))),
+        SphereLog::None => Ok(Content::Bytes(Vec::new(alloc))),
+        SphereLog::Whole(log) => Ok(Content::Log(log)),
         SphereLog::Tail(tail) => Ok(Content::Bytes(write_tail(alloc, &tail)?)),
     }
 }

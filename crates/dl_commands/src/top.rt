@@ -29,8 +29,9 @@ use std::alloc::Global;
 /// `run PLAN` runs the machine of the plan: it writes the logs, the accounts, the console and the report that the plan names,
 /// and puts the summary into the sink. `inspect LOG` puts the log as text, and `walk IMAGE MEMORY LOG` the account of the
 /// log's play on the image; `interval` puts its commits from one number up to another, and `watch`, `who` and `when` tell of
-/// its stores to a word. `make NUMBER NAME` writes a generated image, and `drill NUMBER` records and replays one in memory.
-/// `asm SOURCE NAME` writes the image of a source, and `migrate LOG NAME` a log in version 2.
+/// its stores to a word. `tail NAME` puts the account of a tail's play. `strata IMAGE MEMORY LOG NAME` writes the strata of a log,
+/// and `migrate LOG NAME` writes a log in version 2. `make NUMBER NAME` writes a generated image, and `drill NUMBER` records and
+/// replays one in memory. `asm SOURCE NAME` writes the image of a source.
 pub fn delorean<F: Files, O: Sink>(
     alloc: Global,
     words: &[&str],

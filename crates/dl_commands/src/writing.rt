@@ -13,8 +13,8 @@ pub struct NamedContent {
 pub enum Content {
     /// These bytes, written at once.
     Bytes(Vec<u8>),
-    /// The bytes of a sphere's whole log, written in pieces; none if it has no log.
-    Log(Option<Log>),
+    /// The bytes of this log, written in pieces.
+    Log(Log),
 }
 
 /// Why writing stops before its end.

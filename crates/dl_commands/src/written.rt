@@ -33,7 +33,6 @@ fn write_content<F: Files>(files: &mut F, name: &str, content: &Content) -> Resu
 {
     match content {
         Content::Bytes(bytes) => files.write(name, bytes),
-        Content::Log(Some(log)) => write_log_file(files, name, log),
-        Content::Log(None) => files.create(name),
+        Content::Log(log) => write_log_file(files, name, log),
     }
 }

@@ -1,6 +1,7 @@
 //! The devices.
 ghost use Rattle.std.specs.Prelude.{◌≡◌, ◌≤◌, ◌<◌, ◌^◌, ◌++◌, length, drop, slice_get, replicate, [], IfOk, OnOk, OnErr};
-ghost use Rattle.spec_kernel.specs.Devices.{HaveByteInput, devices_of, input_taken, console_put, pipe_fitting, pipe_put, pipe_first, pipe_taken, random_bytes, random_taken};
+ghost use Rattle.spec_kernel.specs.Devices.{HaveByteInput, devices_of, input_taken, console_put, pipe_fitting, pipe_put};
+ghost use Rattle.spec_kernel.specs.Devices.{pipe_first, pipe_taken, random_bytes, random_taken};
 ghost use Rattle.spec_kernel.specs.Numbers.{most_input, pipe_count};
 
 use crate::pipe::Pipe;

@@ -13,7 +13,7 @@ use spec_log::Log;
 use std::alloc::Global;
 
 /// The summary of the recording of a generated image, that of the replay of its log, and `equal`, since their accounts are
-/// equal. Err only for want of memory.
+/// equal. Err only if memory runs out.
 pub fn drill(alloc: Global, number: u32) -> Result<Vec<u8>, OutOfMemory>
     ensures { IfOk result (λ text. text.items ≡ drill_text number) }
 {

@@ -7,7 +7,7 @@ use Rattle.spec_engine.proofs.Searches.{first_is, first_is_none}
 use Rattle.spec_protocol.specs.declared.event.Event.{Event}
 use Rattle.spec_protocol.specs.machine.Spheres.{Role, Plain, Record, Replay, Sphere, no_sphere}
 use Rattle.spec_protocol.specs.machine.World.{World, Occupant, runs, core_of}
-use Rattle.spec_protocol.specs.machine.Finishing.{SphereTurn, untold, who_in, who_of, least, for_held, for_core}
+use Rattle.spec_protocol.specs.machine.Finishing.{SphereTurn, untold, named_turn, turn_of_role, least, for_held, for_core}
 use Rattle.dl_finish.specs.Turns.{turn_in, if_runs, on_core}
 
 -- ---- cores that were not told
@@ -30,7 +30,7 @@ untold_here c n t l told =
 
 -- ---- replays that go on
 
-who_turn : (i : ℕ) (role : Role) (others : Option SphereTurn) → who_of i role others ≡ who_in i (turn_in role) others
+who_turn : (i : ℕ) (role : Role) (others : Option SphereTurn) → turn_of_role i role others ≡ named_turn i (turn_in role) others
 who_turn i Plain others = refl
 who_turn i (Record recording) others = refl
 who_turn i (Replay b) others = refl
@@ -40,10 +40,10 @@ pub least_is : (n : ℕ) (ps : List Sphere) (i k : ℕ) (actor : Actor) → n + 
 least_is n [] i k actor e l before here = absurd (omega (arith, l))
 least_is n (p ∷ ps) zero k actor e l before here =
     let same : n ≡ k = omega (arith, e) in
-    who_turn n p.role (least (suc n) ps) ∙ ap (λ (o : Option Actor). who_in n o (least (suc n) ps)) here ∙ ap (λ (m : ℕ). Some (record { sphere = m; actor = actor })) same
+    who_turn n p.role (least (suc n) ps) ∙ ap (λ (o : Option Actor). named_turn n o (least (suc n) ps)) here ∙ ap (λ (m : ℕ). Some (record { sphere = m; actor = actor })) same
 least_is n (p ∷ ps) (suc i) k actor e l before here =
     who_turn n p.role (least (suc n) ps)
-    ∙ ap (λ (o : Option Actor). who_in n o (least (suc n) ps)) (before zero (omega arith))
+    ∙ ap (λ (o : Option Actor). named_turn n o (least (suc n) ps)) (before zero (omega arith))
     ∙ least_is (suc n) ps i k actor (omega (arith, e)) (omega (arith, l)) (λ j m. before (suc j) (omega (arith, m))) here
 
 -- if it is no actor's turn in any sphere, no sphere goes on
@@ -51,7 +51,7 @@ pub least_is_none : (n : ℕ) (ps : List Sphere) → ((j : ℕ) → j < length p
 least_is_none n [] each = refl
 least_is_none n (p ∷ ps) each =
     who_turn n p.role (least (suc n) ps)
-    ∙ ap (λ (o : Option Actor). who_in n o (least (suc n) ps)) (each zero (omega arith))
+    ∙ ap (λ (o : Option Actor). named_turn n o (least (suc n) ps)) (each zero (omega arith))
     ∙ least_is_none (suc n) ps (λ j m. each (suc j) (omega (arith, m)))
 
 -- ---- cores that run a thread

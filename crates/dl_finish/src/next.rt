@@ -1,7 +1,7 @@
 //! The next event of finishing. It is found without memory.
 ghost use Rattle.std.specs.Prelude.{◌≡◌, ◌≤◌, ◌<◌, true, Some, IfSome, length};
 ghost use Rattle.spec_engine.specs.Flights.{first_slot, passes, told_at};
-ghost use Rattle.spec_protocol.specs.machine.Finishing.{for_actor as event_of_actor, for_core, for_flight as event_of_flight, for_who, least, next};
+ghost use Rattle.spec_protocol.specs.machine.Finishing.{for_actor as event_of_actor, for_core, for_flight as event_of_flight, for_turn, least, next};
 ghost use Rattle.spec_protocol.specs.machine.Finishing.{standing as standing_in, untold as untold_from};
 ghost use Rattle.spec_protocol.specs.machine.World.{core_of};
 ghost use Rattle.dl_finish.specs.Turns.{on_core as event_on_core, turn_in};
@@ -94,7 +94,7 @@ fn was_told(told: u8, core: u8) -> bool
 
 // The lowest replay that still goes on does its next event.
 fn for_replays<G: Sig>(machine: &Machine<G>) -> Option<Event>
-    ensures { result ≡ for_who machine.now (least 0 machine.now.spheres) }
+    ensures { result ≡ for_turn machine.now (least 0 machine.now.spheres) }
 {
     for i in 0..machine.spheres() {
         if let Some(actor) = turn(machine.sphere(i)) {

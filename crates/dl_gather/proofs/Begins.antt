@@ -16,7 +16,7 @@ use Rattle.spec_play.specs.Progress.{Progress, position, no_progress, nothing_us
 use Rattle.spec_play.specs.Turns.{TurnOrEnd, Turn, TurnOfDma, Ended, has_left_over, at_end, turn_of_thread, turn_of, next_actor, now_at}
 use Rattle.spec_play.specs.Verdicts.{LogVerdict, Goes, Fails}
 use Rattle.spec_play.specs.Transfers.{DmaVerdict, DmaGoes, DmaFails, dma_verdict}
-use Rattle.spec_play.specs.Plays.{Played, opened, with_threads, settled, thread_verdict, play_thread, dma_settled, play_now, play_one, plays}
+use Rattle.spec_play.specs.Plays.{Played, opened, with_threads, settled, thread_verdict, play_thread, dma_settled, play_turn, play_one, plays}
 use Rattle.spec_play.specs.Walks.{walk_end}
 use Rattle.spec_play.specs.States.{state_of, state_after}
 use Rattle.spec_play.specs.Intervals.{IsWithin, without_commits}
@@ -81,7 +81,7 @@ dma_ends : (log : LogParts) (y : Played) (v : DmaVerdict) → Ends log (dma_sett
 dma_ends log y (DmaGoes words) = now_ends log (with_dma y.progress) (with_dma_used y.used) y.threads
 dma_ends log y (DmaFails why) = refl
 
-next_ends : (log : LogParts) (y : Played) (now : TurnOrEnd) → Ends log y → Ends log (play_now log y now)
+next_ends : (log : LogParts) (y : Played) (now : TurnOrEnd) → Ends log y → Ends log (play_turn log y now)
 next_ends log y (Ended how) ends = ends
 next_ends log y TurnOfDma ends = dma_ends log y (dma_verdict log y.progress y.used)
 next_ends log y (Turn k) ends = thread_settled log y k (slice_get y.threads k) ends

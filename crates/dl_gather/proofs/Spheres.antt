@@ -38,7 +38,7 @@ next_turns : (m : Contents) (ss : List Sphere) (i : ℕ) (d : Sphere) → i < le
     → (name : List ℕ) → IsReadNext (read_for_sphere (sphere_view (get_or ss i d)) ++ flat_map read_for_sphere (map sphere_view (drop (i + 1) ss))) m name → IsReadNext (flat_map read_for_sphere (map sphere_view ss)) m name
 next_turns m ss i d h turns name next = turns name (subst (λ (xs : List Sphere). IsReadNext (flat_map read_for_sphere (map sphere_view xs)) m name) (sym (drop_more ss i d h)) next)
 
--- once sphere i is read as well, the turns of the names behind it are turns of all
+-- once sphere i is read as well, the turns of the names after it are turns of all
 pub turns_more : (m : Contents) (ss : List Sphere) (i : ℕ) (d : Sphere) (x : SphereInputs) → i < length ss → Turns m ss i → sphere_read m (sphere_view (get_or ss i d)) ≡ Ok (sphere_inputs x) → Turns m ss (i + 1)
 turns_more m ss i d x h turns made name next =
     next_turns m ss i d h turns name (next_behind m (read_for_sphere (sphere_view (get_or ss i d))) (flat_map read_for_sphere (map sphere_view (drop (i + 1) ss))) name (sphere_there m (sphere_view (get_or ss i d)) (sphere_inputs x) made) next)

@@ -67,7 +67,7 @@ Refuses stage Halt.OutOfMemory = Unit {0}
 
 -- ---- usage
 
--- words that mean no command, and no others, are refused as usage, with its line; a want of memory may come first
+-- words that mean no command, and no others, are refused as usage, with its line; memory may run out before that
 abbrev pub IsUsage : (command : Option CommandValues) → Halt → Type 0
 IsUsage command (Halt.Refused why text) = ((why ≡ Refusal.Usage) ↔ (command ≡ None)) × (why ≡ Refusal.Usage → text.items ≡ usage_line)
 IsUsage command (Halt.Fault text) = command ≢ None

@@ -7,7 +7,8 @@ use Rattle.dl_plan.specs.Values.{PlanValues, RecordValues, RoleValues, Plain, Re
 use Rattle.spec_play.specs.Intervals.{AreOrdered}
 use Rattle.spec_protocol.specs.promises.Sound.{IsRecordable}
 use Rattle.spec_program.specs.Built.{record_setup}
-use Rattle.spec_program.specs.Files.{ScheduleRead, ScriptRead, EventsDrawn, RecordInputs, RoleRead, PlainRead, RecordRead, ReplayRead, StrataRead, SphereRead, PlanRead}
+use Rattle.spec_program.specs.Files.{ScheduleRead, ScriptRead, EventsDrawn, RecordInputs, RoleRead, PlainRead, RecordRead}
+use Rattle.spec_program.specs.Files.{ReplayRead, StrataRead, SphereRead, PlanRead}
 use Rattle.spec_strata.specs.Reading as strata
 use Rattle.dl_gather.specs.declared.inputs.ScheduleInputs.{ScheduleInputs}
 use Rattle.dl_gather.specs.declared.inputs.RoleInputs.{RoleInputs}

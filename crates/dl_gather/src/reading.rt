@@ -28,7 +28,7 @@ pub fn read_file<F: Files>(alloc: Global, files: &mut F, name: &str) -> Result<V
     }
 }
 
-/// What the file `name` says as a log. It is read piece after piece, and nothing behind a field that isn't good.
+/// What the file `name` says as a log. It is read piece after piece, and nothing after a field that isn't good.
 pub fn read_log<F: Files>(alloc: Global, files: &mut F, name: &str) -> Result<LogRead, Halt>
     ensures read { IfOk result (λ r. (m : Contents) → (F.seen files.old).known ≡ Some m
         → log_at m name.now ≡ Ok (read_view r)) }
@@ -42,7 +42,7 @@ pub fn read_log<F: Files>(alloc: Global, files: &mut F, name: &str) -> Result<Lo
     }
 }
 
-/// What the file `name` says as a script. It is read piece after piece, and nothing behind a line that is refused.
+/// What the file `name` says as a script. It is read piece after piece, and nothing after a line that is refused.
 pub fn read_script<F: Files>(alloc: Global, files: &mut F, name: &str) -> Result<ScriptRead, Halt>
     ensures read { IfOk result (λ r. (m : Contents) → (F.seen files.old).known ≡ Some m
         → script_at m name.now ≡ Ok (script_view r)) }

@@ -92,7 +92,7 @@ copying_more addr i b words h =
           let place : (addr + (i + 1)) / 4 ≡ (addr + i) / 4 = omega (arith, within) in rw place (holds-put words s);
     }
 
--- the next byte is put, and the others behind it
+-- the next byte is put, and the others after it
 pub put_next : (words : List Stored) (addr i : ℕ) (bytes : List ℕ) → i < length bytes
     → bytes_put words (addr + i) (drop i bytes) ≡ bytes_put (put words (stored 1 (addr + i) (slice_index bytes i))) (addr + (i + 1)) (drop (i + 1) bytes)
 unfolding bytes_put

@@ -56,7 +56,7 @@ pub(crate) fn call(
     }
 }
 
-// The thread with a result, behind its call.
+// The thread with a result, after its call.
 pub(crate) fn with_result(answer: u32, t: &Parts) -> Parts
     requires { IsThread t.now }
     ensures value { result ≡ with_result answer t.now }

@@ -67,7 +67,7 @@ fn lane_of(addr: u32, value: u32) -> Lane
     }
 }
 
-/// The words of a DMA that stores these bytes, at most 4,096: their number in the request's first word, and the bytes behind
+/// The words of a DMA that stores these bytes, at most 4,096: their number in the request's first word, and the bytes after
 /// it. The request ends below 2^32.
 pub fn dma_words(alloc: Global, request: &Request, bytes: &[u8]) -> Result<Buffer, OutOfMemory>
     requires few { length bytes.now ≤ most_bytes }

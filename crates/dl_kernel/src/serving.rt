@@ -296,7 +296,7 @@ fn loaded_by(
     Ok(served)
 }
 
-// The thread behind its instruction, with a value in a register.
+// The thread after its instruction, with a value in a register.
 fn with_register(thread: &Thread, rd: Reg, value: u32) -> Thread
     ensures { result ≡ at_pc thread.now rd value (following thread.now) }
 {

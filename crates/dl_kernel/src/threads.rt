@@ -23,7 +23,7 @@ pub fn thread_at(threads: &Threads, number: u8) -> Thread
     }
 }
 
-/// Puts a thread in the place of another, and one that was spawned behind all.
+/// Puts a thread in the place of another, and one that was spawned after all.
 pub fn settle(threads: &mut Threads, number: u8, thread: &Thread, spawned: Option<Thread>)
     requires thread { number < length threads.old }
     requires room { OnSome spawned (length threads.old < most_threads) }
@@ -69,7 +69,7 @@ pub fn interrupted(value: u32, thread: &Thread) -> Thread
     Thread::from_parts(&parts)
 }
 
-/// Which of the threads live, and false behind the last one.
+/// Which of the threads live, and false after the last one.
 pub fn live_of(threads: &Threads) -> [bool; PLACES]
     ensures value { result ≡ map is_live threads.now ++ replicate (row_places - length threads.now) false }
     ensures first { take (length threads.now) result ≡ map is_live threads.now }

@@ -10,7 +10,7 @@ use Rattle.spec_log.specs.declared.fault.Fault.{Fault}
 use Rattle.spec_log.specs.Fields.{Read, Reader, continues, read, gives, raw, passes as judge, number, number_of}
 use Rattle.dl_logfmt.proofs.ByteNumbers.{IsByte, length-little, number_of-little, little-number_of, number_of-below}
 
--- what was read: a good value, whose bytes these are, and the bytes behind it
+-- what was read: a good value, whose bytes these are, and the bytes after it
 pub record Found {X : Type 0} (bytes_of : X → List ℕ) (good : X → Type 0) (before bytes : List ℕ) (x : X) (after : ℕ) : Type 0 where
   pub is_good : good x
   pub rest : List ℕ
@@ -65,7 +65,7 @@ Codes-gives {X} x good is only =
           };
     }
 
--- where one reading behind another gave a value, the first gave one too, and the second went on from it
+-- where one reading after another gave a value, the first gave one too, and the second went on from it
 pub continued : {X Y : Type 0} (r : Result (Read X) Fault) (next : X → ℕ → Result (Read Y) Fault) (y : Read Y)
     → continues r next ≡ Ok y → (x : Read X) × (r ≡ Ok x) × (next x.value x.after ≡ Ok y)
 continued (Ok x) next y e = (x, refl, e)
@@ -77,7 +77,7 @@ length-assoc a b c = ap length (append_assoc a b c)
 -- Before these bytes stand others, and of a value is known how its bytes are written and that it is good: the value x was
 -- read of these bytes, up to a place.
 module _ {X : Type 0} (bytes_of : X → List ℕ) (good : X → Type 0) (before bytes : List ℕ) (x : X) (after : ℕ) where
-  -- what stands behind what was found
+  -- what comes after what was found
   found_rest : (f : Found bytes_of good before bytes x after) → All IsByte bytes → All IsByte f.rest
   found_rest f are =
       subst (λ (z : List ℕ). All IsByte z)
@@ -104,7 +104,7 @@ module _ {X : Type 0} (bytes_of : X → List ℕ) (good : X → Type 0) (before 
       subst (λ (z : List ℕ). next z (length (before ++ bytes_of x)) ≡ result) same
       (subst (λ (at : ℕ). next (before ++ bytes) at ≡ result) f.here e)
 
--- one reader behind another: a whole is a first value and the rest
+-- one reader after another: a whole is a first value and the rest
 pub Codes-then : {X Y : Type 0} (first : Reader X) (next : X → Reader Y) (bytes_of : X → List ℕ) (good : X → Type 0)
     (rest_of : X → Y → List ℕ) (rest_good : X → Y → Type 0) (all_of : Y → List ℕ) (all_good : Y → Type 0)
     → Codes first bytes_of good → ((x : X) → good x → Codes (next x) (rest_of x) (rest_good x))

@@ -23,7 +23,7 @@ record Part (X A : Type 0) : Type 1 where
   good : A → Type 0
   codes : Codes reader bytes_of good
 
--- reading a value of two parts, one behind the other, undoes writing it
+-- reading a value of two parts, one after the other, undoes writing it
 Codes-two : {A B X : Type 0} (a : Part X A) (b : Part X B) (make : A → B → X)
     → ((x : A) (y : B) → (a.of (make x y) ≡ x) × (b.of (make x y) ≡ y)) → ((z : X) → z ≡ make (a.of z) (b.of z))
     → Codes (read a.reader (λ x. read b.reader (λ y. gives (make x y)))) (λ z. a.bytes_of (a.of z) ++ b.bytes_of (b.of z)) (λ z. a.good (a.of z) × b.good (b.of z))
@@ -35,7 +35,7 @@ Codes-two {A} {B} {X} a b make parts whole =
     (λ z e. whole z ∙ (ap (λ (w : A). make w (b.of z)) e.1 ∙ ap (make x) e.0))))
     (λ z h. append-nil (b.bytes_of (b.of z))) (λ z h. (h.1, h.0)) (λ z h. (h.1, h.0)))
 
--- reading a value of three parts, one behind the other, undoes writing it
+-- reading a value of three parts, one after the other, undoes writing it
 Codes-three : {A B C X : Type 0} (a : Part X A) (b : Part X B) (c : Part X C) (make : A → B → C → X)
     → ((x : A) (y : B) (z : C) → (a.of (make x y z) ≡ x) × (b.of (make x y z) ≡ y) × (c.of (make x y z) ≡ z))
     → ((v : X) → v ≡ make (a.of v) (b.of v) (c.of v))

@@ -163,7 +163,7 @@ module _ {D : Type 0} (one : D → Reader D) (set : List Actor → D) (count : �
       (λ a b to. repeated-halves n ((xs ++ a ∷ []) ++ b ∷ []) bytes to (λ h. omega (arith, length_push (xs ++ a ∷ []) b, length_push xs a)))
       (any 1 bytes at))
 
-  -- the stage reads the actors behind their number
+  -- the stage reads the actors after their number
   pub counted-halves : (bytes : List ℕ) (r : Result (Read ℕ) Fault) → ((x : Read ℕ) → r ≡ Ok x → 0 < x.value → x.value ≡ count)
       → continues (continues r (λ n. gives (n / 2 + n % 2) bytes)) (λ k after. repeated one k (set []) bytes after)
       ≡ continues (continues r (λ n after. halved n bytes after)) (λ xs. gives (set xs) bytes)

@@ -122,7 +122,7 @@ pub put-on : {X Y Z : Type 0} (r : Result (Read X) Fault) (put : X → Y) (next 
 put-on (Ok r) put next bytes = refl
 put-on (Err fault) put next bytes = refl
 
--- a stage that puts what is read into the draft, and the stages behind it
+-- a stage that puts what is read into the draft, and the stages after it
 pub staged-on : {D X : Type 0} (stage : Stage D) (behind : List (Stage D)) (d : D) (reader : Reader X) (put : X → D)
     → ((bytes : List ℕ) (at : ℕ) → staged stage d bytes at ≡ read reader (λ x. gives (put x)) bytes at)
     → (bytes : List ℕ) (at : ℕ) → all_of (stage ∷ behind) d bytes at ≡ read reader (λ x. all_of behind (put x)) bytes at
@@ -293,7 +293,7 @@ Codes-from_s v t m good =
     (Codes-chunk_size v) (λ s g. Codes-from_count (shaped v t s) m (good, g))
     (λ s l r. ap (λ (l : Draft). l.shape.s) r.2.2.2.2.2.2))
 
--- a number that is always the same, from which the draft is this, and the stages behind it
+-- a number that is always the same, from which the draft is this, and the stages after it
 pub Codes-constant_then : {D : Type 0} (stage : Stage D) (behind : List (Stage D)) (d e : D) (width fault value : ℕ) (rest_of : D → List ℕ) (rest_good : D → Type 0)
     → value < 256 ^ width
     → ((bytes : List ℕ) (at : ℕ) → staged stage d bytes at ≡ read (number width fault (λ x. x == value)) (λ x. gives e) bytes at)

@@ -161,7 +161,7 @@ staged-by false one set mode threads count on bytes at =
     (λ xs bytes at. on xs bytes at ∙ ap (λ r. continues r (λ ys. gives (set ys) bytes)) (one_actor-more threads xs bytes at))
     (field 4 (λ n. n == ordered mode count)) bytes at
 
--- the stage reads the actors behind their number
+-- the stage reads the actors after their number
 pub staged-actors : {D : Type 0} (one : D → Reader D) (set : List Actor → D) (shape : Shape) (mode : ModeName) (count : ℕ)
     → ((xs : List Actor) (bytes : List ℕ) (at : ℕ) → one (set xs) bytes at ≡ read (more_actors shape count xs) (λ ys. gives (set ys)) bytes at)
     → (bytes : List ℕ) (at : ℕ)

@@ -22,7 +22,7 @@ use Rattle.dl_logfmt.specs.Parsing.{Came, Extends, Feeds, Grew, Reads, Steps, ah
 use Rattle.dl_logfmt.specs.Streams.{Stops, Streams, rest_in}
 use Rattle.dl_logfmt.proofs.Streams.{Streams-gives, Streams-read, Streams-wider, Streams-any, Streams-field, Streams-number, Streams-one_more, Streams-short_size, Streams-interrupt, Streams-input, Streams-dma, Streams-sized, step-leads, step-stops}
 
--- a stage that isn't the end is the first of those ahead, with those behind it
+-- a stage that isn't the end is the first of those ahead, with those after it
 pub ahead-more : (stage : StageName) → (stage ≡ End → ⊥) → ahead stage ≡ stage_at stage ∷ ahead (next stage)
 ahead-more Magic more = refl
 ahead-more Version more = refl
@@ -179,7 +179,7 @@ module _ (stage : StageName) (left : Option ℕ) (d : Draft) (bytes : List ℕ) 
       rw none (refl, λ before behind. rw (ahead-more stage some) (stops before behind))
   times-unread after OutOfMemory none e = tt
 
-  -- the stage is behind it
+  -- the stage is after it
   pub stage-passed : left ≡ Some 0 → Steps bytes here at (Ok tt) (record { stage = next stage; left = None; draft = d }) at
   stage-passed none =
       let (low, up) = rank-more stage some in

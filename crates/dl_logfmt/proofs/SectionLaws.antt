@@ -163,7 +163,7 @@ module _ {D X : Type 0} (one : D → Reader D) (set : List X → D) (earlier : X
   counted-entries bytes (Ok r) = repeated-entries r.value [] bytes r.after
   counted-entries bytes (Err fault) = refl
 
-  -- the stage reads the entries behind their number
+  -- the stage reads the entries after their number
   pub staged-entries : (count : Reader ℕ) (bytes : List ℕ) (at : ℕ)
       → read count (λ n. repeated one n (set [])) bytes at
       ≡ read (read count (λ n. entries earlier entry None n)) (λ xs. gives (set xs)) bytes at

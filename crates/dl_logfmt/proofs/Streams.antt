@@ -75,7 +75,7 @@ module _ (before bytes behind : List ℕ) (at : ℕ) where
   abbrev all : List ℕ
   all = before ++ (bytes ++ behind)
 
-  -- one stream behind another
+  -- one stream after another
   read-holds : {X Y : Type 0} (m n : ℕ) (next : X → Reader Y) (r whole : Result (Read X) Fault)
       → ((x : X) → Streams n (next x)) → Holds m before bytes behind at r whole
       → Holds (m + n) before bytes behind at (continues r (λ x after. next x bytes after)) (continues whole (λ x after. next x all after))
@@ -103,7 +103,7 @@ module _ (before bytes behind : List ℕ) (at : ℕ) where
   judged-holds m fault test value (Err f) whole other inside h =
       record { within = h.within; short = h.short; same = λ k. rw (h.same k) refl }
 
--- one stream behind another is a stream of at most the bytes of both
+-- one stream after another is a stream of at most the bytes of both
 pub Streams-read : {X Y : Type 0} (m n : ℕ) (first : Reader X) (next : X → Reader Y) → Streams m first → ((x : X) → Streams n (next x)) → Streams (m + n) (read first next)
 Streams-read m n first next s t =
     record { holds = λ before bytes behind at h. read-holds before bytes behind at m n next _ _ t (s.holds before bytes behind at h) }
@@ -176,7 +176,7 @@ number-passed fault start test (Ok r) bytes x e =
     subst (λ (n : ℕ). test n ≡ true) p.1 p.0
 number-passed fault start test (Err f) bytes x e = cc
 
--- at most 4,096 bytes behind their number
+-- at most 4,096 bytes after their number
 counted-holds : (before bytes behind : List ℕ) (at : ℕ) (r whole : Result (Read ℕ) Fault)
     → ((x : Read ℕ) → r ≡ Ok x → x.value ≤ 4096) → Holds 2 before bytes behind at r whole
     → Holds 4098 before bytes behind at (continues r (λ n after. raw n bytes after)) (continues whole (λ n after. raw n (before ++ (bytes ++ behind)) after))
@@ -206,7 +206,7 @@ Streams-dma =
     Streams-read 4 4098 (any 4) _ (Streams-any 4) (λ position.
     Streams-read 4098 0 counted _ Streams-counted (λ content. Streams-gives _))
 
--- where a whole is read on behind what a stream read, it leads on, and where it has the stream's fault, it stops
+-- where a whole is read on after what a stream read, it leads on, and where it has the stream's fault, it stops
 pub step-leads : {X Y : Type 0} (most : ℕ) (unit : Reader X) (first second : Reader Y) (bytes : List ℕ) (at after : ℕ) (x : X)
     → Streams most unit → at ≤ length bytes → unit bytes at ≡ Ok (record { value = x; after = after })
     → ((whole : List ℕ) (from to : ℕ) → unit whole from ≡ Ok (record { value = x; after = to }) → first whole from ≡ second whole to)

@@ -66,7 +66,7 @@ Gave-first {count} {next} {room} {into} rest f =
       others = sym (drop-append-le count next rest there);
     }
 
--- some of the next bytes are given behind those
+-- some of the next bytes are given after those
 Gave-more : {count k : ℕ} {old next room into here : List ℕ} (rest : List ℕ) → Gave count old (next ++ rest) room into
     → Filled k next (part count into) here → Gave (count + k) old (drop k next ++ rest) room (with_part count into here)
 Gave-more {count} {k} {old} {next} {room} {into} {here} rest g f =
@@ -88,7 +88,7 @@ Gave-more {count} {k} {old} {next} {room} {into} {here} rest g f =
       others = sym (drop-append-le k next rest there) ∙ ap (drop k) g.others ∙ drop-drop k count old;
     }
 
--- two lists are given one behind the other: the first one whole, or no room is left for the second
+-- two lists are given one after the other: the first one whole, or no room is left for the second
 Gave-both : {f k : ℕ} {a t room into here : List ℕ} → Filled f a room into → Filled k t (part f into) here
     → Gave (f + k) (a ++ t) (drop f a ++ drop k t) room (with_part f into here)
 Gave-both {f} {k} {a} {t} {room} {into} {here} first second =
@@ -117,12 +117,12 @@ Gave-slice {f} {k} {slice} {old} {room} {into} {here} taken all t same view firs
     rw (← view, ← drop-drop f taken all, take_rest t k)
     (Gave-both (subst (λ (z : List ℕ). Filled f z room into) from first) second)
 
--- a unit and those behind it are left, and of the unit nothing where room is left
+-- a unit and those after it are left, and of the unit nothing where room is left
 pub record Writing (count : ℕ) (old unit units room into : List ℕ) : Type 0 where
   pub gave : Gave count old (unit ++ units) room into
   pub whole : count < length room → unit ≡ []
 
--- So many bytes are written, and this unit and those behind it are left.
+-- So many bytes are written, and this unit and those after it are left.
 module _ {count : ℕ} {old unit units room into : List ℕ} (w : Writing count old unit units room into) where
   -- where room is left, the next unit is begun
   pub Writing-unit : {k : ℕ} {next behind here after : List ℕ}

@@ -13,7 +13,7 @@ abbrev pub fed : Result LogParts Fault → Result (Unit {0}) Fault
 fed (Ok log) = Ok tt
 fed (Err fault) = if fault.number == 1 then Ok tt else Err fault
 
--- a call answered this; want of memory alone has no cause
+-- a call answered this; only for memory that ran out no cause is asked
 abbrev pub IsFeeding : Result (Unit {0}) Fault → Result (Unit {0}) LogError → Type 0
 IsFeeding said (Ok x) = said ≡ Ok tt
 IsFeeding said (Err (Malformed fault)) = said ≡ Err fault

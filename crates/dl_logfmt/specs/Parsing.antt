@@ -29,7 +29,7 @@ stage_at Inputs = inputs
 stage_at Dmas = dmas
 stage_at End = once gives
 
--- the stage behind it
+-- the stage after it
 abbrev pub next : StageName → StageName
 next Magic = Version
 next Version = Mode
@@ -83,7 +83,7 @@ most_in rank (Some left) = (10 - rank) * 4294967297 + left + 1
 abbrev pub most : Parser → ℕ
 most p = most_in (rank p.stage) p.left
 
--- a list is another with more behind it
+-- a list is another with more after it
 abbrev pub Extends : {X : Type 0} → List X → List X → Type 0
 Extends {X} xs ys = (more : List X) × (ys ≡ xs ++ more)
 
@@ -113,7 +113,7 @@ mark_of p =
       dmas = length p.draft.dmas;
     }
 
--- the parser without what was read behind a mark
+-- the parser without what was read after a mark
 abbrev pub cut : Mark → Parser → Parser
 cut mark p =
     record {
@@ -138,7 +138,7 @@ pub record Came (bytes : List ℕ) (p : Parser) (at : ℕ) (q : Parser) (after :
   pub within : after ≤ length bytes
   pub cost : after + widest * most q ≤ at + widest * most p
 
--- what comes next was read, or is a fault; want of memory alone has no cause
+-- what comes next was read, or is a fault; only for memory that ran out no cause is asked
 abbrev pub Steps : List ℕ → Parser → ℕ → Result (Unit {0}) LogError → Parser → ℕ → Type 0
 Steps bytes p at (Ok x) q after = Came bytes p at q after × (most q < most p)
 Steps bytes p at (Err (Malformed fault)) q after = (q ≡ p) × Stops bytes (remaining p) at fault

@@ -1,5 +1,5 @@
 -- Readers in pieces, and those whose answer holds wherever their bytes stand: it stays whatever stands before these bytes, and, unless they
--- end inside a field, whatever stands behind them.
+-- end inside a field, whatever stands after them.
 use Rattle.std.specs.Prelude.{◌≡◌, ℕ, ◌+◌, ◌≤◌, List, [], ◌∷◌, ◌++◌, length, Option, Some, None, Result, Ok, Err}
 use Rattle.spec_log.specs.declared.fault.Fault.{Fault}
 use Rattle.spec_log.specs.Fields.{Read, Reader, Stage, read, gives, repeated, all_of}

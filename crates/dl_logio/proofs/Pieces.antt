@@ -40,7 +40,7 @@ front_of (suc room) (y ∷ ys) piece e = subst (λ (xs : List ℕ). take (length
 pub none_read : (known : Option Contents) (name : List ℕ) → IsFront known name []
 none_read known name m e content there = refl
 
--- a front, and the piece that the file holds behind it, are a front
+-- a front, and the piece that the file holds after it, are a front
 pub more_read : (known : Option Contents) (name bytes : List ℕ) (offset room : ℕ) (piece : List ℕ) → length bytes ≡ offset → IsFront known name bytes → HoldsAt known name offset room piece → IsFront known name (bytes ++ piece)
 more_read known name bytes offset room piece at front held m e content is =
     let part = part_at m name offset room piece (get m name) (there known m name offset room piece held e) in

@@ -19,7 +19,7 @@ pub enum LogRead {
     Malformed(Fault),
 }
 
-/// What the file `name` says as a log, in memory of `alloc`. Nothing is read behind a field that isn't good.
+/// What the file `name` says as a log, in memory of `alloc`. Nothing is read after a field that isn't good.
 pub fn read_log_file<F: Files>(
     alloc: Global,
     files: &mut F,

@@ -6,7 +6,8 @@ use Rattle.spec_protocol.specs.declared.event.Event.{Event}
 use Rattle.spec_protocol.specs.machine.Spheres.{Recording, Cursor, Record, Replay, Sphere, is_over}
 use Rattle.spec_protocol.specs.machine.Placing.{replays}
 use Rattle.spec_protocol.specs.machine.World.{World, sphere_at}
-use Rattle.spec_protocol.specs.machine.Machine.{last_played, first_played, ReplaySetup, EpochSetup, RecordSetup, IsRecorded, IsReplayed, Setup, SphereSetup, in_strata}
+use Rattle.spec_protocol.specs.machine.Machine.{last_played, first_played, ReplaySetup, EpochSetup, RecordSetup, IsRecorded}
+use Rattle.spec_protocol.specs.machine.Machine.{IsReplayed, Setup, SphereSetup, in_strata}
 use Rattle.spec_protocol.specs.machine.Serial.{CanDoAll, serial, serial_start}
 use Rattle.spec_protocol.specs.machine.Shown.{shown_of}
 use Rattle.spec_protocol.specs.promises.Alike.{IsAlike}

@@ -264,7 +264,8 @@ fn first<G: Sig>(
 ) -> Result<Core<G>, AllocError>
     requires { IsWithin setup.now }
     ensures { let z = numbers_with setup.now spheres.now in
-        IfOk result (λ c. c ≡ holding (first_held z core (slice_get spheres.now.spheres core)) (idle spheres.now.most setup.now.capacity setup.now.bits setup.now.depth)) }
+        let none = idle spheres.now.most setup.now.capacity setup.now.bits setup.now.depth in
+        IfOk result (λ c. c ≡ holding (first_held z core (slice_get spheres.now.spheres core)) none) }
 {
     let mut made = Core::new(
         alloc,

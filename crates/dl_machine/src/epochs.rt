@@ -16,7 +16,7 @@ use dl_sig::Sig;
 use spec_protocol::Event;
 
 impl<G: Sig> State<G> {
-    // Before an event that commits or interrupts, the epochs begin that are due.
+    // Before an ask, an interrupt or a DMA, the epochs begin that are due.
     pub(crate) fn prepare(&mut self, event: Event) -> Result<(), OutOfMemory>
         requires led { HasRun self.old }
         ensures begun { OnOk result (wants event ≡ true → NoneIsDue self.new) }

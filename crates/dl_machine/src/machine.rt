@@ -67,7 +67,7 @@ impl<G: Sig> Machine<G> {
     }
 
     /// In each recorded sphere in which an epoch is due, it begins. If memory runs out, it may have begun in some of them; the
-    /// machine still shows the same events. A machine does this before each event that commits or interrupts; once a run is
+    /// machine still shows the same events. A machine does this before each ask, interrupt and DMA; once a run is
     /// over, it is done once more, so that each sphere has a base.
     pub fn begin_epochs(&mut self) -> Result<(), OutOfMemory>
         ensures begun { OnOk result (NoneIsDue self.new) }
@@ -78,7 +78,7 @@ impl<G: Sig> Machine<G> {
         self.state.begin_epochs()
     }
 
-    /// Takes one event. Before one that commits or interrupts, the epochs begin that are due. If memory runs out, all is as
+    /// Takes one event. Before an ask, an interrupt or a DMA, the epochs begin that are due. If memory runs out, all is as
     /// before, but some of these epochs may have begun.
     #[inline(always)]
     pub fn apply(&mut self, event: Event) -> Result<Reply, OutOfMemory>

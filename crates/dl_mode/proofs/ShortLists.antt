@@ -68,7 +68,7 @@ insert-end x (y ∷ sizes) h =
             | inr s ↦ rw (s.0, earlier-same x.thread y.index x.index) (lt-ltb y.index x.index s.1)
           ]
 
--- the next size of a rising list is inserted behind those before it
+-- the next size of a rising list is inserted after those before it
 pub insert-next : (sizes : List ShortSize) → AllAdjacentBelow Before sizes (length sizes) → (n : ℕ) (x : ShortSize) → n < length sizes
     → x ≡ get_or sizes n x → insert_size x (take n sizes) ≡ take (n + 1) sizes
 insert-next sizes r n x h is =

@@ -189,7 +189,7 @@ IsWhole-noted order sizes past threads new actor size w good few below e d =
 pub counted-more : (order : List Actor) (i : ℕ) (d : Actor) → i < length order → counted (take (i + 1) order) ≡ done_with (counted (take i order)) (get_or order i d)
 counted-more order i d h = fold_more done_with (replicate most_threads 0) order i d h
 
--- a range that isn't empty is its first number, and then the range behind it
+-- a range that isn't empty is its first number, and then the range after it
 pub range-next : (t n m : ℕ) → n ≡ suc m → range_with_len t n ≡ t ∷ range_with_len (t + 1) m
 range-next t n m e = rw e refl
 

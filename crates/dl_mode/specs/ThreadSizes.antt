@@ -4,7 +4,7 @@ use Rattle.spec_log.specs.declared.sizes.ShortSize.{ShortSize}
 use Rattle.dl_moments.specs.declared.lane.Mark.{Mark}
 use Rattle.dl_moments.specs.Entries.{entries_from}
 
--- the sizes of one thread, and of this thread and those behind it
+-- the sizes of one thread, and of this thread and those after it
 abbrev pub short_of : ℕ → Mark ℕ → ShortSize
 short_of thread mark = record { thread = thread; index = mark.index; size = mark.value }
 

@@ -1,7 +1,7 @@
 //! The lists of a log that depend on its mode.
 use spec_log::{ModeName, Order, Sizes};
 
-/// A log but for its records: its mode, its standard chunk size, its number of commits, their order and their sizes.
+/// A log without its records: its mode, its standard chunk size, its number of commits, their order and their sizes.
 #[derive(Debug, Drop)]
 pub struct Lists {
     pub mode: ModeName,

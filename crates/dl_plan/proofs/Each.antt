@@ -15,7 +15,7 @@ after_push done b (Some r) = ap Some (sym (append_assoc done (b ∷ []) r))
 after_one : {A B : Type 0} (f : A → Option B) (done : List B) (x : A) (b : B) (xs : List A) → f x ≡ Some b → after done (each_of f (x ∷ xs)) ≡ after (done ++ (b ∷ [])) (each_of f xs)
 after_one f done x b xs e = rw e (after_push done b (each_of f xs))
 
--- one turn of a loop: what is made of the next element is put behind what is done
+-- one turn of a loop: what is made of the next element is put after what is done
 pub next_after : {X Y A B : Type 0} (f : A → Option B) (view : X → A) (made : Y → B) (xs : List X) (i : ℕ) (d : X) (y : Y) (done more : List Y) → i < length xs
     → f (view (get_or xs i d)) ≡ Some (made y) → more ≡ done ++ (y ∷ []) → each_of f (map view xs) ≡ after (map made done) (each_of f (map view (drop i xs)))
     → each_of f (map view xs) ≡ after (map made more) (each_of f (map view (drop (i + 1) xs)))

@@ -35,7 +35,7 @@ has_known_keys ms = has_only top_keys ms && passes all_have_sphere_keys (get_mem
 
 -- ---- rule 3: what has to be there is there, and each value is of its type
 
--- what a plan's top keys hold, but for its spheres
+-- what a plan's top keys hold, except for its spheres
 pub record TopEntries : Type 0 where
   pub cores : ℤ
   pub chunk : ℤ

@@ -43,7 +43,7 @@ pub(crate) fn text<'a>(table: &'a Table, key: &str) -> Option<&'a str>
     }
 }
 
-/// The whole number at a `key` that may be absent. `None` where a value of another type stands there.
+/// The whole number at a `key` that may be absent. `None` if a value of another type is there.
 pub(crate) fn optional_number(table: &Table, key: &str) -> Option<Option<i64>>
     ensures { result ≡ optional_number (table_view table.now) key.now }
 {
@@ -56,7 +56,7 @@ pub(crate) fn optional_number(table: &Table, key: &str) -> Option<Option<i64>>
     }
 }
 
-/// The text at a `key` that may be absent. `None` where a value of another type stands there.
+/// The text at a `key` that may be absent. `None` if a value of another type is there.
 pub(crate) fn optional_text<'a>(table: &'a Table, key: &str) -> Option<Option<&'a str>>
     ensures { option_map (λ t. option_copied t) result ≡ optional_text (table_view table.now) key.now }
 {

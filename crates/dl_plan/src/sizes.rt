@@ -144,7 +144,7 @@ pub(crate) fn longest_chunk(version: u8) -> u32
     if version == 1 { 4096 } else { 65_536 }
 }
 
-/// The number, where it stands from `low` to `high`.
+/// The number, if it is from `low` to `high`.
 fn limited(number: i64, low: u64, high: u64) -> Option<u64>
     ensures value { result ≡ limited low high number }
     ensures within { IfSome result (λ n. (low ≤ n) × (n ≤ high)) }

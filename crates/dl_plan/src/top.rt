@@ -1,4 +1,4 @@
-//! What a plan's top keys hold, but for its spheres.
+//! What a plan's top keys hold, except for its spheres.
 ghost use Rattle.std.specs.Prelude.{◌≡◌, option_map};
 ghost use Rattle.dl_plan.specs.Entries.{top_of};
 ghost use Rattle.dl_plan.specs.Views.{top_view};

@@ -2,6 +2,7 @@ pub mod Standings
 mod Rising
 mod Lookups
 pub mod Counts
+mod Takes
 mod Turns
 mod Verdicts
 mod Kept

@@ -1,4 +1,4 @@
--- Interrupts that are noted in the order of a log come each behind all before it, and at a new moment.
+-- Interrupts that are noted in the order of a log come each after all before it, and at a new moment.
 use Rattle.std.proofs.Common.{◌≡◌, ℕ, zero, suc, ◌+◌, ◌-◌, ◌<◌, ◌==◌, ◌&&◌, true, false, List, [], ◌∷◌, ◌++◌, All, length, map, take, get_or, None, inl, inr, refl, ap, sym, subst, ◌∙◌, arith}
 use Rattle.std.specs.List.{AllAdjacentBelow}
 use Rattle.std.proofs.lemmas.Bool.{lt-ltb, ne_eqb, eq-eqb}
@@ -57,7 +57,7 @@ insert-end x [] h = refl
 insert-end x (y ∷ xs) h =
     rw (earlier-before y x (All-head (λ y. Before y x) y xs h), insert-end x xs (All-tail (λ y. Before y x) y xs h)) refl
 
--- the next interrupt of a rising list is inserted behind those before it
+-- the next interrupt of a rising list is inserted after those before it
 pub insert-next : (xs : List Interrupt) (entries : List Tracked) → AllAdjacentBelow Before xs (length xs) → (n : ℕ) (x : Interrupt) → n < length xs
     → x ≡ get_or xs n x → map interrupt_of entries ≡ take n xs
     → map interrupt_of (insert_tracked (new_tracked x.thread x.index x.value) entries) ≡ take (n + 1) xs

@@ -12,7 +12,7 @@ use Rattle.dl_replay.specs.declared.judging.Done.{Done}
 use Rattle.dl_replay.specs.declared.judging.Taken.{Taken}
 use Rattle.dl_replay.specs.declared.judging.Transfer.{Transfer}
 
--- a commit that would leave this effect, but for the thread at its end
+-- a commit that would leave this effect, except for the thread at its end
 abbrev pub verdict_of : Result Finish Why → Effect → LogVerdict
 verdict_of (Ok f) e = Goes (record e { thread = f.thread }) f.used
 verdict_of (Err why) e = Fails why

@@ -1,6 +1,6 @@
 //! The replayer of a sphere. The sphere's state is the caller's, who hands it in. A commit is judged before anything
 //! changes. If it goes, it is taken into the state, except for the words that it stores, which are the caller's to lay.
-ghost use Rattle.std.specs.Prelude.{◌≡◌, ℕ, List, ◌+◌, ◌<◌, ◌≤◌, ◌^◌, false, length, slice_get, Some, option_map};
+ghost use Rattle.std.specs.Prelude.{◌≡◌, ◌↔◌, ℕ, List, ◌+◌, ◌<◌, ◌≤◌, ◌^◌, false, length, slice_get, None, Some, IsTrue, option_map};
 ghost use Rattle.std.specs.Prelude.{IfOk, IfSome, OnOk, OnErr, OnSome};
 ghost use Rattle.dl_entry.specs.Numbers.{most_threads};
 ghost use Rattle.dl_entry.specs.declared.Why.{Why};
@@ -16,12 +16,12 @@ ghost use Rattle.spec_play.specs.Spawned.{AreNew};
 ghost use Rattle.spec_play.specs.Turns.{Turn, TurnOfDma};
 ghost use Rattle.spec_play.specs.Transfers.{DmaGoes, dma_verdict};
 ghost use Rattle.spec_play.specs.Verdicts.{Goes, chunk_verdict, serial_verdict};
-ghost use Rattle.spec_protocol.specs.machine.Spheres.{Replay, actor_of, is_over, joins_in, pieces_of};
+ghost use Rattle.spec_protocol.specs.machine.Spheres.{Replay, Sphere, actor_of, is_over, joins_in, pieces_of, turn_in};
 ghost use Rattle.spec_strata.specs.Standing.{after_dma, after_thread, place_of, stratum_begun};
 ghost use Rattle.dl_kernel.specs.States.{PlayState, state_in};
 ghost use Rattle.dl_kernel.specs.Calls.{spawned_list};
 ghost use Rattle.spec_protocol.specs.promises.Sound.{IsSoundIf};
-ghost use Rattle.dl_replay.specs.Following.{cursor_of, diverged, end_of, followed, followed_from};
+ghost use Rattle.dl_replay.specs.Following.{cursor_of, diverged, end_of, followed, followed_from, joins};
 ghost use Rattle.dl_replay.specs.Judged.{dma_judged, judged, last_by};
 ghost use Rattle.dl_replay.specs.Judging.{transfer_verdict};
 ghost use Rattle.dl_replay.specs.Left.{SaysSize, served_by, served_left, verdict_left, verdict_stored};
@@ -151,6 +151,26 @@ impl<M: Mode> Replayer<M> {
         match &self.strata {
             Some(standing) => self.total == 0 && standing.has_chunks_left(thread),
             None => false,
+        }
+    }
+
+    /// Whether an actor may commit now, if the replay goes on: it has the turn, or in strata it has chunks left in the present
+    /// one.
+    pub fn takes(&self, actor: Actor) -> bool
+        requires going { is_over self.now.now ≡ false }
+        ensures { (used : Used) (loads : List Load) (p : Sphere) → let b = cursor_of self.now used loads in
+            IsTrue result ↔ (turn_in (Replay b) p actor ≡ None) }
+    {
+        self.joins(actor) || is_of(self.head(), actor)
+    }
+
+    // Whether an actor may commit although it isn't its turn. A DMA never does.
+    fn joins(&self, actor: Actor) -> bool
+        ensures { result ≡ joins self.now actor }
+    {
+        match actor {
+            Actor::Thread(thread) => self.joins_in(thread),
+            Actor::Dma => false,
         }
     }
 
@@ -423,6 +443,17 @@ impl<M: Mode> Replayer<M> {
         state.commits += 1;
         self.total = 0;
         self.turn = now_in(&self.log, self.interval, self.strata.as_ref(), state);
+    }
+}
+
+// Whether the turn is this actor's.
+fn is_of(head: Option<Actor>, actor: Actor) -> bool
+    ensures { IsTrue result ↔ (head ≡ Some actor) }
+{
+    match (head, actor) {
+        (Some(Actor::Thread(head)), Actor::Thread(thread)) => head == thread,
+        (Some(Actor::Dma), Actor::Dma) => true,
+        (Some(_) | None, _) => false,
     }
 }
 

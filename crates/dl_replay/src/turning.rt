@@ -6,7 +6,7 @@ ghost use Rattle.spec_play.specs.Progress.{Progress};
 ghost use Rattle.spec_play.specs.Turns.{turn_of, at_end, has_left_over};
 ghost use Rattle.spec_play.specs.Intervals.{at_end_of_log, now_in};
 ghost use Rattle.spec_protocol.specs.machine.Commits.{now_by};
-ghost use Rattle.dl_replay.specs.Following.{now_seen};
+ghost use Rattle.dl_replay.specs.Following.{turn_seen};
 ghost use Rattle.dl_replay.specs.Replays.{Agrees};
 ghost use Rattle.dl_replay.specs.Standings.{actor_next};
 
@@ -28,7 +28,7 @@ pub fn now_in<M: Mode>(
     state: &State,
 ) -> TurnOrEnd
     ensures { (p : Progress) → Agrees state.now p → let s = state.now in let x = option_map (λ x. x.now) strata.entry in
-        now_seen result ≡ now_in interval log.now.count s.commits (now_by x log.now p s.used s.threads) }
+        turn_seen result ≡ now_in interval log.now.count s.commits (now_by x log.now p s.used s.threads) }
 {
     match interval {
         None => now_by(log, strata, state),
@@ -42,7 +42,7 @@ pub fn now_in<M: Mode>(
 
 // An interval that has all its commits ends so, whether or not the log has more.
 fn at_end_of_log(turn: TurnOrEnd) -> TurnOrEnd
-    ensures { now_seen result ≡ at_end_of_log (now_seen turn) }
+    ensures { turn_seen result ≡ at_end_of_log (turn_seen turn) }
 {
     match turn {
         TurnOrEnd::Ended(End::Complete(commits)) => TurnOrEnd::Ended(End::At(commits)),
@@ -53,7 +53,7 @@ fn at_end_of_log(turn: TurnOrEnd) -> TurnOrEnd
 // In the log's own play, or in strata.
 fn now_by<M: Mode>(log: &Lookup<M>, strata: Option<&Standing>, state: &State) -> TurnOrEnd
     ensures { (p : Progress) → Agrees state.now p → let s = state.now in let x = option_map (λ x. x.now) strata.entry in
-        now_seen result ≡ now_by x log.now p s.used s.threads }
+        turn_seen result ≡ now_by x log.now p s.used s.threads }
 {
     if state.commits < log.count() {
         let actor = next_actor(log, strata, state);
@@ -88,7 +88,7 @@ fn named_actor<M: Mode>(log: &Lookup<M>, state: &State) -> Option<Actor>
 
 // A thread whose turn it is must live.
 fn turn_of(done: u32, threads: &Threads, actor: Option<Actor>) -> TurnOrEnd
-    ensures { now_seen result ≡ turn_of done threads.now actor }
+    ensures { turn_seen result ≡ turn_of done threads.now actor }
 {
     match actor {
         Some(Actor::Dma) => TurnOrEnd::TurnOfDma,
@@ -98,7 +98,7 @@ fn turn_of(done: u32, threads: &Threads, actor: Option<Actor>) -> TurnOrEnd
 }
 
 fn at_end(done: u32, left_over: bool) -> TurnOrEnd
-    ensures { now_seen result ≡ at_end done left_over }
+    ensures { turn_seen result ≡ at_end done left_over }
 {
     if left_over {
         TurnOrEnd::Ended(End::Diverged(done, Why::LeftOver))

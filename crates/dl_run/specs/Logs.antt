@@ -10,7 +10,7 @@ bytes_of SphereLog.None = []
 bytes_of (SphereLog.Whole log) = log_bytes log
 bytes_of (SphereLog.Tail tail) = tail_bytes tail
 
-abbrev pub is_tail : SphereLog → Bool
-is_tail SphereLog.None = false
-is_tail (SphereLog.Whole log) = false
-is_tail (SphereLog.Tail tail) = true
+abbrev pub is_whole : SphereLog → Bool
+is_whole SphereLog.None = false
+is_whole (SphereLog.Whole log) = true
+is_whole (SphereLog.Tail tail) = false

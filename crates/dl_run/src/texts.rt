@@ -4,8 +4,8 @@ ghost use Rattle.spec_protocol.specs.declared.event.Event.{Event};
 ghost use Rattle.spec_protocol.specs.machine.Machine.{RecordSetup, IsRecorded};
 ghost use Rattle.spec_protocol.specs.promises.Sound.{image_at};
 ghost use Rattle.spec_run.specs.Texts.{account_text as account_of, console_text, log_of_points, log_text, report_text as report_of, summary_text as summary_of};
-ghost use Rattle.spec_run.specs.Tails.{is_in_epochs};
-ghost use Rattle.dl_run.specs.Logs.{bytes_of, is_tail};
+ghost use Rattle.spec_run.specs.Tails.{is_recorded_whole};
+ghost use Rattle.dl_run.specs.Logs.{bytes_of, is_whole};
 ghost use Rattle.dl_run.specs.Ran.{IsOver};
 
 use crate::run::Run;
@@ -33,7 +33,7 @@ impl Run {
         requires { sphere < length self.now.setup.spheres }
         ensures bytes { IfOk result (λ log. (es : List Event) → IsOver es self.now
             → bytes_of log ≡ log_text self.now.setup es sphere) }
-        ensures tail { IfOk result (λ log. is_tail log ≡ is_in_epochs (image_at self.now.setup sphere).role) }
+        ensures whole { IfOk result (λ log. is_whole log ≡ is_recorded_whole (image_at self.now.setup sphere).role) }
     {
         match self.role(sphere) {
             Role::Plain | Role::Replay(_) => Ok(SphereLog::None),

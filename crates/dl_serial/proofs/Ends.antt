@@ -11,7 +11,7 @@ use Rattle.spec_log.specs.declared.LogParts.{LogParts}
 use Rattle.spec_play.specs.declared.used.Used.{Used}
 use Rattle.spec_play.specs.declared.WalkEnd.{WalkEnd}
 use Rattle.spec_play.specs.Effects.{dma_commit}
-use Rattle.spec_play.specs.Plays.{Played, settled, thread_verdict, play_thread, dma_settled, play_now, play_one, plays}
+use Rattle.spec_play.specs.Plays.{Played, settled, thread_verdict, play_thread, dma_settled, play_turn, play_one, plays}
 use Rattle.spec_play.specs.Progress.{Progress, position, with_effect, with_dma, with_dma_used}
 use Rattle.spec_play.specs.States.{State, resumed, progress_from}
 use Rattle.spec_play.specs.Transfers.{DmaVerdict, DmaGoes, DmaFails, dma_verdict}
@@ -36,7 +36,7 @@ dma_most : (log : LogParts) (y : Played) (v : DmaVerdict) → position (dma_sett
 dma_most log y (DmaFails why) = omega arith
 dma_most log y (DmaGoes words) = let n = position-more y.progress dma_commit in omega (arith, n)
 
-now_most : (log : LogParts) (y : Played) (now : TurnOrEnd) → position (play_now log y now).progress ≤ suc (position y.progress)
+now_most : (log : LogParts) (y : Played) (now : TurnOrEnd) → position (play_turn log y now).progress ≤ suc (position y.progress)
 now_most log y (Ended how) = omega arith
 now_most log y (Turn k) = thread_most log y k (slice_get y.threads k)
 now_most log y TurnOfDma = dma_most log y (dma_verdict log y.progress y.used)
@@ -96,7 +96,7 @@ dma_ends : (log : LogParts) (y : Played) (v : DmaVerdict) → EndsAt (position (
 dma_ends log y (DmaFails why) = refl
 dma_ends log y (DmaGoes words) = now_ends log (with_dma y.progress) (with_dma_used y.used) y.threads
 
-play_ends : (log : LogParts) (y : Played) (now : TurnOrEnd) → EndsAt (position y.progress) y.now → EndsAt (position (play_now log y now).progress) (play_now log y now).now
+play_ends : (log : LogParts) (y : Played) (now : TurnOrEnd) → EndsAt (position y.progress) y.now → EndsAt (position (play_turn log y now).progress) (play_turn log y now).now
 play_ends log y (Ended how) ends = ends
 play_ends log y (Turn k) ends = thread_play_ends log y k (slice_get y.threads k) ends
 play_ends log y TurnOfDma ends = dma_ends log y (dma_verdict log y.progress y.used)

@@ -17,7 +17,7 @@ use Rattle.spec_play.specs.Resuming.{IsStateOf}
 use Rattle.spec_play.specs.Turns.{TurnOrEnd, Turn, TurnOfDma, Ended}
 use Rattle.spec_play.specs.Transfers.{DmaVerdict, DmaGoes, DmaFails, dma_verdict}
 use Rattle.spec_play.specs.Verdicts.{LogVerdict, Goes, Fails, TakenRecord, given, interrupt_at, served_verdict, serial_verdict}
-use Rattle.spec_play.specs.Plays.{Played, opened, settled, dma_settled, size_or_standard, thread_verdict, play_thread, play_now, play_one, plays}
+use Rattle.spec_play.specs.Plays.{Played, opened, settled, dma_settled, size_or_standard, thread_verdict, play_thread, play_turn, play_one, plays}
 use Rattle.spec_protocol.specs.promises.Sound.{IsSoundIf}
 use Rattle.dl_replay.proofs.Requests.{serve-request}
 use Rattle.dl_serial.proofs.Goes.{chunk-left, interrupted-like, unless-goes}
@@ -72,7 +72,7 @@ dma_sized : (size : ℕ) (log : LogParts) (y : Played) (v : DmaVerdict) → IsSi
 dma_sized size log y (DmaFails why) s = record { memory = s.memory; request = s.request }
 dma_sized size log y (DmaGoes words) s = record { memory = length_lays y.memory words ∙ s.memory; request = tt }
 
-now_sized : (size : ℕ) (log : LogParts) (y : Played) (now : TurnOrEnd) → IsSized size y → IsSized size (play_now log y now)
+now_sized : (size : ℕ) (log : LogParts) (y : Played) (now : TurnOrEnd) → IsSized size y → IsSized size (play_turn log y now)
 now_sized size log y (Ended how) s = s
 now_sized size log y TurnOfDma s = dma_sized size log y (dma_verdict log y.progress y.used) s
 now_sized size log y (Turn k) s = thread_sized size log y k (slice_get y.threads k) s

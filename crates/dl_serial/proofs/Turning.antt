@@ -12,12 +12,12 @@ use Rattle.spec_play.specs.Progress.{position}
 use Rattle.spec_play.specs.Turns.{TurnOrEnd, Turn, TurnOfDma, Ended}
 use Rattle.spec_play.specs.Transfers.{dma_verdict}
 use Rattle.spec_play.specs.Verdicts.{LogVerdict, chunk_verdict, serial_verdict}
-use Rattle.spec_play.specs.Plays.{Played, settled, dma_settled, thread_verdict, play_thread, play_now, play_one, plays}
+use Rattle.spec_play.specs.Plays.{Played, settled, dma_settled, thread_verdict, play_thread, play_turn, play_one, plays}
 use Rattle.spec_play.proofs.Going.{plays-stay}
 use Rattle.spec_protocol.specs.machine.Spheres.{whole_limit}
 use Rattle.dl_replay.specs.Following.{Following, end_of}
 use Rattle.spec_query.specs.declared.Store.{Store}
-use Rattle.spec_query.specs.Stores.{words_gone, words_transferred, thread_words, stores_of, stores_now, next_stores, stores}
+use Rattle.spec_query.specs.Stores.{words_gone, words_transferred, thread_words, stores_of, turn_stores, next_stores, stores}
 use Rattle.dl_serial.specs.Playing.{Playing, HaveCome, advanced, played_in, played_more}
 use Rattle.dl_serial.specs.declared.sphere.Sphere.{Sphere}
 use Rattle.spec_protocol.proofs.PlayingBack.Sizes.{serial-turn}
@@ -40,9 +40,9 @@ turn-next : (log : LogParts) (y : Played) (k : ℕ) (t : Parts) (v : LogVerdict)
 unfolding play_one next_stores
 turn-next log y k t v turn there is =
     record {
-      played = sym (ap (play_now log y) turn ∙ ap (play_thread log y k) there ∙ ap (settled log y k) is);
+      played = sym (ap (play_turn log y) turn ∙ ap (play_thread log y k) there ∙ ap (settled log y k) is);
       stores = sym (
-          ap (stores_now log y) turn
+          ap (turn_stores log y) turn
           ∙ ap (λ (o : Option Parts). stores_of (position y.progress) (Actor.Thread k) y.memory (thread_words log y k o)) there
           ∙ ap (thread_stores y k) is);
     }
@@ -66,7 +66,7 @@ step-next log y k t turn there serial =
 pub dma-next : (log : LogParts) (y : Played) → y.now ≡ TurnOfDma
     → let v = dma_verdict log y.progress y.used in IsNext log y (dma_settled log y v) (stores_of (position y.progress) Actor.Dma y.memory (words_transferred v))
 unfolding play_one next_stores
-dma-next log y turn = record { played = sym (ap (play_now log y) turn); stores = sym (ap (stores_now log y) turn) }
+dma-next log y turn = record { played = sym (ap (play_turn log y) turn); stores = sym (ap (turn_stores log y) turn) }
 
 -- ---- the player
 
@@ -102,7 +102,7 @@ over-played log start i to (Ended how) l some is =
 
 no-stores : (log : LogParts) (y : Played) (how : End) → y.now ≡ Ended how → next_stores log y ≡ []
 unfolding next_stores
-no-stores log y how is = ap (stores_now log y) is
+no-stores log y how is = ap (turn_stores log y) is
 
 stores-stay : (log : LogParts) (start : Played) (i n : ℕ) (how : End) → (plays log start i).now ≡ Ended how → stores log start (n + i) ≡ stores log start i
 stores-stay log start i zero how is = let e : 0 + i ≡ i = omega arith in ap (stores log start) e

@@ -2,4 +2,3 @@
 pub mod Judging
 pub mod Moved
 pub mod Limits
-pub mod Takes

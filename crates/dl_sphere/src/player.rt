@@ -1,5 +1,5 @@
 //! The replay of a log in any of the three modes.
-ghost use Rattle.std.specs.Prelude.{◌≡◌, ℕ, List, ◌<◌, ◌≤◌, ◌+◌, IfOk, IfSome, OnOk, OnErr, Some, false, length, slice_get, option_map};
+ghost use Rattle.std.specs.Prelude.{◌≡◌, ◌↔◌, ℕ, List, ◌<◌, ◌≤◌, ◌+◌, IfOk, IfSome, OnOk, OnErr, IsTrue, None, Some, false, length, slice_get, option_map};
 ghost use Rattle.dl_entry.specs.Numbers.{most_threads};
 ghost use Rattle.spec_isa.specs.declared.thread.Parts.{Parts};
 ghost use Rattle.spec_isa.specs.declared.thread.Load.{Load};
@@ -10,7 +10,7 @@ ghost use Rattle.spec_play.specs.Turns.{Turn, TurnOfDma};
 ghost use Rattle.spec_play.specs.Transfers.{dma_verdict};
 ghost use Rattle.spec_play.specs.Verdicts.{chunk_verdict, serial_verdict};
 ghost use Rattle.spec_play.specs.declared.used.Used.{Used};
-ghost use Rattle.spec_protocol.specs.machine.Spheres.{Replay, actor_of, is_over, joins_in};
+ghost use Rattle.spec_protocol.specs.machine.Spheres.{Replay, Sphere, actor_of, is_over, joins_in, turn_in};
 ghost use Rattle.spec_protocol.specs.promises.Sound.{IsSoundIf};
 ghost use Rattle.spec_strata.specs.Standing.{place_of, stratum_begun};
 ghost use Rattle.dl_kernel.specs.States.{PlayState as At, state_in};
@@ -106,6 +106,15 @@ impl Player {
         ensures { result ≡ end_of self.now.now }
     {
         in_mode!(&self.players, replayer => replayer.ended())
+    }
+
+    // Whether an actor may commit now.
+    pub(crate) fn takes(&self, actor: Actor) -> bool
+        requires { is_over self.now.now ≡ false }
+        ensures { (used : Used) (loads : List Load) (p : Sphere) → let b = cursor_of self.now used loads in
+            IsTrue result ↔ (turn_in (Replay b) p actor ≡ None) }
+    {
+        in_mode!(&self.players, replayer => replayer.takes(actor))
     }
 
     // Whether a thread may commit although it isn't its turn, in strata.

@@ -87,7 +87,10 @@ impl Sphere {
         requires going { is_stopped self.now.sphere.role ≡ false }
         ensures { IsTrue result ↔ (turn_against self.now.sphere actor ≡ None) }
     {
-        self.joins_in(actor) || is_of(self.head(), actor)
+        match &self.part {
+            Part::Replayed(replay) => replay.player.takes(actor),
+            Part::Plain | Part::Recorded(_) => false,
+        }
     }
 
     /// Whether an actor may commit although it isn't its turn: a thread of a sphere that replays strata, while it has chunks
@@ -277,16 +280,5 @@ impl Sphere {
                 Err(_) => Ok(Buffer::new(alloc, 1)?),
             },
         }
-    }
-}
-
-// Whether the turn is the actor's.
-fn is_of(head: Option<Actor>, actor: Actor) -> bool
-    ensures { IsTrue result ↔ (head ≡ Some actor) }
-{
-    match (head, actor) {
-        (Some(Actor::Thread(head)), Actor::Thread(thread)) => head == thread,
-        (Some(Actor::Dma), Actor::Dma) => true,
-        (Some(_) | None, _) => false,
     }
 }

@@ -48,7 +48,8 @@ pub(crate) fn live_step(
     ensures noted { OnOk result (keeping_of part.new
         ≡ with_noted (commit_by part.old step.now devices.old moment) false (taken_by step.now devices.old moment).input None (keeping_of part.old)) }
     ensures devices { let s = step.now in
-        OnOk result (devices.new ≡ console_written s.thread s.memory.now (served_by part.old s devices.old moment).outputs (taken_by s devices.old moment).devices) }
+        OnOk result (devices.new
+        ≡ console_written s.thread s.memory.now (served_by part.old s devices.old moment).outputs (taken_by s devices.old moment).devices) }
     ensures part_still { OnErr result (keeping_of part.new ≡ keeping_of part.old) }
     ensures devices_still { OnErr result (devices.new ≡ devices.old) }
 {

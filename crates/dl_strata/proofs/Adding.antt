@@ -14,7 +14,7 @@ use Rattle.spec_kernel.specs.Needs.{next_kind}
 use Rattle.spec_play.specs.Turns.{TurnOrEnd, Turn, TurnOfDma, Ended}
 use Rattle.spec_play.specs.Verdicts.{LogVerdict, Goes, Fails}
 use Rattle.spec_play.specs.Transfers.{DmaVerdict, DmaGoes, DmaFails, dma_verdict}
-use Rattle.spec_play.specs.Plays.{Played, FitsImage, opened, play, settled, dma_settled, thread_verdict, play_thread, play_now, play_one, plays, size_or_standard}
+use Rattle.spec_play.specs.Plays.{Played, FitsImage, opened, play, settled, dma_settled, thread_verdict, play_thread, play_turn, play_one, plays, size_or_standard}
 use Rattle.spec_strata.specs.declared.stratum.Stratum.TheVariants.{Chunks}
 use Rattle.spec_strata.specs.InPlay.{ChunkGoes}
 use Rattle.spec_strata.specs.Making.{Present, Cuts, cut_off, stratum_of}
@@ -43,7 +43,7 @@ dma-size : (log : LogParts) (y : Played) (v : DmaVerdict) → length (dma_settle
 dma-size log y (DmaGoes words) = length_lays y.memory words
 dma-size log y (DmaFails why) = refl
 
-now-size : (log : LogParts) (y : Played) (now : TurnOrEnd) → length (play_now log y now).memory ≡ length y.memory
+now-size : (log : LogParts) (y : Played) (now : TurnOrEnd) → length (play_turn log y now).memory ≡ length y.memory
 now-size log y (Ended how) = refl
 now-size log y TurnOfDma = dma-size log y (dma_verdict log y.progress y.used)
 now-size log y (Turn k) = thread-size log y k (slice_get y.threads k)

@@ -8,7 +8,7 @@ use Rattle.spec_play.specs.Effects.{dma_commit}
 use Rattle.spec_play.specs.Progress.{position}
 use Rattle.spec_play.specs.Turns.{TurnOrEnd, Turn, TurnOfDma}
 use Rattle.spec_play.specs.Verdicts.{Goes}
-use Rattle.spec_play.specs.Plays.{Played, settled, dma_settled, thread_verdict, play_thread, play_now, play_one, plays, opened}
+use Rattle.spec_play.specs.Plays.{Played, settled, dma_settled, thread_verdict, play_thread, play_turn, play_one, plays, opened}
 use Rattle.spec_play.proofs.Positions.{position-more}
 use Rattle.spec_isa.specs.declared.thread.Kind.{Kind}
 use Rattle.spec_strata.specs.declared.touch.Touch.{Touch}
@@ -39,9 +39,9 @@ use Rattle.dl_strata.proofs.Adding.{one-size, footprint-within, looked-at-chunk}
 
 -- ---- one commit is done
 
-one-as : (log : LogParts) (y : Played) (now : TurnOrEnd) → y.now ≡ now → play_one log y ≡ play_now log y now
+one-as : (log : LogParts) (y : Played) (now : TurnOrEnd) → y.now ≡ now → play_one log y ≡ play_turn log y now
 unfolding play_one
-one-as log y now e = ap (play_now log y) e
+one-as log y now e = ap (play_turn log y) e
 
 pub chunk-position : (log : LogParts) (y : Played) (k : ℕ) → y.now ≡ Turn k → ChunkGoes log y k → position (play_one log y).progress ≡ suc (position y.progress)
 chunk-position log y k turn c =

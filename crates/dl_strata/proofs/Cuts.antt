@@ -9,7 +9,7 @@ use Rattle.spec_isa.specs.Words.{Stored, holds}
 use Rattle.spec_isa.specs.Runs.{run}
 use Rattle.spec_log.specs.declared.LogParts.{LogParts}
 use Rattle.spec_play.specs.Turns.{Turn}
-use Rattle.spec_play.specs.Plays.{Played, size_or_standard, play_now}
+use Rattle.spec_play.specs.Plays.{Played, size_or_standard, play_turn}
 use Rattle.spec_strata.specs.declared.touch.Touch.{Touch}
 use Rattle.spec_strata.specs.declared.touch.Touch.TheVariants.{Untouched, SeenBy, Shared, StoredBy}
 use Rattle.spec_strata.specs.declared.stratum.Stratum.{Stratum}
@@ -130,7 +130,7 @@ touches-as shares touches others e are =
 
 pub joined : (counted : ℕ) (log : LogParts) (y : Played) (k : ℕ) (f : Footprint) (old new : List Touch) (counts : List ℕ) (p : Present) → k < counted → IsNextChunk log y k f
     → IsPresent counted y old counts p → IsFreeIn old k f → Touched old k f new
-    → IsPresent counted (play_now log y (Turn k)) new (slice_set counts k (slice_index counts k + 1)) (with_chunk log p k)
+    → IsPresent counted (play_turn log y (Turn k)) new (slice_set counts k (slice_index counts k + 1)) (with_chunk log p k)
 joined counted log y k f old new counts p l x is free noted =
     let c : ChunkGoes log y k = x.goes in
     record {
@@ -148,7 +148,7 @@ untouched-at (t ∷ ts) zero = refl
 untouched-at (t ∷ ts) (suc a) = untouched-at ts a
 
 pub begun : (counted : ℕ) (log : LogParts) (y : Played) (k : ℕ) (f : Footprint) (old new : List Touch) → k < counted → IsNextChunk log y k f → Touched (map (λ (t : Touch). Untouched) old) k f new
-    → IsPresent counted (play_now log y (Turn k)) new (slice_set (replicate counted 0) k (slice_index (replicate counted 0) k + 1)) (with_chunk log (no_chunks y) k)
+    → IsPresent counted (play_turn log y (Turn k)) new (slice_set (replicate counted 0) k (slice_index (replicate counted 0) k + 1)) (with_chunk log (no_chunks y) k)
 begun counted log y k f old new l x noted =
     let none : List Touch = map (λ (t : Touch). Untouched) old in
     joined counted log y k f none new (replicate counted 0) (no_chunks y) l x
@@ -199,7 +199,7 @@ pub begins-cut : (old new : Cutting) (strata : List Stratum) (o : Option (List �
     → HasCut old y x → strata ≡ closed_strata old.strata old.present
     → (let t : Table = record { stratum = old.table.stratum + 1; touches = map (λ (t : Touch). Untouched) old.table.touches } in
     let from : Cutting = record { counted = old.counted; strata = strata; present = o; table = t } in IsCounted from (replicate old.counted 0) k f new)
-    → HasCut new (play_now log y (Turn k)) (chunk_begins old.counted log y k x)
+    → HasCut new (play_turn log y (Turn k)) (chunk_begins old.counted log y k x)
 begins-cut old new strata o log y x k f l next cut is counted =
     record {
       strata = counted.strata ∙ is ∙ closed-as old.present x.present refl cut.present;
@@ -215,10 +215,10 @@ begins-cut old new strata o log y x k f l next cut is counted =
         ∙ ap (λ (q : Option Present). elim q [ None ↦ x.strata | Some r ↦ x.strata ++ stratum_of old.counted r ∷ [] ]) (sym e)
 
     there : (q : Option (List ℕ)) → q ≡ Some (slice_set (replicate old.counted 0) k (slice_index (replicate old.counted 0) k + 1)) → (n : ℕ) → n ≡ old.counted
-        → IsPresentIf n (play_now log y (Turn k)) new.table.touches q (Some (with_chunk log (no_chunks y) k))
+        → IsPresentIf n (play_turn log y (Turn k)) new.table.touches q (Some (with_chunk log (no_chunks y) k))
     there q e n same =
-        subst (λ (m : ℕ). IsPresentIf m (play_now log y (Turn k)) new.table.touches q (Some (with_chunk log (no_chunks y) k))) (sym same)
-        (subst (λ (r : Option (List ℕ)). IsPresentIf old.counted (play_now log y (Turn k)) new.table.touches r (Some (with_chunk log (no_chunks y) k))) (sym e)
+        subst (λ (m : ℕ). IsPresentIf m (play_turn log y (Turn k)) new.table.touches q (Some (with_chunk log (no_chunks y) k))) (sym same)
+        (subst (λ (r : Option (List ℕ)). IsPresentIf old.counted (play_turn log y (Turn k)) new.table.touches r (Some (with_chunk log (no_chunks y) k))) (sym e)
         (begun old.counted log y k f old.table.touches new.table.touches l next counted.touched))
 
 cut-as : (counted : ℕ) (log : LogParts) (y : Played) (k : ℕ) (x : Cuts) (o : Option Present) → x.present ≡ o
@@ -257,15 +257,15 @@ apart-cut old log y x k f counts l next cut some most apart = by x.present refl 
 pub joins-cut : (old new : Cutting) (o : Option (List ℕ)) (log : LogParts) (y : Played) (x : Cuts) (k : ℕ) (f : Footprint) (counts : List ℕ) → k < old.counted → IsNextChunk log y k f → HasCut old y x
     → old.present ≡ Some counts → slice_index counts k < 255 → IsFreeIn old.table.touches k f
     → (let from : Cutting = record { counted = old.counted; strata = old.strata; present = o; table = old.table } in IsCounted from counts k f new)
-    → HasCut new (play_now log y (Turn k)) (chunk_cut old.counted log y k x)
+    → HasCut new (play_turn log y (Turn k)) (chunk_cut old.counted log y k x)
 joins-cut old new o log y x k f counts l next cut some few free counted =
     by x.present refl (subst (λ (q : Option (List ℕ)). IsPresentIf old.counted y old.table.touches q x.present) some cut.present)
   where
-    by : (q : Option Present) → x.present ≡ q → IsPresentIf old.counted y old.table.touches (Some counts) x.present → HasCut new (play_now log y (Turn k)) (chunk_cut old.counted log y k x)
+    by : (q : Option Present) → x.present ≡ q → IsPresentIf old.counted y old.table.touches (Some counts) x.present → HasCut new (play_turn log y (Turn k)) (chunk_cut old.counted log y k x)
     by None e h = absurd (subst (λ (q : Option Present). IsPresentIf old.counted y old.table.touches (Some counts) q) e h)
     by (Some p) e h =
         let is : IsPresent old.counted y old.table.touches counts p = subst (λ (q : Option Present). IsPresentIf old.counted y old.table.touches (Some counts) q) e h in
-        let z : Played = play_now log y (Turn k) in
+        let z : Played = play_turn log y (Turn k) in
         let now : Cuts = record x { present = Some (with_chunk log p k) } in
         let same : chunk_cut old.counted log y k x ≡ now =
         cut-as old.counted log y k x (Some p) e

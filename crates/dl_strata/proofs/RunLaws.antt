@@ -20,7 +20,7 @@ use Rattle.dl_logfmt.proofs.EntryLaws.{Codes-field}
 
 -- ---- one
 
--- the number of its kind, and the bytes behind it
+-- the number of its kind, and the bytes after it
 abbrev tag_of : Stratum → ℕ
 tag_of (Chunks counts) = 0
 tag_of (Serial thread) = 1
@@ -99,7 +99,7 @@ Codes-stratum counted few =
     (λ x g. (tag_of x, tag-small x, (refl, g), tagged-bytes x))
     (λ tag x l g. (g.1, tagged-bytes x ∙ ap (λ (n : ℕ). u8 n ++ bytes_after x) g.0))
 
--- ---- the next, behind so many commits
+-- ---- the next, after so many commits
 
 -- it is a stratum, and with it there are not too many commits
 abbrev IsNext : (counted before : ℕ) → Stratum → Type 0
@@ -253,7 +253,7 @@ module _ (set : List Stratum → ℕ → StrataDraft) (counted : ℕ)
   counted-on bytes (Ok r) = repeated-runs r.value [] 0 bytes r.after
   counted-on bytes (Err fault) = refl
 
-  -- the stage reads the runs behind their number
+  -- the stage reads the runs after their number
   pub staged-runs : (bytes : List ℕ) (at : ℕ)
       → read (any 4) (λ n. repeated strata.one n (set [] 0)) bytes at ≡ read (counted_runs counted) (λ ys. gives (set ys (0 + commits_in_all ys))) bytes at
   staged-runs bytes at = counted-on bytes (any 4 bytes at)

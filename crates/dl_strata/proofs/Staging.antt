@@ -1,4 +1,4 @@
--- A section of strata is read as a list behind its number.
+-- A section of strata is read as a list after its number.
 use Rattle.std.proofs.Common.{◌≡◌, ℕ, zero, suc, Bool, true, List, [], ◌∷◌, Result, Ok, Err, refl, sym, ◌∙◌}
 use Rattle.std.specs.Prelude.{nat_lt}
 use Rattle.spec_log.specs.declared.fault.Fault.{Fault}
@@ -62,7 +62,7 @@ module _ (d : StrataDraft) (shape : Shape) (is : shape ≡ shape_of d) (bytes : 
   staged-dmas =
       staged-list dmas.one (λ xs. record d { dmas = xs }) (λ x y. nat_lt x.position y.position) dma (λ xs bytes at. refl) d.dmas bytes at
 
--- a stage that reads a list and puts it in its place, and the stages behind it
+-- a stage that reads a list and puts it in its place, and the stages after it
 put-on : {X : Type 0} (stage : Stage StrataDraft) (rest : List (Stage StrataDraft)) (d : StrataDraft) (reader : Reader X) (set : X → StrataDraft) (next : X → Reader StrataDraft)
     → ((bytes : List ℕ) (at : ℕ) → staged stage d bytes at ≡ read reader (λ x. gives (set x)) bytes at)
     → ((x : X) (bytes : List ℕ) (at : ℕ) → all_of rest (set x) bytes at ≡ next x bytes at)
@@ -72,7 +72,7 @@ put-on stage rest d reader set next is behind bytes at =
     (then-then (reader bytes at) (λ x after. gives (set x) bytes after) (λ e after. all_of rest e bytes after)
     ∙ then-same (reader bytes at) _ _ (λ x after. behind x bytes after))
 
--- the sections, one behind another, of entries of this shape
+-- the sections, one after another, of entries of this shape
 abbrev pub four : Shape → StrataDraft → Reader StrataDraft
 four shape d =
     read (staged (listed (one_more sizes_rise (short_size shape))) d.sizes) (λ zs.

@@ -6,7 +6,7 @@ use Rattle.dl_entry.specs.declared.Commit.{Commit}
 use Rattle.dl_entry.specs.declared.CommitKind.{CommitKind}
 use Rattle.spec_log.specs.declared.LogParts.{LogParts}
 use Rattle.spec_play.specs.Turns.{Turn}
-use Rattle.spec_play.specs.Plays.{Played, size_or_standard, play_now, play_one}
+use Rattle.spec_play.specs.Plays.{Played, size_or_standard, play_turn, play_one}
 use Rattle.spec_strata.specs.declared.touch.Touch.{Touch}
 use Rattle.spec_strata.specs.declared.stratum.Stratum.{Stratum}
 use Rattle.spec_strata.specs.declared.stratum.Stratum.TheVariants.{Chunks}
@@ -91,4 +91,4 @@ pub record CanAdd (c : Cutting) (commit : Commit) (f : Footprint) : Type 0 where
 -- the play's next commit is this one; a chunk goes as logged, with this footprint
 pub record IsNextCommit (log : LogParts) (y : Played) (commit : Commit) (f : Footprint) : Type 0 where
   pub chunk : (k : ℕ) → commit.actor ≡ Actor.Thread k → commit.kind ≡ CommitKind.Chunk
-      → IsNextChunk log y k f × (play_one log y ≡ play_now log y (Turn k))
+      → IsNextChunk log y k f × (play_one log y ≡ play_turn log y (Turn k))

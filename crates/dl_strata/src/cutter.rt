@@ -1,7 +1,7 @@
 //! Strata as they are cut, commit by commit.
 ghost use Rattle.std.specs.Prelude.{◌≡◌, ◌+◌, ◌++◌, ◌∷◌, ◌↔◌, ◌<◌, ◌≤◌, [], length, map, replicate, slice_index, IsTrue, IfOk, OnOk};
 ghost use Rattle.spec_log.specs.declared.LogParts.{LogParts};
-ghost use Rattle.spec_play.specs.Plays.{Played, play_now};
+ghost use Rattle.spec_play.specs.Plays.{Played, play_turn};
 ghost use Rattle.spec_play.specs.Turns.{Turn};
 ghost use Rattle.spec_strata.specs.declared.touch.Touch.{Touch};
 ghost use Rattle.spec_strata.specs.declared.stratum.Stratum.{Stratum};
@@ -82,7 +82,7 @@ impl Cutter {
         ensures words { OnOk result (length self.new.table.touches ≡ length self.old.table.touches) }
         ensures cut { (log : LogParts) (y : Played) (x : Cuts)
             → IsNextChunk log y thread footprint.now → HasCut self.old y x
-            → OnOk result (HasCut self.new (play_now log y (Turn thread)) (chunk_cut self.old.counted log y thread x)) }
+            → OnOk result (HasCut self.new (play_turn log y (Turn thread)) (chunk_cut self.old.counted log y thread x)) }
     {
         let Some(counts) = self.present.take() else {
             return self.begin(thread, footprint);

@@ -51,7 +51,7 @@ no_rows (suc n) k =
     ∙ ap (λ (b : Bool). cond b (rows_from (suc k) n (zeros (32 * n))) (record { number = k; bytes = zeros 32 } ∷ rows_from (suc k) n (zeros (32 * n)))) (empty_zeros 32)
     ∙ no_rows n (suc k)
 
--- what rows make of zeros behind other bytes has these rows
+-- what rows make of zeros after other bytes has these rows
 record AreMade (n k : ℕ) (p : List ℕ) (rs : List Row) : Type 0 where
   memory : List ℕ
   made : with_rows (p ++ zeros (32 * n)) rs ≡ p ++ memory

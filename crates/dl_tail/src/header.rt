@@ -2,7 +2,8 @@
 ghost use Rattle.std.specs.Prelude.{◌≡◌, ◌^◌, ◌==◌, ◌||◌, nat_lt, ◌++◌, OnOk};
 ghost use Rattle.dl_entry.specs.Numbers.{most_bytes, most_threads};
 ghost use Rattle.spec_log.specs.Fields.{number, field, at_most, from_to};
-ghost use Rattle.spec_tail.specs.Reading.{has_buffer as has_buffer_in, header_fields, header_parts, is_size as is_size_for, last, no_request, request as request_field, some_request};
+ghost use Rattle.spec_tail.specs.Reading.{has_buffer as has_buffer_in, header_fields, header_parts, is_size as is_size_for, last};
+ghost use Rattle.spec_tail.specs.Reading.{no_request, request as request_field, some_request};
 ghost use Rattle.dl_logfmt.specs.Answer.{Answers};
 
 use crate::numbers::{read_aligned, read_zero_u8, read_zero_u16, read_zero_u32};

@@ -3,7 +3,11 @@
 ghost use Rattle.std.specs.Prelude.{◌≡◌, ℕ, ◌++◌, ◌∷◌, [], not, length, IfOk, OnOk};
 ghost use Rattle.std.specs.List.{list_any};
 ghost use Rattle.spec_play.specs.Verdicts.{interrupt_at};
-ghost use Rattle.spec_tail.specs.Later.{dmas_later as dmas_that_follow, dmas_passed as dmas_that_pass, has_early_size as has_size_before, has_more_left as has_more_unused, interrupts_later as interrupts_that_follow, is_early_dma as is_dma_before, is_early_size as is_size_before, is_later_interrupt as is_interrupt_after, log_later as log_that_follows, raised_at, sizes_later as sizes_that_follow};
+ghost use Rattle.spec_tail.specs.Later.{dmas_later as dmas_that_follow, dmas_passed as dmas_that_pass};
+ghost use Rattle.spec_tail.specs.Later.{has_early_size as has_size_before, has_more_left as has_more_unused};
+ghost use Rattle.spec_tail.specs.Later.{interrupts_later as interrupts_that_follow, is_early_dma as is_dma_before};
+ghost use Rattle.spec_tail.specs.Later.{is_early_size as is_size_before, is_later_interrupt as is_interrupt_after};
+ghost use Rattle.spec_tail.specs.Later.{log_later as log_that_follows, raised_at, sizes_later as sizes_that_follow};
 ghost use Rattle.spec_tail.specs.Playing.{begun as begun_by};
 ghost use Rattle.dl_tail.specs.Later.{short_that_follow};
 

@@ -1,7 +1,8 @@
 //! A thread of a tail.
 ghost use Rattle.std.specs.Prelude.{◌≡◌, ◌&&◌, true, []};
 ghost use Rattle.spec_log.specs.Fields.{any, field, at_most, one_more, repeated};
-ghost use Rattle.spec_tail.specs.Reading.{is_aligned as is_multiple, is_code as is_code_of, is_saved as is_saved_under, registers, status as status_in, thread, thread_parts};
+ghost use Rattle.spec_tail.specs.Reading.{is_aligned as is_multiple, is_code as is_code_of, is_saved as is_saved_under, registers};
+ghost use Rattle.spec_tail.specs.Reading.{status as status_in, thread, thread_parts};
 ghost use Rattle.dl_logfmt.specs.Answer.{Answers};
 
 use crate::numbers::{is_aligned, read_aligned, read_zero_u16};

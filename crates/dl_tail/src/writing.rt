@@ -2,7 +2,9 @@
 ghost use Rattle.std.specs.Prelude.{◌≡◌, ◌%◌, ◌^◌, ◌≤◌, ◌++◌, [], ◌∷◌, length, take, drop, IfOk, OnOk};
 ghost use Rattle.std.specs.List.{flat_map};
 ghost use Rattle.spec_log.specs.Bytes.{section, u8 as one, u16 as two, u32 as four};
-ghost use Rattle.spec_tail.specs.Bytes.{end_code as end_code_of, header_bytes, last_code as last_code_of, mask_code as mask_code_of, request_bytes, row_bytes, rows_of, status_code as status_code_of, tail_bytes, thread_bytes};
+ghost use Rattle.spec_tail.specs.Bytes.{end_code as end_code_of, header_bytes, last_code as last_code_of};
+ghost use Rattle.spec_tail.specs.Bytes.{mask_code as mask_code_of, request_bytes, row_bytes, rows_of};
+ghost use Rattle.spec_tail.specs.Bytes.{status_code as status_code_of, tail_bytes, thread_bytes};
 ghost use Rattle.spec_tail.specs.Tails.{IsTail};
 ghost use Rattle.dl_tail.specs.Rows.{filled, first_bytes};
 ghost use Rattle.dl_tail.specs.Values.{value_of};

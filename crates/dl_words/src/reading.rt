@@ -3,7 +3,8 @@ ghost use Rattle.std.specs.Prelude.{◌≡◌, IfOk};
 ghost use Rattle.std.specs.Option.{option_and_then, option_map};
 ghost use Rattle.clap.specs.Walk.{texts};
 ghost use Rattle.clap.specs.Words.{found_of, rows_of, subcommand_rows_of};
-ghost use Rattle.dl_words.specs.Commands.{command_of, command_view, playback_view, named as named_by, playback_of, query_of, query_view, run_of, inspect_of, walk_of, interval_of, tail_of, make_of};
+ghost use Rattle.dl_words.specs.Commands.{command_of, command_view, playback_view, named as named_by, playback_of, query_of};
+ghost use Rattle.dl_words.specs.Commands.{query_view, run_of, inspect_of, walk_of, interval_of, tail_of, make_of};
 ghost use Rattle.dl_words.specs.Commands.{asm_of, drill_of, migrate_of, strata_of, watch_of, when_of, who_of};
 
 use crate::command::Command;
@@ -17,7 +18,7 @@ use dl_entry::OutOfMemory;
 use std::alloc::Global;
 
 /// The command that the words mean, with its operands, or none where they mean none. The words are those after the program's
-/// name. Err only for want of memory.
+/// name. Err only if memory runs out.
 pub fn read_words<'a>(
     alloc: Global,
     words: &'a [&'a str],

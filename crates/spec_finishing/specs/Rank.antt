@@ -91,13 +91,13 @@ abbrev pub actor_under_way : World → (i : ℕ) → Actor → ℕ
 actor_under_way w i Actor.Dma = 0
 actor_under_way w i (Actor.Thread k) = core_under_way w (core_of w i k)
 
-abbrev pub who_under_way : World → Option SphereTurn → ℕ
-who_under_way w None = 0
-who_under_way w (Some who) = actor_under_way w who.sphere who.actor
+abbrev pub turn_under_way : World → Option SphereTurn → ℕ
+turn_under_way w None = 0
+turn_under_way w (Some who) = actor_under_way w who.sphere who.actor
 
 abbrev pub standing_under_way : World → Option ℕ → ℕ
 standing_under_way w (Some k) = 0
-standing_under_way w None = who_under_way w (least 0 w.spheres)
+standing_under_way w None = turn_under_way w (least 0 w.spheres)
 
 -- if no flight is left: of the thread whose turn it is, in the lowest-numbered replay that still goes on
 unfoldable pub under_way : World → ℕ

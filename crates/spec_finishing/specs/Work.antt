@@ -39,14 +39,14 @@ abbrev pub turn_work : LogParts → Played → (thread : ℕ) → Option Parts �
 turn_work log y k None = 0
 turn_work log y k (Some t) = suc (thread_work log y k t (next_kind t y.memory))
 
-abbrev pub now_work : LogParts → Played → TurnOrEnd → ℕ
-now_work log y (Ended how) = 0
-now_work log y TurnOfDma = suc (dma_stored (dma_verdict log y.progress y.used))
-now_work log y (Turn k) = turn_work log y k (slice_get y.threads k)
+abbrev pub next_work : LogParts → Played → TurnOrEnd → ℕ
+next_work log y (Ended how) = 0
+next_work log y TurnOfDma = suc (dma_stored (dma_verdict log y.progress y.used))
+next_work log y (Turn k) = turn_work log y k (slice_get y.threads k)
 
 -- of a play's next commit, which itself counts as one, even if it diverges
 unfoldable pub commit_work : LogParts → Played → ℕ
-commit_work log y = now_work log y y.now
+commit_work log y = next_work log y y.now
 
 -- of that many commits after the first i
 abbrev pub commits_work : LogParts → Played → (i commits : ℕ) → ℕ
@@ -76,16 +76,16 @@ dma_work None = 0
 dma_work (Some v) = suc (length v.words)
 
 -- a commit counts as one, with a chunk's instructions, or the words of a serial step or a DMA
-abbrev pub what_work : Sphere → Devices → (moment : ℕ) → MoveKind → ℕ
-what_work p devices moment (OfChunk k how n limit) = suc n
-what_work p devices moment (OfSerial k) = serial_work p devices moment k (slice_get p.threads k)
-what_work p devices moment OfDma = dma_work (dma_moved devices p)
-what_work p devices moment (OfRaise k value) = 0
+abbrev pub kind_work : Sphere → Devices → (moment : ℕ) → MoveKind → ℕ
+kind_work p devices moment (OfChunk k how n limit) = suc n
+kind_work p devices moment (OfSerial k) = serial_work p devices moment k (slice_get p.threads k)
+kind_work p devices moment OfDma = dma_work (dma_moved devices p)
+kind_work p devices moment (OfRaise k value) = 0
 
 -- a replayed sphere's commits are its play's
 abbrev pub role_work : Sphere → Devices → Move → Role → ℕ
-role_work p devices m Plain = what_work p devices m.moment m.what
-role_work p devices m (Record recording) = what_work p devices m.moment m.what
+role_work p devices m Plain = kind_work p devices m.moment m.what
+role_work p devices m (Record recording) = kind_work p devices m.moment m.what
 role_work p devices m (Replay b) = 0
 
 abbrev pub sphere_work : Devices → Move → Option Sphere → ℕ

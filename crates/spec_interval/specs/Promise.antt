@@ -25,7 +25,7 @@ abbrev pub account : LogParts → (memory : List ℕ) → (entry : ℕ) → End 
 account log memory entry how =
     let y = play log memory entry in account_of 0 y.progress.commits y.threads y.progress.request y.memory how
 
--- two texts are the same but for their last line, which says how a slice and how an account end with all commits
+-- two texts are the same except for their last line, which says how a slice and how an account end with all commits
 pub record AreAlikeButLast (slice account : List ℕ) (count : ℕ) : Type 0 where
   pub body : List ℕ
   pub slice_is : slice ≡ body ++ line (codes "end") (codes "at" ∷ decimal count ∷ [])

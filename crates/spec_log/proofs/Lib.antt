@@ -3,4 +3,5 @@ mod NotingExamples
 mod ReadingExamples
 pub mod Sections
 pub mod Sized
+pub mod Stages
 pub mod Threads

@@ -54,7 +54,7 @@ read_of-in_turn = refl
 abbrev fault : ℕ → ℕ → Result LogParts Fault
 fault number offset = Err (record { number = number; offset = offset })
 
--- a byte behind the last section
+-- a byte after the last section
 pub read_of-a_byte_more : read_of
     (0x44 ∷ 0x4C ∷ 0x52 ∷ 0x4E ∷ 1 ∷ 0 ∷ 0 ∷ 0 ∷ 0x64 ∷ 0 ∷ 0 ∷ 0 ∷ 2 ∷ 0 ∷ 0 ∷ 0
     ∷ 2 ∷ 0 ∷ 0 ∷ 0 ∷ 0 ∷ 2 ∷ 0 ∷ 0 ∷ 0 ∷ 2 ∷ 0 ∷ 0 ∷ 0 ∷ 0 ∷ 0 ∷ 0

@@ -10,7 +10,7 @@ use Rattle.spec_log.specs.Log.{IsSection}
 All-one : {X : Type 0} (P : X → Type 0) (x : X) → P x → All P (x ∷ [])
 All-one P x h k d below = let first : k ≡ 0 = omega arith in rw first h
 
--- the places of the longer list: those of the shorter, or the one behind it
+-- the places of the longer list: those of the shorter, or the one after it
 length-push : {X : Type 0} (xs : List X) (x : X) → length (xs ++ x ∷ []) ≡ length xs + 1
 length-push xs x = omega (arith, length-append xs (x ∷ []))
 

@@ -8,7 +8,7 @@ use Rattle.spec_log.specs.declared.fault.Fault.{Fault}
 abbrev pub fails : {X : Type 0} → ℕ → ℕ → Result X Fault
 fails number offset = Err (record { number = number; offset = offset })
 
--- what was read, and the offset behind it
+-- what was read, and the offset after it
 pub record Read (X : Type 0) : Type 0 where
   pub value : X
   pub after : ℕ
@@ -25,7 +25,7 @@ continues (Err fault) next = Err fault
 abbrev pub gives : {X : Type 0} → X → Reader X
 gives x bytes at = Ok (record { value = x; after = at })
 
--- one reader behind another, which may look at what the first has read
+-- one reader after another, which may look at what the first has read
 abbrev pub read : {X Y : Type 0} → Reader X → (X → Reader Y) → Reader Y
 read first next bytes at = continues (first bytes at) (λ x after. next x bytes after)
 
@@ -62,7 +62,7 @@ at_most limit x = nat_le x limit
 abbrev pub from_to : ℕ → ℕ → ℕ → Bool
 from_to low high x = nat_le low x && nat_le x high
 
--- the bytes of a record behind their number, of at most so many
+-- the bytes of a record after their number, of at most so many
 abbrev pub counted_in : ℕ → Reader (List ℕ)
 counted_in most = read (field 2 (at_most most)) raw
 
@@ -93,7 +93,7 @@ pub record Stage (D : Type 0) : Type 0 where
 abbrev pub once : {D : Type 0} → (D → Reader D) → Stage D
 once one = record { times = λ d. gives 1; one = one }
 
--- entries behind their number
+-- entries after their number
 abbrev pub listed : {D : Type 0} → (D → Reader D) → Stage D
 listed one = record { times = λ d. any 4; one = one }
 
@@ -105,7 +105,7 @@ repeated one (suc n) d = read (one d) (repeated one n)
 abbrev pub staged : {D : Type 0} → Stage D → D → Reader D
 staged stage d = read (stage.times d) (λ n. repeated stage.one n d)
 
--- these stages, one behind another
+-- these stages, one after another
 abbrev pub all_of : {D : Type 0} → List (Stage D) → D → Reader D
 all_of [] d = gives d
 all_of (stage ∷ stages) d = read (staged stage d) (all_of stages)

@@ -22,7 +22,7 @@ use Rattle.spec_log.specs.Log.{input_kinds}
 use Rattle.spec_log.specs.Versions.{by_version, most_standard, size_width}
 
 -- Faults of a log: 1 the bytes end inside a field, 2 the magic word, 3 the version, 4 the mode, 5 another value out of its
--- range, 6 an entry that doesn't come after the one before it, 7 bytes behind the last section.
+-- range, 6 an entry that doesn't come after the one before it, 7 bytes after the last section.
 
 -- "DLRN"
 abbrev pub magic : Stage Draft
@@ -207,7 +207,7 @@ log_of d =
       dmas = d.dmas;
     }
 
--- a log, behind which nothing follows
+-- a log, after which nothing follows
 abbrev pub ended : List ℕ → Result (Read Draft) Fault → Result LogParts Fault
 ended bytes reading = continues reading (λ d after. if nat_lt after (length bytes) then fails 7 after else Ok (log_of d))
 

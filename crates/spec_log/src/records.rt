@@ -1,4 +1,4 @@
-//! The entries of a log but for its sizes.
+//! The entries of a log except for its sizes.
 use dl_entry::{Actor, Bytes, Sequence};
 
 /// The actors of the commits, in their order.

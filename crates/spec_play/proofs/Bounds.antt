@@ -27,7 +27,7 @@ use Rattle.spec_play.specs.declared.used.Used.{Used}
 use Rattle.spec_play.specs.Turns.{TurnOrEnd, Turn, TurnOfDma, Ended, now_at}
 use Rattle.spec_play.specs.Verdicts.{LogVerdict, Goes, Fails, unless, interrupt_at, with_interrupted, ended, chunk_why, chunk_verdict, TakenRecord, given, serial_why, served_verdict, serial_verdict}
 use Rattle.spec_play.specs.Transfers.{DmaVerdict, DmaGoes, DmaFails, dma_verdict}
-use Rattle.spec_play.specs.Plays.{Played, opened, with_threads, settled, size_or_standard, thread_verdict, play_thread, dma_settled, play_now, play_one, plays}
+use Rattle.spec_play.specs.Plays.{Played, opened, with_threads, settled, size_or_standard, thread_verdict, play_thread, dma_settled, play_turn, play_one, plays}
 use Rattle.spec_play.proofs.Positions.{position-more}
 use Rattle.spec_play.proofs.Going.{EndsOr, over-stays, plays-go, over-at}
 use Rattle.spec_play.proofs.Threads.{run-keeps, serve-keeps}
@@ -170,7 +170,7 @@ left_over log p u ts now is going =
       | inr done ↦ let o = over-at log p u ts done in absurd (going o.0 (sym is ∙ o.1))
     ]
 
-now_bounded : (log : LogParts) (y : Played) (now : TurnOrEnd) → now_at log y.progress y.used y.threads ≡ now → IsPlayBounded log y → IsPlayBounded log (play_now log y now)
+now_bounded : (log : LogParts) (y : Played) (now : TurnOrEnd) → now_at log y.progress y.used y.threads ≡ now → IsPlayBounded log y → IsPlayBounded log (play_turn log y now)
 now_bounded log y (Ended how) is b = b
 now_bounded log y TurnOfDma is b =
     dma_bounded log y (dma_verdict log y.progress y.used) (left_over log y.progress y.used y.threads TurnOfDma is (λ how e. cc)) b

@@ -17,7 +17,7 @@ use Rattle.spec_play.specs.declared.used.Used.{Used}
 use Rattle.spec_play.specs.Turns.{TurnOrEnd, Turn, TurnOfDma, Ended, has_left_over, at_end, turn_of_thread, turn_of, next_actor, now_at}
 use Rattle.spec_play.specs.Verdicts.{LogVerdict, Goes, Fails}
 use Rattle.spec_play.specs.Transfers.{DmaVerdict, DmaGoes, DmaFails, dma_verdict}
-use Rattle.spec_play.specs.Plays.{Played, opened, settled, thread_verdict, play_thread, dma_settled, play_now, play_one, plays, play}
+use Rattle.spec_play.specs.Plays.{Played, opened, settled, thread_verdict, play_thread, dma_settled, play_turn, play_one, plays, play}
 use Rattle.spec_play.proofs.Positions.{position-more}
 
 -- ---- a play that has ended stays
@@ -25,7 +25,7 @@ use Rattle.spec_play.proofs.Positions.{position-more}
 -- a play that has ended is the same after one more commit is asked for
 pub over-stays : (log : LogParts) (y : Played) (how : End) → y.now ≡ Ended how → play_one log y ≡ y
 unfolding play_one
-over-stays log y how e = ap (play_now log y) e
+over-stays log y how e = ap (play_turn log y) e
 
 -- a play that has ended after i commits is the same after any number more
 pub plays-stay : (log : LogParts) (y : Played) (i n : ℕ) (how : End) → (plays log y i).now ≡ Ended how → plays log y (n + i) ≡ plays log y i
@@ -74,7 +74,7 @@ dma_more : (log : LogParts) (y : Played) (v : DmaVerdict) → OneMore y (dma_set
 dma_more log y (DmaGoes words) = one_more y (dma_settled log y (DmaGoes words)) dma_commit refl refl
 dma_more log y (DmaFails why) = no_more y (dma_settled log y (DmaFails why)) refl
 
-now_more : (log : LogParts) (y : Played) (now : TurnOrEnd) → OneMore y (play_now log y now)
+now_more : (log : LogParts) (y : Played) (now : TurnOrEnd) → OneMore y (play_turn log y now)
 now_more log y (Ended how) = no_more y y refl
 now_more log y TurnOfDma = dma_more log y (dma_verdict log y.progress y.used)
 now_more log y (Turn k) = thread_more log y k (slice_get y.threads k)
@@ -163,7 +163,7 @@ pub turn-lives : (log : LogParts) (p : Progress) (u : Used) (ts : List Parts) (k
 unfolding now_at
 turn-lives log p u ts k e = turn_below (position p) k ts (next_actor log p ts) (nat_lt (position p) log.count) (has_left_over log u ts) e
 
-now_goes : (log : LogParts) (y : Played) (i : ℕ) (now : TurnOrEnd) → y.now ≡ now → GoesOn log y i → EndsOr log (play_now log y now) (suc i)
+now_goes : (log : LogParts) (y : Played) (i : ℕ) (now : TurnOrEnd) → y.now ≡ now → GoesOn log y i → EndsOr log (play_turn log y now) (suc i)
 now_goes log y i (Ended how) is g = inl (how, is)
 now_goes log y i TurnOfDma is g = dma_goes log y i (dma_verdict log y.progress y.used) g.done
 now_goes log y i (Turn k) is g =

@@ -19,7 +19,7 @@ use Rattle.spec_play.specs.declared.used.Used.{Used}
 use Rattle.spec_play.specs.Turns.{TurnOrEnd, Turn, TurnOfDma, Ended}
 use Rattle.spec_play.specs.Verdicts.{LogVerdict, Goes, Fails, unless, interrupt_at, with_interrupted, ended, chunk_why, chunk_verdict, TakenRecord, given, serial_why, served_verdict, serial_verdict}
 use Rattle.spec_play.specs.Transfers.{DmaVerdict, DmaGoes, DmaFails, dma_verdict}
-use Rattle.spec_play.specs.Plays.{Played, opened, settled, size_or_standard, thread_verdict, play_thread, dma_settled, play_now, play_one, plays}
+use Rattle.spec_play.specs.Plays.{Played, opened, settled, size_or_standard, thread_verdict, play_thread, dma_settled, play_turn, play_one, plays}
 use Rattle.spec_play.specs.Lasts.{IsOfCommits, PlaysKeepLasts}
 
 -- ---- one more commit
@@ -97,7 +97,7 @@ dma_last : (log : LogParts) (y : Played) (v : DmaVerdict) → IsOfCommits y.prog
 dma_last log y (DmaGoes words) last = last-dma y.progress last
 dma_last log y (DmaFails why) last = last
 
-now_last : (log : LogParts) (y : Played) (now : TurnOrEnd) → IsOfCommits y.progress → IsOfCommits (play_now log y now).progress
+now_last : (log : LogParts) (y : Played) (now : TurnOrEnd) → IsOfCommits y.progress → IsOfCommits (play_turn log y now).progress
 now_last log y (Ended how) last = last
 now_last log y TurnOfDma last = dma_last log y (dma_verdict log y.progress y.used) last
 now_last log y (Turn k) last = thread_last log y k (slice_get y.threads k) last

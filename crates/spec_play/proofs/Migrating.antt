@@ -17,7 +17,7 @@ use Rattle.spec_play.specs.declared.used.Used.{Used}
 use Rattle.spec_play.specs.Turns.{TurnOrEnd, Turn, TurnOfDma, Ended, has_left_over, at_end, turn_of, now_at}
 use Rattle.spec_play.specs.Verdicts.{LogVerdict, Goes, Fails, unless, serial_why, TakenRecord, given, served_verdict, chunk_verdict, serial_verdict}
 use Rattle.spec_play.specs.Transfers.{DmaVerdict, DmaGoes, DmaFails, dma_verdict}
-use Rattle.spec_play.specs.Plays.{Played, opened, with_threads, settled, size_or_standard, thread_verdict, play_thread, dma_settled, play_now, play_one, plays, play}
+use Rattle.spec_play.specs.Plays.{Played, opened, with_threads, settled, size_or_standard, thread_verdict, play_thread, dma_settled, play_turn, play_one, plays, play}
 use Rattle.spec_play.specs.Migration.{MigrationKeepsPlays}
 
 -- ---- whose turn it is
@@ -71,7 +71,7 @@ thread_alike log y k None = refl
 thread_alike log y k (Some t) =
     ap (settled (migrated log) y k) (verdict_alike log y k t (next_kind t y.memory)) ∙ settled_alike log y k (thread_verdict log y k t (next_kind t y.memory))
 
-turn_alike : (log : LogParts) (y : Played) (now : TurnOrEnd) → play_now (migrated log) y now ≡ play_now log y now
+turn_alike : (log : LogParts) (y : Played) (now : TurnOrEnd) → play_turn (migrated log) y now ≡ play_turn log y now
 turn_alike log y (Ended how) = refl
 turn_alike log y TurnOfDma =
     ap (dma_settled (migrated log) y) (dma_alike log y.progress y.used) ∙ dma_settled_alike log y (dma_verdict log y.progress y.used)

@@ -19,7 +19,7 @@ use Rattle.spec_play.specs.declared.used.Used.{Used}
 use Rattle.spec_play.specs.Turns.{TurnOrEnd, Turn, TurnOfDma, Ended, has_left_over, at_end, turn_of, now_at}
 use Rattle.spec_play.specs.Verdicts.{LogVerdict, Goes, Fails, serial_why, chunk_verdict, serial_verdict}
 use Rattle.spec_play.specs.Transfers.{DmaVerdict, DmaGoes, DmaFails, transferred, dma_unless, dma_verdict}
-use Rattle.spec_play.specs.Plays.{Played, opened, settled, thread_verdict, play_thread, dma_settled, play_now, play_one, plays}
+use Rattle.spec_play.specs.Plays.{Played, opened, settled, thread_verdict, play_thread, dma_settled, play_turn, play_one, plays}
 use Rattle.spec_play.proofs.Going.{plays-first, plays-most}
 use Rattle.spec_play.specs.States.{state_of, resumed}
 use Rattle.spec_play.specs.Resuming.{PlaysGoOn, HasDone, IsResumed, PlaysResume}
@@ -105,7 +105,7 @@ dma_shifted log f b w (DmaGoes words) meets =
     committed log f b w.progress dma_commit w.progress.last None after.memory w.threads after.used meets
 dma_shifted log f b w (DmaFails why) meets = failed f b w (λ i. End.Diverged i why) meets
 
-now_shifted : (log : LogParts) (f : ℕ) (b : List Commit) (w : Played) (now : TurnOrEnd) → Meets f b w.progress → play_now log (shifted f b w) now ≡ shifted f b (play_now log w now)
+now_shifted : (log : LogParts) (f : ℕ) (b : List Commit) (w : Played) (now : TurnOrEnd) → Meets f b w.progress → play_turn log (shifted f b w) now ≡ shifted f b (play_turn log w now)
 now_shifted log f b w (Ended how) meets = refl
 now_shifted log f b w TurnOfDma meets =
     ap (dma_settled log (shifted f b w)) (same_transfer log f b w.progress w.used meets)
@@ -140,7 +140,7 @@ dma_turn : (log : LogParts) (y : Played) (v : DmaVerdict) → suc (position y.pr
 dma_turn log y (DmaGoes words) more = refl
 dma_turn log y (DmaFails why) more = absurd (omega (arith, more))
 
-now_turn : (log : LogParts) (y : Played) (now : TurnOrEnd) → suc (position y.progress) ≤ position (play_now log y now).progress → IsAtTurn log (play_now log y now)
+now_turn : (log : LogParts) (y : Played) (now : TurnOrEnd) → suc (position y.progress) ≤ position (play_turn log y now).progress → IsAtTurn log (play_turn log y now)
 now_turn log y (Ended how) more = absurd (omega (arith, more))
 now_turn log y TurnOfDma more = dma_turn log y (dma_verdict log y.progress y.used) more
 now_turn log y (Turn k) more = thread_turn log y k (slice_get y.threads k) more

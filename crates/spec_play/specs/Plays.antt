@@ -83,14 +83,14 @@ dma_settled log y (DmaGoes words) =
       now = now_at log progress used y.threads;
     }
 
-abbrev pub play_now : LogParts → Played → TurnOrEnd → Played
-play_now log y (Ended how) = y
-play_now log y TurnOfDma = dma_settled log y (dma_verdict log y.progress y.used)
-play_now log y (Turn k) = play_thread log y k (slice_get y.threads k)
+abbrev pub play_turn : LogParts → Played → TurnOrEnd → Played
+play_turn log y (Ended how) = y
+play_turn log y TurnOfDma = dma_settled log y (dma_verdict log y.progress y.used)
+play_turn log y (Turn k) = play_thread log y k (slice_get y.threads k)
 
 -- one more commit, or the end if that diverges; a play that has ended stays as it is
 unfoldable pub play_one : LogParts → Played → Played
-play_one log y = play_now log y y.now
+play_one log y = play_turn log y y.now
 
 -- ---- the play
 

@@ -17,7 +17,8 @@ use Rattle.spec_protocol.specs.machine.World.{Numbers}
 use Rattle.spec_strata.specs.declared.strata.StrataParts.{StrataParts}
 use Rattle.spec_strata.specs.Checking.{StrataAnswer, Parallel, Unfit, Conflict, answer_of}
 use Rattle.spec_program.specs.declared.status.Refusal.{Refusal}
-use Rattle.spec_program.specs.Files.{ScheduleRead, ScriptRead, EventsDrawn, RecordInputs, ReplayInputs, RoleRead, PlainRead, RecordRead, ReplayRead, StrataRead, SphereRead}
+use Rattle.spec_program.specs.Files.{ScheduleRead, ScriptRead, EventsDrawn, RecordInputs, ReplayInputs, RoleRead, PlainRead}
+use Rattle.spec_program.specs.Files.{RecordRead, ReplayRead, StrataRead, SphereRead}
 use Rattle.spec_program.specs.Lines.{image_line, log_line, bad_strata_line, script_line}
 use Rattle.spec_program.specs.Stages.{Refused, refusing, ◌>>◌}
 

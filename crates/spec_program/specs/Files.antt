@@ -1,4 +1,5 @@
--- What a plan has read: the bytes of its files, and what its script, its logs and its strata say, each where the plan names it, or the first name that is absent.
+-- What a plan has read: the bytes of its files, and what its script, its logs and its strata say, each where the plan names it,
+-- or the first name that is absent.
 use Rattle.std.specs.Prelude.{ℕ, List, [], ◌∷◌, Option, Some, None, Result, Ok, ok_or}
 use Rattle.std.specs.FinMap.{get}
 use Rattle.dl_event.specs.Script.{script_of}

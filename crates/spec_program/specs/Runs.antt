@@ -1,12 +1,12 @@
 -- What a run comes to: the files that its plan has written, with what is made for each, and the summary.
-use Rattle.std.specs.Prelude.{ℕ, Bool, false, not, List, Ok}
+use Rattle.std.specs.Prelude.{ℕ, Bool, false, List, Ok}
 use Rattle.dl_plan.specs.declared.Product.{Product}
 use Rattle.dl_plan.specs.Values.{PlanValues}
 use Rattle.spec_protocol.specs.declared.event.Event.{Event}
 use Rattle.spec_protocol.specs.machine.Machine.{Setup}
 use Rattle.spec_protocol.specs.promises.Sound.{image_at}
 use Rattle.spec_run.specs.Runs.{diverges}
-use Rattle.spec_run.specs.Tails.{is_in_epochs}
+use Rattle.spec_run.specs.Tails.{is_recorded_whole}
 use Rattle.spec_run.specs.Texts.{log_text, account_text, console_text, report_text, summary_text}
 use Rattle.spec_program.specs.Outcomes.{Outcome}
 use Rattle.spec_program.specs.Writes.{Write, outputs_filled}
@@ -20,7 +20,7 @@ product_for s es Product.Report = report_text s es
 
 -- logs are written in pieces, except for tails
 abbrev pub is_log : Setup → Product → Bool
-is_log s (Product.Log sphere) = not (is_in_epochs (image_at s sphere).role)
+is_log s (Product.Log sphere) = is_recorded_whole (image_at s sphere).role
 is_log s (Product.Account sphere) = false
 is_log s Product.Console = false
 is_log s Product.Report = false

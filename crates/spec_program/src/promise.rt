@@ -9,8 +9,8 @@ pub fn tasks_are_run()
     ensures { TasksAreRun }
 {}
 
-/// Two tasks that replay a sphere of the same image and memory size by the same log, or the same strata, write equal accounts
-/// of it, whatever else their plans and files say.
+/// Two tasks that replay a sphere of the same image and memory size by the same log and interval, or the same strata, write equal
+/// accounts of it, whatever else their plans and files say.
 pub fn accounts_agree()
     ensures { AccountsAgree }
 {}

@@ -71,7 +71,7 @@ pub fn notes_fit_logs()
 {}
 
 /// Whatever the world and the event: a point is made exactly where the reply is Granted, Piece, DmaDone or Raised; it is of
-/// the event's moment and is kept behind the earlier ones; and the event is counted with its reply.
+/// the event's moment and is kept after the earlier ones; and the event is counted with its reply.
 pub fn points_are_made()
     ensures { PointsAreMade }
 {}
@@ -100,7 +100,7 @@ pub fn logs_are_of_points()
     ensures { LogsAreOfPoints }
 {}
 
-/// Recordings and plays look at a log in the same way: whether a chunk goes as logged hangs on its thread's end and its number
+/// Recordings and plays look at a log in the same way: whether a chunk goes as logged depends on its thread's end and its number
 /// of instructions alone; the log of what is kept has its sizes, its heads and the limits of these sizes; and at the end of a
 /// play sizes are used by the numbers of the threads' commits as they are by the threads, short ones at any time; and an
 /// interrupt is left over where not all are due.
@@ -128,14 +128,14 @@ pub fn stopped_spheres_stay()
     ensures { StoppedSpheresStay }
 {}
 
-/// After every list of events: a piece of a replayed sphere's commit counts as no commit, and leaves the request and the
-/// turn as they are.
+/// After every list of events: a piece of a replayed sphere's commit counts as no commit and leaves the request as it is. The
+/// turn stays, or in strata goes to the piece's thread.
 pub fn pieces_count_nothing()
     ensures { PiecesCountNothing }
 {}
 
 /// Whatever its threads, memory and log: a chunk, a DMA or an interrupt leaves in a plain sphere what it leaves in a recorded
-/// one, but for the log, and stores the same words and leaves the same devices. So does a serial step, if both may have as
+/// one, except for the log, and stores the same words and leaves the same devices. So does a serial step, if both may have as
 /// many threads.
 pub fn plain_moves_as_recorded()
     ensures { PlainMovesAsRecorded }
@@ -147,8 +147,8 @@ pub fn committers_are_told()
     ensures { CommittersAreTold }
 {}
 
-/// After every list of events: of each sphere, plain, recorded or replayed, the thread that committed last is the last one
-/// among its commits, DMAs passed over; or, if no thread is among them, the one that committed last before them.
+/// After every list of events: of each sphere, plain, recorded or replayed, except in strata, the thread that committed last is
+/// the last one among its commits, DMAs passed over; or, if no thread is among them, the one that committed last before them.
 pub fn spheres_keep_lasts()
     ensures { SpheresKeepLasts }
 {}

@@ -16,10 +16,10 @@ use Rattle.spec_play.specs.Progress.{position}
 use Rattle.spec_play.specs.Turns.{TurnOrEnd, Turn, TurnOfDma, Ended}
 use Rattle.spec_play.specs.Verdicts.{LogVerdict, Goes, Fails}
 use Rattle.spec_play.specs.Transfers.{DmaVerdict, DmaGoes, DmaFails, dma_verdict}
-use Rattle.spec_play.specs.Plays.{Played, settled, size_or_standard, thread_verdict, play_thread, dma_settled, play_now, play_one}
+use Rattle.spec_play.specs.Plays.{Played, settled, size_or_standard, thread_verdict, play_thread, dma_settled, play_turn, play_one}
 use Rattle.spec_play.proofs.Lasts.{IsOf, chunk-of, serial-of}
 use Rattle.spec_query.specs.declared.store.Store.{Store}
-use Rattle.spec_query.specs.Stores.{words_gone, words_transferred, thread_words, store_of, stores_of, stores_now, next_stores}
+use Rattle.spec_query.specs.Stores.{words_gone, words_transferred, thread_words, store_of, stores_of, turn_stores, next_stores}
 use Rattle.spec_query.specs.Promise.{IsOfCommit, Spares, AreApart, TellCommit, StoresAreTold}
 use Rattle.spec_query.proofs.Apart.{GoesApart, thread_apart, TransfersApart, dma_apart}
 
@@ -90,7 +90,7 @@ dma_told : (log : LogParts) (y : Played) (v : DmaVerdict) → TransfersApart v �
 dma_told log y (DmaGoes words) a = told y (dma_settled log y (DmaGoes words)) dma_commit Actor.Dma words refl refl refl a
 dma_told log y (DmaFails why) a = nothing_told y (dma_settled log y (DmaFails why)) refl
 
-now_told : (log : LogParts) (y : Played) (now : TurnOrEnd) → TellCommit y (play_now log y now) (stores_now log y now)
+now_told : (log : LogParts) (y : Played) (now : TurnOrEnd) → TellCommit y (play_turn log y now) (turn_stores log y now)
 now_told log y (Ended how) = nothing_told y y refl
 now_told log y TurnOfDma = dma_told log y (dma_verdict log y.progress y.used) (dma_apart log y.progress y.used)
 now_told log y (Turn k) = thread_told log y k (slice_get y.threads k)

@@ -36,16 +36,16 @@ store_of i actor after s = record { commit = i; actor = actor; address = 4 * s.n
 abbrev pub stores_of : (commit : ℕ) → Actor → (memory : List ℕ) → (words : List Stored) → List Store
 stores_of i actor m words = map (store_of i actor (lays m words)) words
 
-abbrev pub stores_now : LogParts → Played → TurnOrEnd → List Store
-stores_now log y (Ended how) = []
-stores_now log y TurnOfDma =
+abbrev pub turn_stores : LogParts → Played → TurnOrEnd → List Store
+turn_stores log y (Ended how) = []
+turn_stores log y TurnOfDma =
     stores_of (position y.progress) Actor.Dma y.memory (words_transferred (dma_verdict log y.progress y.used))
-stores_now log y (Turn k) =
+turn_stores log y (Turn k) =
     stores_of (position y.progress) (Actor.Thread k) y.memory (thread_words log y k (slice_get y.threads k))
 
 -- of the next commit; none if there is none, or if it diverges
 unfoldable pub next_stores : LogParts → Played → List Store
-next_stores log y = stores_now log y y.now
+next_stores log y = turn_stores log y y.now
 
 -- ---- the stores of a play
 

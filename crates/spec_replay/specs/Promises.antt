@@ -1,4 +1,4 @@
--- What is promised of replayed spheres, for every setup within its limits and every list of events.
+-- What is promised of replayed spheres, for every setup and every list of events.
 use Rattle.std.specs.Prelude.{◌≡◌, ℕ, ◌<◌, Bool, true, false, length, slice_get, Some, None, List}
 use Rattle.dl_entry.specs.declared.End.{End}
 use Rattle.dl_entry.specs.declared.Why.{Why}
@@ -99,7 +99,7 @@ pub record Agree (p q : Sphere) (b c : Cursor) : Type 0 where
   pub final : (how : End) → b.now ≡ Ended how → ends_between how ≡ true → is_over c.now ≡ true
       → SameState p q
 
--- whatever else differs: cores, buffers, window, signatures, devices, events and the other spheres. Neither is in strata
+-- whatever else differs: cores, depth, buffers, window, signatures, devices, events and the other spheres. Neither is in strata
 abbrev pub ReplaysAgree : Type 0
 ReplaysAgree =
     (image : SphereSetup) (asked : ReplaySetup)

@@ -26,7 +26,7 @@ pub fn stopped_replays_are_played()
 {}
 
 /// Two replays of the same commits of a log on the same image, neither of them in strata, after any events and whatever
-/// differs in cores, buffers, window, signatures, devices and other spheres: after the same number of whole commits these are
+/// differs in cores, depth, buffers, window, signatures, devices and other spheres: after the same number of whole commits these are
 /// the same, and if both have stopped, they have done the same commits, with their loads and outputs, and have ended in the
 /// same way. Memory and threads are the same too, unless that end is within a commit, of which one may have done more pieces.
 pub fn replays_agree()

@@ -180,7 +180,7 @@ IntervalsAreSlices =
     ≡ (slice log image.memory image.entry i.first i.last).text
 
 -- two runs that agree on a sphere's image, memory size, log and interval write the same account of it, whatever else differs:
--- cores, buffers, windows, signatures, schedules, devices and the other spheres
+-- cores, depth, buffers, windows, signatures, schedules, devices and the other spheres
 abbrev pub AccountsAgree : Type 0
 AccountsAgree =
     (s z : Setup) (es fs : List Event) (i j : ℕ) (asked : ReplaySetup)
@@ -188,7 +188,7 @@ AccountsAgree =
     → image_at z j ≡ image_at s i
     → account_text z fs j ≡ account_text s es i
 
--- the setups differ at most in cores, windows, buffers and signatures
+-- the setups differ at most in cores, depth, windows, buffers and signatures
 pub record AreAlike (s z : Setup) : Type 0 where
   pub chunk : s.numbers.s ≡ z.numbers.s
   pub seed : s.seed ≡ z.seed

@@ -1,6 +1,6 @@
 -- What a recording in epochs leaves: the state after its base, which is a number of commits, and the log of the commits from
 -- there on.
-use Rattle.std.specs.Prelude.{ℕ, Bool, false, List}
+use Rattle.std.specs.Prelude.{ℕ, Bool, false, not, List}
 use Rattle.std.specs.Option.{is_some}
 use Rattle.dl_entry.specs.declared.Point.{Point}
 use Rattle.spec_play.specs.Progress.{position}
@@ -13,11 +13,11 @@ use Rattle.spec_protocol.specs.machine.Spheres.{Sphere}
 use Rattle.spec_run.specs.Runs.{points_of, executed}
 use Rattle.spec_tail.specs.Tails.{Tail}
 
--- whether a sphere is recorded in epochs
-abbrev pub is_in_epochs : RoleSetup → Bool
-is_in_epochs IsPlain = false
-is_in_epochs (IsRecorded asked) = is_some asked.epochs
-is_in_epochs (IsReplayed asked) = false
+-- whether a sphere is recorded whole, and not in epochs
+abbrev pub is_recorded_whole : RoleSetup → Bool
+is_recorded_whole IsPlain = false
+is_recorded_whole (IsRecorded asked) = not (is_some asked.epochs)
+is_recorded_whole (IsReplayed asked) = false
 
 -- the number of commits before the earliest epoch that is kept
 abbrev pub base_in : Sphere → EpochSetup → ℕ

@@ -46,7 +46,7 @@ pub fn accounts_agree()
     ensures { AccountsAgree }
 {}
 
-/// Two runs that differ at most in cores, windows, buffers and signatures, and make the same points, have the same logs,
+/// Two runs that differ at most in cores, depth, windows, buffers and signatures, and make the same points, have the same logs,
 /// accounts and console.
 pub fn texts_are_of_points()
     ensures { TextsAreOfPoints }

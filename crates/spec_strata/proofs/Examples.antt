@@ -25,7 +25,7 @@ both_store : conflicts code (started 0) 1 (started 0) 1 ≡ true
 unfolding looks_at serial_of loads_of next_of load_of store_of one lay read merged
 both_store = refl
 
--- a commit that met its number of instructions hasn't seen the call behind it
+-- a commit that met its number of instructions hasn't seen the call after it
 call_unseen : footprint code (started 8) 1 3 ≡ false
 unfolding looks_at serial_of loads_of next_of load_of store_of one lay read merged
 call_unseen = refl

@@ -12,7 +12,7 @@ use Rattle.spec_play.specs.Progress.{Progress, thread_of, last_thread}
 use Rattle.spec_play.specs.declared.used.Used.{Used}
 use Rattle.spec_play.specs.Turns.{Turn, now_at}
 use Rattle.spec_play.specs.Verdicts.{Goes, interrupt_at, chunk_verdict}
-use Rattle.spec_play.specs.Plays.{Played, size_or_standard, play_now}
+use Rattle.spec_play.specs.Plays.{Played, size_or_standard, play_turn}
 use Rattle.spec_strata.specs.Shares.{Share, stratum_start, StratumState, Rule, state_at}
 use Rattle.spec_strata.specs.Parallel.{AreClear}
 
@@ -52,12 +52,12 @@ pub record ChunkGoes (log : LogParts) (y : Played) (k : ℕ) : Type 0 where
 -- the play with the next commits of these threads, one after the other
 abbrev pub plays_of : LogParts → Played → List ℕ → Played
 plays_of log y [] = y
-plays_of log y (k ∷ ks) = plays_of log (play_now log y (Turn k)) ks
+plays_of log y (k ∷ ks) = plays_of log (play_turn log y (Turn k)) ks
 
 -- each of them is a chunk and goes as logged
 abbrev pub ChunksGo : LogParts → Played → List ℕ → Type 0
 ChunksGo log y [] = Unit {0}
-ChunksGo log y (k ∷ ks) = ChunkGoes log y k × ChunksGo log (play_now log y (Turn k)) ks
+ChunksGo log y (k ∷ ks) = ChunkGoes log y k × ChunksGo log (play_turn log y (Turn k)) ks
 
 -- ---- the play that a stratum's state gives
 

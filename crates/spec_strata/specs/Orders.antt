@@ -9,7 +9,7 @@ use Rattle.spec_kernel.specs.Interrupts.{is_live}
 use Rattle.spec_play.specs.Effects.{chunk_commit}
 use Rattle.spec_play.specs.Progress.{position}
 use Rattle.spec_play.specs.Turns.{TurnOrEnd, Turn}
-use Rattle.spec_play.specs.Plays.{Played, play_now, play_one, plays}
+use Rattle.spec_play.specs.Plays.{Played, play_turn, play_one, plays}
 use Rattle.spec_strata.specs.Shares.{counts_of, Share, bump, StratumState, state_at}
 use Rattle.spec_strata.specs.InPlay.{with_state, IsLooked, rule_of, IsLike, plays_of, commits_of, IsStratum, ChunkGoes, ChunksGo, in_stratum}
 
@@ -31,13 +31,13 @@ place (suc k) (p ∷ ps) = length p.runs + place k ps
 -- the stratum's commits in canonical order it comes after those of threads up to k
 pub record StepsOn (log : LogParts) (y z : Played) (x v : StratumState) (k : ℕ) : Type 0 where
   pub goes : ChunkGoes log z k
-  pub like : IsLike (with_state log y v) (play_now log z (Turn k))
+  pub like : IsLike (with_state log y v) (play_turn log z (Turn k))
   pub commit : Commit
   pub actor : commit.actor ≡ Actor.Thread k
-  pub appended : (play_now log z (Turn k)).progress.commits ≡ z.progress.commits ++ commit ∷ []
+  pub appended : (play_turn log z (Turn k)).progress.commits ≡ z.progress.commits ++ commit ∷ []
   pub placed : commits_of chunk_commit v.shares ≡ insert_at (place k x.shares) commit (commits_of chunk_commit x.shares)
-  pub last : (play_now log z (Turn k)).progress.last ≡ Some k
-  pub looked : IsLooked log (play_now log z (Turn k))
+  pub last : (play_turn log z (Turn k)).progress.last ≡ Some k
+  pub looked : IsLooked log (play_turn log z (Turn k))
 
 -- A commit of thread k that has some left, at any time within the stratum, and whatever was done: it is a chunk that goes as
 -- logged, its run is the thread's next one of canonical order, and it leaves the play with one commit more of k.
@@ -92,7 +92,7 @@ CanonicalPlays =
 -- Plays that are alike stay alike, whatever commit follows, a serial step or a DMA too.
 abbrev pub PlaysStayAlike : Type 0
 PlaysStayAlike =
-    (log : LogParts) (y z : Played) (now : TurnOrEnd) → IsLike y z → IsLike (play_now log y now) (play_now log z now)
+    (log : LogParts) (y z : Played) (now : TurnOrEnd) → IsLike y z → IsLike (play_turn log y now) (play_turn log z now)
 
 -- If an order is logged, plays that are alike have the same turn.
 abbrev pub TurnsAlike : Type 0

@@ -9,7 +9,7 @@ use Rattle.spec_play.specs.Effects.{Effect}
 use Rattle.spec_play.specs.declared.used.Used.{Used}
 use Rattle.spec_play.specs.Turns.{TurnOrEnd, Turn, TurnOfDma, Ended}
 use Rattle.spec_play.specs.Verdicts.{Goes, serial_why}
-use Rattle.spec_play.specs.Plays.{Played, play_now, thread_verdict}
+use Rattle.spec_play.specs.Plays.{Played, play_turn, thread_verdict}
 use Rattle.spec_play.specs.Transfers.{DmaGoes, dma_verdict}
 use Rattle.spec_log.specs.Size.{size_in}
 use Rattle.spec_strata.specs.Shares.{counts_of}
@@ -62,13 +62,13 @@ abbrev pub GoThrough : LogParts → Played → List Block → Type 0
 GoThrough log y [] = Unit {0}
 GoThrough log y (Chunks ks js ∷ bs) =
     IsStratum log y ks × ((j : ℕ) → counts_of js j ≡ counts_of ks j) × GoThrough log (plays_of log y ks) bs
-GoThrough log y (Alone now ∷ bs) = GoesNow log y now × GoThrough log (play_now log y now) bs
+GoThrough log y (Alone now ∷ bs) = GoesNow log y now × GoThrough log (play_turn log y now) bs
 
 -- a log's play goes through them, each stratum in the second of its orders
 abbrev pub GoThroughToo : LogParts → Played → List Block → Type 0
 GoThroughToo log y [] = Unit {0}
 GoThroughToo log y (Chunks ks js ∷ bs) = IsStratum log y js × GoThroughToo log (plays_of log y js) bs
-GoThroughToo log y (Alone now ∷ bs) = GoesNow log y now × GoThroughToo log (play_now log y now) bs
+GoThroughToo log y (Alone now ∷ bs) = GoesNow log y now × GoThroughToo log (play_turn log y now) bs
 
 -- If one log goes through them in the first orders, the other does so in the second ones, and leaves a play like that of the
 -- first.

@@ -1,5 +1,6 @@
 -- How far a replay has come in strata.
-use Rattle.std.specs.Prelude.{ℕ, zero, suc, ◌+◌, nat_eq, nat_lt, Bool, false, List, [], ◌∷◌, map, slice_index_or, slice_set, Option, Some, None, option_map, if◌then◌else◌}
+use Rattle.std.specs.Prelude.{ℕ, zero, suc, ◌+◌, nat_eq, nat_lt, Bool, false, List, [], ◌∷◌, map, slice_index_or, slice_set, Option}
+use Rattle.std.specs.Prelude.{Some, None, option_map, if◌then◌else◌}
 use Rattle.std.specs.List.{sum}
 use Rattle.dl_entry.specs.declared.Actor.{Actor}
 use Rattle.spec_strata.specs.declared.stratum.Stratum.{Stratum}

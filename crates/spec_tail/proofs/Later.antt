@@ -31,7 +31,7 @@ use Rattle.spec_play.specs.declared.used.Used.{Used}
 use Rattle.spec_play.specs.declared.WalkEnd.{WalkEnd}
 use Rattle.spec_play.specs.Effects.{Effect, chunk_effect, serial_effect}
 use Rattle.spec_play.specs.Progress.{Progress, position, nothing_used, with_effect, with_dma, with_dma_used, with_interrupt, with_input}
-use Rattle.spec_play.specs.Plays.{Played, with_threads, settled, size_or_standard, thread_verdict, play_thread, dma_settled, play_now, play_one, plays}
+use Rattle.spec_play.specs.Plays.{Played, with_threads, settled, size_or_standard, thread_verdict, play_thread, dma_settled, play_turn, play_one, plays}
 use Rattle.spec_play.specs.States.{State, progress_from, resumed}
 use Rattle.spec_play.specs.Transfers.{DmaVerdict, DmaGoes, DmaFails, dma_unless, transferred, is_for, dma_verdict}
 use Rattle.spec_play.specs.Turns.{TurnOrEnd, Turn, TurnOfDma, Ended, are_sizes_used, has_left_over, at_end, turn_of_thread, turn_of, now_at}
@@ -500,7 +500,7 @@ module _ (t : Tail) (tail : IsTail t) where
 
   -- ---- all of it
 
-  now_alike : (y : Played) (now : TurnOrEnd) → y.now ≡ now → IsPlayed y → AreAlike (play_now (log_later t) y now) (play_now (log_since t) (since y) (now_left (has_more_left t y.used) now))
+  now_alike : (y : Played) (now : TurnOrEnd) → y.now ≡ now → IsPlayed y → AreAlike (play_turn (log_later t) y now) (play_turn (log_since t) (since y) (now_left (has_more_left t y.used) now))
   now_alike y (Ended how) e is = record { same = refl; played = is }
   now_alike y (Turn k) e is = thread_alike y k (slice_get y.threads k) refl is
   now_alike y TurnOfDma e is = dma_alike y early refl is (subst (IfTurn (position y.progress)) e is.turn)

@@ -36,7 +36,7 @@ put-taken (w ∷ ws) (suc i) s apart at =
       | inr h ↦ rw h.0 (ap (λ xs. w ∷ xs) (put-taken ws i s apart.1 at))
     ]
 
--- the next word comes behind those that were put
+-- the next word comes after those that were put
 pub put_taken : (words : List Stored) (i : ℕ) (s : Stored) → Apart words → slice_get words i ≡ Some s → put (take i words) s ≡ take (i + 1) words
 put_taken words i s apart at =
     let next : suc i ≡ i + 1 = omega arith in put-taken words i s apart at ∙ ap (λ n. take n words) next

@@ -31,7 +31,7 @@ input-if (Some i) h = h
 pub input_taken : (t : Parts) (m : List ℕ) (d : Devices) (moment : ℕ) → IsBytes m → HaveByteInput d → IfSome (taken (need t m) d moment).input IsInput
 input_taken t m d moment bytes h = input-if (taken (need t m) d moment).input (taken-sound t m d moment bytes h).input
 
--- what holds of a copied record holds of the one behind the reference
+-- what holds of a copied record holds of the one after the reference
 pub if_copied : (P : Input → Type 0) (o : Option (Bor Input)) → IfSome (option_copied o) P → IfSome o (λ r. P r.now)
 if_copied P None h = tt
 if_copied P (Some r) h = h

@@ -16,7 +16,7 @@ use Rattle.spec_protocol.specs.machine.World.{Numbers, MoveKind, OfChunk, OfSeri
 use Rattle.spec_protocol.specs.machine.Asking.{is_short}
 use Rattle.spec_protocol.specs.machine.Machine.{RoleSetup, IsPlain, IsRecorded, IsReplayed, SphereSetup, sphere_as, sphere_of}
 use Rattle.spec_protocol.specs.machine.Serial.{SerialState, laid, do_serial, do_dma, do_raise}
-use Rattle.spec_protocol.specs.machine.Moves.{move_chunk, do_what, do_at, do_move, do_moves}
+use Rattle.spec_protocol.specs.machine.Moves.{move_chunk, do_by_kind, do_at, do_move, do_moves}
 
 -- ---- one sphere
 
@@ -139,7 +139,7 @@ raise_kinds : (images : List SphereSetup) (x : SerialState) (i k value : ℕ) (p
 raise_kinds images x i k value p None is all = all
 raise_kinds images x i k value p (Some t) is all = kinds_set images x.spheres i p (raised k value t p) is (raised-kind k value t p) all
 
-what_kinds : (z : Numbers) (images : List SphereSetup) (x : SerialState) (moment i : ℕ) (p : Sphere) (a : MoveKind) → slice_get x.spheres i ≡ Some p → AreOfKinds images x.spheres → AreOfKinds images (do_what z x moment i p a).spheres
+what_kinds : (z : Numbers) (images : List SphereSetup) (x : SerialState) (moment i : ℕ) (p : Sphere) (a : MoveKind) → slice_get x.spheres i ≡ Some p → AreOfKinds images x.spheres → AreOfKinds images (do_by_kind z x moment i p a).spheres
 what_kinds z images x moment i p (OfChunk k how n limit) is all = chunk_kinds z images x i k how n limit p (slice_get p.threads k) is all
 what_kinds z images x moment i p (OfSerial k) is all = serial_kinds images x i k moment p (slice_get p.threads k) is all
 what_kinds z images x moment i p OfDma is all = dma_kinds images x i p (dma_moved x.devices p) is (dma-kind x.devices p) all

@@ -32,7 +32,7 @@ use Rattle.spec_protocol.proofs.Invariants.Cores.{branch}
 use Rattle.spec_protocol.proofs.Moves.Granted.{either_serve}
 use Rattle.spec_protocol.proofs.Sound.Words.{put-length}
 use Rattle.spec_protocol.proofs.Sound.Limits.{all-in, get-in, size-most}
-use Rattle.spec_finishing.specs.Work.{stored as words_stored, dma_stored, thread_work, turn_work, now_work, commit_work, commits_work}
+use Rattle.spec_finishing.specs.Work.{stored as words_stored, dma_stored, thread_work, turn_work, next_work, commit_work, commits_work}
 use Rattle.spec_finishing.proofs.Paying.Runs.{run-most}
 
 -- ---- copies
@@ -187,7 +187,7 @@ turn-few : (log : LogParts) (y : Played) (k : ℕ) (o : Option Parts) → IsLog 
 turn-few log y k None is = omega arith
 turn-few log y k (Some t) is = let l = thread-few log y k t (next_kind t y.memory) is in omega (arith, l)
 
-now-few : (log : LogParts) (y : Played) (now : TurnOrEnd) → IsLog log → now_work log y now ≤ 65541
+now-few : (log : LogParts) (y : Played) (now : TurnOrEnd) → IsLog log → next_work log y now ≤ 65541
 now-few log y (Ended how) is = omega arith
 now-few log y TurnOfDma is = let l = dma-verdict-words log y.progress y.used is in omega (arith, l)
 now-few log y (Turn k) is = turn-few log y k (slice_get y.threads k) is

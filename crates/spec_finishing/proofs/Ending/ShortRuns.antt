@@ -37,7 +37,7 @@ use Rattle.spec_protocol.proofs.Sound.Words.{lay-bytes}
 use Rattle.spec_protocol.proofs.Sound.Devices.{IsSoundTaken, taken-sound, dma-few}
 use Rattle.spec_protocol.proofs.Sound.Limits.{limit-most}
 use Rattle.spec_protocol.proofs.Sound.Schedules.{setup-within, worlds_sound}
-use Rattle.spec_finishing.specs.Work.{setup_work, plays_work, serial_work, dma_work, what_work, role_work, sphere_work, moves_work}
+use Rattle.spec_finishing.specs.Work.{setup_work, plays_work, serial_work, dma_work, kind_work, role_work, sphere_work, moves_work}
 use Rattle.spec_finishing.specs.Rank.{price}
 use Rattle.spec_finishing.specs.Ending.{work}
 use Rattle.spec_finishing.specs.Function.{RunsAreShort, SetupsCanFinish}
@@ -147,13 +147,13 @@ dma-moved-few : (z : Numbers) (devices : Devices) (p : Sphere) → replays p.rol
 unfolding dma_moved
 dma-moved-few z devices p live few = dma-in-few z p.role devices p live few
 
-what-few : (z : Numbers) (devices : Devices) (p : Sphere) (moment : ℕ) (a : MoveKind) → replays p.role ≡ false → IsFew z devices p → FitsWhat z devices p a → what_work p devices moment a ≤ 65541
+what-few : (z : Numbers) (devices : Devices) (p : Sphere) (moment : ℕ) (a : MoveKind) → replays p.role ≡ false → IsFew z devices p → FitsWhat z devices p a → kind_work p devices moment a ≤ 65541
 what-few z devices p moment (OfChunk k how n limit) live few fits = chunk-few z devices p k how n limit (slice_get p.threads k) few fits
 what-few z devices p moment (OfSerial k) live few fits = serial-few z devices p moment k (slice_get p.threads k) live few
 what-few z devices p moment OfDma live few fits = dma-moved-few z devices p live few
 what-few z devices p moment (OfRaise k value) live few fits = omega arith
 
-role-few : (p : Sphere) (devices : Devices) (m : Move) (role : Role) → (replays role ≡ false → what_work p devices m.moment m.what ≤ 65541) → role_work p devices m role ≤ 65541
+role-few : (p : Sphere) (devices : Devices) (m : Move) (role : Role) → (replays role ≡ false → kind_work p devices m.moment m.what ≤ 65541) → role_work p devices m role ≤ 65541
 role-few p devices m Plain few = few refl
 role-few p devices m (Record recording) few = few refl
 role-few p devices m (Replay b) few = omega arith

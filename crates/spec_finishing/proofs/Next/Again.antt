@@ -18,7 +18,7 @@ use Rattle.spec_protocol.specs.machine.Spheres.{is_stopped}
 use Rattle.spec_protocol.specs.machine.World.{World, Occupant, EventOutcome, sphere_at, runs, core_of, answered}
 use Rattle.spec_protocol.specs.machine.Stepping.{reply_of_step, stepped, step_held, stepping, younger_for, step_younger}
 use Rattle.spec_protocol.specs.machine.Machine.{core_no, act, with_event, happens}
-use Rattle.spec_protocol.specs.machine.Finishing.{SphereTurn, least, standing, untold, deliver_or_retire, for_flight, for_held, for_core, for_actor, for_who, for_slot, for_standing, next}
+use Rattle.spec_protocol.specs.machine.Finishing.{SphereTurn, least, standing, untold, deliver_or_retire, for_flight, for_held, for_core, for_actor, for_turn, for_slot, for_standing, next}
 use Rattle.spec_protocol.proofs.Memory.Slots.{at-set_same, at_within}
 use Rattle.spec_finishing.proofs.Next.Turns.{no-flight}
 use Rattle.spec_finishing.proofs.Next.UnderWay.{OnCore, on-core}
@@ -125,7 +125,7 @@ actor_next : (w : World) (i d : ℕ) (actor : Actor) → standing w ≡ None →
 actor_next w i d Actor.Dma none turn same = absurd (cc)
 actor_next w i d (Actor.Thread k) none turn same = core_next w i k d (core_of w i k) none turn refl same
 
-who_next : (w : World) (d : ℕ) (o : Option SphereTurn) → standing w ≡ None → least 0 w.spheres ≡ o → for_who w o ≡ Some (Event.Step d) → StepIsNext w d
+who_next : (w : World) (d : ℕ) (o : Option SphereTurn) → standing w ≡ None → least 0 w.spheres ≡ o → for_turn w o ≡ Some (Event.Step d) → StepIsNext w d
 who_next w d None none turn same = absurd (none-some _ same)
 who_next w d (Some who) none turn same = actor_next w who.sphere d who.actor none turn same
 
@@ -145,7 +145,7 @@ next_is_step : (w : World) (i k c : ℕ) (h : Occupant) → standing w ≡ None 
 unfolding next
 next_is_step w i k c h none turn found there open_ =
     ap (for_standing w) none
-    ∙ ap (for_who w) turn
+    ∙ ap (for_turn w) turn
     ∙ ap (for_core w i k) found
     ∙ ap (for_held c) there
     ∙ ap {A = Bool} (λ b. Some (cond b (Event.Step c) (Event.Ask c))) open_

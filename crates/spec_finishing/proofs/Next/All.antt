@@ -18,7 +18,7 @@ use Rattle.spec_protocol.specs.machine.Asking.{asking}
 use Rattle.spec_protocol.specs.machine.Transferring.{transferring}
 use Rattle.spec_protocol.specs.machine.Machine.{Setup, core_no, sphere_no, act, happens}
 use Rattle.spec_protocol.specs.machine.Shown.{shown_of}
-use Rattle.spec_protocol.specs.machine.Finishing.{SphereTurn, least, standing, for_flight, for_held, for_core, for_actor, for_who, for_slot, for_standing, next}
+use Rattle.spec_protocol.specs.machine.Finishing.{SphereTurn, least, standing, for_flight, for_held, for_core, for_actor, for_turn, for_slot, for_standing, next}
 use Rattle.spec_protocol.proofs.Memory.Slots.{at_within}
 use Rattle.spec_protocol.proofs.Moves.AnyEvent.{any-step}
 use Rattle.spec_finishing.specs.Rank.{held_under_way, core_under_way, actor_under_way, under_way}
@@ -138,7 +138,7 @@ actor_falls s w who e Actor.Dma g none is turn same =
     subst (Lowers s w) h (dma_act s w who g.known (g.next_known (Event.Dma who.sphere)) g.window none is turn)
 actor_falls s w who e (Actor.Thread k) g none is turn same = core_falls s w who k e (core_of w who.sphere k) g none is turn refl same
 
-who_falls : (s : Setup) (w : World) (e : Event) (o : Option SphereTurn) → Goes s w → standing w ≡ None → least 0 w.spheres ≡ o → for_who w o ≡ Some e → Lowers s w e
+who_falls : (s : Setup) (w : World) (e : Event) (o : Option SphereTurn) → Goes s w → standing w ≡ None → least 0 w.spheres ≡ o → for_turn w o ≡ Some e → Lowers s w e
 who_falls s w e None g none is same = absurd (none-some e same)
 who_falls s w e (Some who) g none is same = actor_falls s w who e who.actor g none is refl same
 
@@ -164,7 +164,7 @@ actor_next w i (Actor.Thread k) e = core_next w i k (core_of w i k) refl e
     core_next w i k None found e = none-some _ (sym e)
     core_next w i k (Some c) found e = let on = on-core w i k c found in none-some _ (sym (sym (ap (for_held c) on.1.there) ∙ e))
 
-who_next : (w : World) (o : Option SphereTurn) → for_who w o ≡ None → o ≡ None
+who_next : (w : World) (o : Option SphereTurn) → for_turn w o ≡ None → o ≡ None
 who_next w None e = refl
 who_next w (Some who) e = absurd (actor_next w who.sphere who.actor e)
 

@@ -12,7 +12,7 @@ use Rattle.spec_protocol.specs.machine.Spheres.{Cursor, Role, Plain, Record, Rep
 use Rattle.spec_protocol.specs.machine.World.{World, sphere_at}
 use Rattle.spec_protocol.specs.machine.Machine.{SphereSetup, Setup}
 use Rattle.spec_protocol.specs.machine.Shown.{flying, shown, shown_from, shown_of}
-use Rattle.spec_protocol.specs.machine.Finishing.{SphereTurn, who_in, who_of, least, standing}
+use Rattle.spec_protocol.specs.machine.Finishing.{SphereTurn, named_turn, turn_of_role, least, standing}
 use Rattle.spec_finishing.specs.Ending.{IsAtEnd}
 use Rattle.spec_finishing.proofs.Paying.GoingOn.{GoesOn}
 use Rattle.spec_finishing.proofs.Left.AnyAsk.{nothing_flies}
@@ -41,7 +41,7 @@ found_later i p ps who f =
       actor = f.actor;
     }
 
-found_now : (i : ℕ) (p : Sphere) (ps : List Sphere) (who : SphereTurn) (b : Cursor) (o : Option Actor) → p.role ≡ Replay b → actor_of b.now ≡ o → who_in i o (least (suc i) ps) ≡ Some who → (least (suc i) ps ≡ Some who → FoundIn i (p ∷ ps) who) → FoundIn i (p ∷ ps) who
+found_now : (i : ℕ) (p : Sphere) (ps : List Sphere) (who : SphereTurn) (b : Cursor) (o : Option Actor) → p.role ≡ Replay b → actor_of b.now ≡ o → named_turn i o (least (suc i) ps) ≡ Some who → (least (suc i) ps ≡ Some who → FoundIn i (p ∷ ps) who) → FoundIn i (p ∷ ps) who
 found_now i p ps who b None role is e later = later e
 found_now i p ps who b (Some actor) role is e later =
     let h : record { sphere = i; actor = actor } ≡ who = cc in
@@ -55,7 +55,7 @@ found_now i p ps who b (Some actor) role is e later =
       actor = is ∙ ap (λ (y : SphereTurn). Some y.actor) h;
     }
 
-found_by : (i : ℕ) (p : Sphere) (ps : List Sphere) (who : SphereTurn) (role : Role) → p.role ≡ role → who_of i role (least (suc i) ps) ≡ Some who → (least (suc i) ps ≡ Some who → FoundIn i (p ∷ ps) who) → FoundIn i (p ∷ ps) who
+found_by : (i : ℕ) (p : Sphere) (ps : List Sphere) (who : SphereTurn) (role : Role) → p.role ≡ role → turn_of_role i role (least (suc i) ps) ≡ Some who → (least (suc i) ps ≡ Some who → FoundIn i (p ∷ ps) who) → FoundIn i (p ∷ ps) who
 found_by i p ps who Plain is e later = later e
 found_by i p ps who (Record recording) is e later = later e
 found_by i p ps who (Replay b) is e later = found_now i p ps who b (actor_of b.now) is refl e later
@@ -69,11 +69,11 @@ over_now (Turn k) e = absurd (none-some (Actor.Thread k) (sym e))
 over_now TurnOfDma e = absurd (none-some Actor.Dma (sym e))
 over_now (Ended how) e = refl
 
-ends_in : (i : ℕ) (b : Cursor) (o : Option Actor) (others : Option SphereTurn) → actor_of b.now ≡ o → who_in i o others ≡ None → IsAtEnd (Replay b) × (others ≡ None)
+ends_in : (i : ℕ) (b : Cursor) (o : Option Actor) (others : Option SphereTurn) → actor_of b.now ≡ o → named_turn i o others ≡ None → IsAtEnd (Replay b) × (others ≡ None)
 ends_in i b None others is e = (over_now b.now is, e)
 ends_in i b (Some actor) others is e = absurd (none-some _ (sym e))
 
-ends_of : (i : ℕ) (role : Role) (others : Option SphereTurn) → who_of i role others ≡ None → IsAtEnd role × (others ≡ None)
+ends_of : (i : ℕ) (role : Role) (others : Option SphereTurn) → turn_of_role i role others ≡ None → IsAtEnd role × (others ≡ None)
 ends_of i Plain others e = (tt, e)
 ends_of i (Record recording) others e = (tt, e)
 ends_of i (Replay b) others e = ends_in i b (actor_of b.now) others refl e

@@ -19,7 +19,7 @@ use Rattle.spec_protocol.specs.promises.Invariants.{Closes, current}
 use Rattle.spec_protocol.specs.promises.Currency.{IsCurrent}
 use Rattle.spec_protocol.specs.machine.Finishing.{SphereTurn, least, standing}
 use Rattle.spec_protocol.proofs.Moves.Joining.{its_turn}
-use Rattle.spec_finishing.specs.Rank.{spheres_rank, potential, held_under_way, core_under_way, actor_under_way, who_under_way, standing_under_way, under_way}
+use Rattle.spec_finishing.specs.Rank.{spheres_rank, potential, held_under_way, core_under_way, actor_under_way, turn_under_way, standing_under_way, under_way}
 use Rattle.spec_finishing.proofs.Left.Slots.{one_at_most}
 use Rattle.spec_finishing.proofs.Left.Pricing.{price-least}
 use Rattle.spec_finishing.proofs.Paying.Affording.{Afforded}
@@ -111,7 +111,7 @@ actor_most : (s : Setup) (w : World) (i : ℕ) (actor : Actor) → Known s w →
 actor_most s w i Actor.Dma known none a = omega arith
 actor_most s w i (Actor.Thread k) known none a = core_most s w i k (core_of w i k) known none a refl
 
-who_most : (s : Setup) (w : World) (o : Option SphereTurn) → Known s w → standing w ≡ None → least 0 w.spheres ≡ o → who_under_way w o ≤ potential s w
+who_most : (s : Setup) (w : World) (o : Option SphereTurn) → Known s w → standing w ≡ None → least 0 w.spheres ≡ o → turn_under_way w o ≤ potential s w
 who_most s w None known none e = omega arith
 who_most s w (Some who) known none e = actor_most s w who.sphere who.actor known none (has-actor s w who known none e)
 
@@ -134,4 +134,4 @@ under_way-flight w k e = ap (standing_under_way w) e
 -- if no flight is left, what is under way is what the next replay's actor has begun
 pub under_way-actor : (w : World) (who : SphereTurn) → standing w ≡ None → least 0 w.spheres ≡ Some who → under_way w ≡ actor_under_way w who.sphere who.actor
 unfolding under_way
-under_way-actor w who none e = ap (standing_under_way w) none ∙ ap (who_under_way w) e
+under_way-actor w who none e = ap (standing_under_way w) none ∙ ap (turn_under_way w) e

@@ -17,7 +17,7 @@ use Rattle.spec_protocol.proofs.Moves.Joining.{MayGo, its_turn, own_pieces, turn
 use Rattle.spec_replay.specs.Following.{IsWhole, StandsAt, Follows}
 use Rattle.spec_replay.proofs.Intervals.{now_as, turn-in, is-start, room-left}
 use Rattle.spec_replay.proofs.Commits.Done.{done_in, one_more, InOrder, Reaches}
-use Rattle.spec_finishing.specs.Work.{dma_stored, turn_work, now_work, commit_work}
+use Rattle.spec_finishing.specs.Work.{dma_stored, turn_work, next_work, commit_work}
 use Rattle.spec_finishing.specs.Rank.{asked_of, left_in, replay_left}
 use Rattle.spec_finishing.proofs.Paying.Plays.{first_of, count_of, left-going, left-step, left-turned, later}
 use Rattle.spec_finishing.proofs.Paying.NextCommits.{ThreadNext, DmaNext}
@@ -82,8 +82,8 @@ beside-log image asked p b none r role going =
     subst (λ (c : Cursor). c.strata ≡ None → is_over c.now ≡ false → BesideLog image p c) e (goes_cursor image asked p none f) (subst InOrder role r.in_order) going
 
 -- the play has the replay's turn
-play_now_is : (image : SphereSetup) (p : Sphere) (b : Cursor) (now : TurnOrEnd) → BesideLog image p b → is_over now ≡ false → b.now ≡ now → (play_of image b p).now ≡ now
-play_now_is image p b now g going turn =
+play_turn_is : (image : SphereSetup) (p : Sphere) (b : Cursor) (now : TurnOrEnd) → BesideLog image p b → is_over now ≡ false → b.now ≡ now → (play_of image b p).now ≡ now
+play_turn_is image p b now g going turn =
     let y = play_of image b p in
     turn-in b.interval b.log.count (position y.progress) y.now now going (sym g.now ∙ turn)
 
@@ -97,7 +97,7 @@ thread_works : (image : SphereSetup) (p : Sphere) (b : Cursor) (k : ℕ) → (g 
 unfolding commit_work
 thread_works image p b k g turn s =
     let y = play_of image b p in
-    ap (now_work b.log y) (play_now_is image p b (Turn k) g refl turn) ∙ ap (turn_work b.log y k) s.1.is
+    ap (next_work b.log y) (play_turn_is image p b (Turn k) g refl turn) ∙ ap (turn_work b.log y k) s.1.is
 
 -- the work that a play has after its next commit
 abbrev behind : SphereSetup → Sphere → Cursor → ℕ
@@ -160,7 +160,7 @@ log_dma_whole image p b plain =
 
 dma_works : (image : SphereSetup) (p : Sphere) (b : Cursor) → (g : BesideLog image p b) → b.now ≡ TurnOfDma → let y = play_of image b p in commit_work b.log y ≡ suc (dma_stored (dma_verdict b.log y.progress y.used))
 unfolding commit_work
-dma_works image p b g turn = ap (now_work b.log (play_of image b p)) (play_now_is image p b TurnOfDma g refl turn)
+dma_works image p b g turn = ap (next_work b.log (play_of image b p)) (play_turn_is image p b TurnOfDma g refl turn)
 
 -- a DMA does the work of the play's
 pub log-dma_next : (image : SphereSetup) (p : Sphere) (b : Cursor) → BesideLog image p b → b.now ≡ TurnOfDma → DmaNext image p b

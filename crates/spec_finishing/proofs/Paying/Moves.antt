@@ -12,9 +12,9 @@ use Rattle.spec_protocol.specs.machine.World.{Numbers, MoveKind, OfChunk, OfSeri
 use Rattle.spec_protocol.specs.machine.Asking.{is_short}
 use Rattle.spec_protocol.specs.machine.Machine.{SphereSetup}
 use Rattle.spec_protocol.specs.machine.Serial.{SerialState, laid, do_serial, do_dma, do_raise}
-use Rattle.spec_protocol.specs.machine.Moves.{move_chunk, do_what, FitsChunk, FitsSerial}
+use Rattle.spec_protocol.specs.machine.Moves.{move_chunk, do_by_kind, FitsChunk, FitsSerial}
 use Rattle.spec_replay.proofs.Replays.Moved.{may-go}
-use Rattle.spec_finishing.specs.Work.{serial_work, dma_work, what_work}
+use Rattle.spec_finishing.specs.Work.{serial_work, dma_work, kind_work}
 use Rattle.spec_finishing.specs.Rank.{price, spheres_rank}
 use Rattle.spec_finishing.proofs.Paying.Plays.{paid, words-paid}
 use Rattle.spec_finishing.proofs.Paying.GoingOn.{GoesOn, thread-next}
@@ -98,7 +98,7 @@ module _ (c : ℕ) (images : List SphereSetup) (x : SerialState) (i : ℕ) (imag
 
     -- a move of a sphere that isn't replayed pays for its flight with its own work
     pub what_own : (z : Numbers) (moment : ℕ) (a : MoveKind)
-        → spheres_rank c images (do_what z x moment i p a).spheres + what_most c p x.devices moment a ≤ spheres_rank c images x.spheres + price c (what_work p x.devices moment a)
+        → spheres_rank c images (do_by_kind z x moment i p a).spheres + what_most c p x.devices moment a ≤ spheres_rank c images x.spheres + price c (kind_work p x.devices moment a)
     what_own z moment (OfChunk k how n limit) = chunk_own z k how n limit (slice_get p.threads k)
     what_own z moment (OfSerial k) = serial_own k moment (slice_get p.threads k)
     what_own z moment OfDma = dma_own (dma_moved x.devices p) (dma-kind x.devices p)

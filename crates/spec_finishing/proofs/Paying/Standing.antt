@@ -10,9 +10,9 @@ use Rattle.spec_protocol.specs.machine.Placing.{replays}
 use Rattle.spec_protocol.specs.machine.World.{Numbers, MoveKind, OfChunk, OfSerial, OfDma, OfRaise, Move}
 use Rattle.spec_protocol.specs.machine.Machine.{SphereSetup, Setup}
 use Rattle.spec_protocol.specs.machine.Serial.{SerialState}
-use Rattle.spec_protocol.specs.machine.Moves.{do_what, do_at, do_move, FitsWhat, FitsAt, Fits}
+use Rattle.spec_protocol.specs.machine.Moves.{do_by_kind, do_at, do_move, FitsWhat, FitsAt, Fits}
 use Rattle.spec_replay.proofs.Replays.Moved.{turn_of_dma}
-use Rattle.spec_finishing.specs.Work.{what_work, role_work, sphere_work, move_work}
+use Rattle.spec_finishing.specs.Work.{kind_work, role_work, sphere_work, move_work}
 use Rattle.spec_finishing.specs.Rank.{price, spheres_rank}
 use Rattle.spec_finishing.proofs.Paying.GoingOn.{GoesOn, dma-next}
 use Rattle.spec_finishing.proofs.Paying.Serial.{dma-pays}
@@ -31,7 +31,7 @@ not_none None some e = true≢false (sym some)
 not_none (Some x) some e = none-some x (sym e)
 
 what_paid : (c : ℕ) (images : List SphereSetup) (z : Numbers) (x : SerialState) (moment i : ℕ) (image : SphereSetup) (p : Sphere) (b : Cursor) (a : MoveKind) → 0 < z.capacity → slice_get images i ≡ Some image → slice_get x.spheres i ≡ Some p → p.role ≡ Replay b
-    → (is_over b.now ≡ false → GoesOn image p b) → FitsWhat z x.devices p a → spheres_rank c images (do_what z x moment i p a).spheres + (what_most c p x.devices moment a + what_more a) ≤ spheres_rank c images x.spheres + 0
+    → (is_over b.now ≡ false → GoesOn image p b) → FitsWhat z x.devices p a → spheres_rank c images (do_by_kind z x moment i p a).spheres + (what_most c p x.devices moment a + what_more a) ≤ spheres_rank c images x.spheres + 0
 what_paid c images z x moment i image p b (OfChunk k how n limit) positive there is role goes fits = chunk_paid c images x i image p there is b role goes z k how n limit (slice_get p.threads k) positive refl fits
 what_paid c images z x moment i image p b (OfSerial k) positive there is role goes fits = serial_paid c images x i image p there is b role goes k moment (slice_get p.threads k) refl fits
 what_paid c images z x moment i image p b OfDma positive there is role goes fits =
@@ -47,13 +47,13 @@ replay-role Plain e = absurd (true≢false (sym e))
 replay-role (Record recording) e = absurd (true≢false (sym e))
 replay-role (Replay b) e = (b, refl)
 
-live_work : (p : Sphere) (devices : Devices) (m : Move) (role : Role) → replays role ≡ false → role_work p devices m role ≡ what_work p devices m.moment m.what
+live_work : (p : Sphere) (devices : Devices) (m : Move) (role : Role) → replays role ≡ false → role_work p devices m role ≡ kind_work p devices m.moment m.what
 live_work p devices m Plain e = refl
 live_work p devices m (Record recording) e = refl
 live_work p devices m (Replay b) e = absurd (true≢false e)
 
 role_pays : (c : ℕ) (s : Setup) (z : Numbers) (x : SerialState) (m : Move) (p : Sphere) (b : Bool) → 0 < z.capacity → AllGoOn s x → slice_get x.spheres m.sphere ≡ Some p → replays p.role ≡ b → FitsWhat z x.devices p m.what
-    → spheres_rank c s.spheres (do_what z x m.moment m.sphere p m.what).spheres + what_most c p x.devices m.moment m.what ≤ spheres_rank c s.spheres x.spheres + price c (role_work p x.devices m p.role)
+    → spheres_rank c s.spheres (do_by_kind z x m.moment m.sphere p m.what).spheres + what_most c p x.devices m.moment m.what ≤ spheres_rank c s.spheres x.spheres + price c (role_work p x.devices m p.role)
 role_pays c s z x m p true positive stands is kind fits =
     let image = stands.images m.sphere p is in
     let cursor = replay-role p.role kind in

@@ -9,7 +9,7 @@ use Rattle.spec_isa.specs.Runs.{Run, run}
 use Rattle.spec_log.specs.declared.LogParts.{LogParts}
 use Rattle.spec_play.specs.Effects.{chunk_commit}
 use Rattle.spec_play.specs.Turns.{Turn}
-use Rattle.spec_play.specs.Plays.{Played, size_or_standard, settled, thread_verdict, play_thread, play_now, plays}
+use Rattle.spec_play.specs.Plays.{Played, size_or_standard, settled, thread_verdict, play_thread, play_turn, plays}
 use Rattle.spec_play.proofs.Resuming.{plays_go_on}
 use Rattle.spec_strata.specs.Shares.{Share, counts_of, shares_at}
 use Rattle.spec_strata.specs.InPlay.{rule_of, commits_of, ChunkGoes, ChunksGo, IsLooked, IsStratum, in_stratum}
@@ -22,7 +22,7 @@ use Rattle.spec_strata.proofs.Plays.Canonical.{one-turn, canonical_plays}
 use Rattle.spec_strata.proofs.Images.Canonical.{length-rising}
 use Rattle.spec_strata.proofs.Standing.Counts.{count_at, counts-rising}
 use Rattle.spec_replay.proofs.Strata.Coming.{rising-up}
-use Rattle.spec_finishing.specs.Work.{thread_work, turn_work, now_work, commit_work, commits_work}
+use Rattle.spec_finishing.specs.Work.{thread_work, turn_work, next_work, commit_work, commits_work}
 
 -- ---- a chunk that goes as logged
 
@@ -35,7 +35,7 @@ pub chunk-work : (log : LogParts) (y : Played) (k : ℕ) (g : ChunkGoes log y k)
 chunk-work log y k g = ap (λ (o : Option Kind). suc (thread_work log y k g.thread o)) g.chunk
 
 -- it comes after the others
-pub chunk-appended : (log : LogParts) (y : Played) (k : ℕ) (g : ChunkGoes log y k) → (play_now log y (Turn k)).progress.commits ≡ y.progress.commits ++ chunk_commit k (run_of log y k g) ∷ []
+pub chunk-appended : (log : LogParts) (y : Played) (k : ℕ) (g : ChunkGoes log y k) → (play_turn log y (Turn k)).progress.commits ≡ y.progress.commits ++ chunk_commit k (run_of log y k g) ∷ []
 chunk-appended log y k g =
     let r = run_of log y k g in
     let goes = logged-goes log y.progress y.used k r (goes-logged log y.progress y.used g.used k r g.effect g.goes) in
@@ -52,7 +52,7 @@ record Costs (log : LogParts) (x : Played) (i n : ℕ) : Type 0 where
 
 one_work : (log : LogParts) (y : Played) (k : ℕ) (g : ChunkGoes log y k) → y.now ≡ Turn k → commit_work log y ≡ suc (run_of log y k g).n
 unfolding commit_work
-one_work log y k g turn = ap (now_work log y) turn ∙ ap (turn_work log y k) g.there ∙ chunk-work log y k g
+one_work log y k g turn = ap (next_work log y) turn ∙ ap (turn_work log y k) g.there ∙ chunk-work log y k g
 
 chunks_cost : (log : LogParts) (x : Played) (i : ℕ) (ks : List ℕ) → ChunksGo log (plays log x i) ks → TurnsAre log (plays log x i) ks → Costs log x i (length ks)
 chunks_cost log x i [] go turns =

@@ -33,7 +33,7 @@ use Rattle.spec_replay.proofs.Strata.Chunks.{thread-lives}
 use Rattle.spec_replay.proofs.Strata.Going.{WhoGoes}
 use Rattle.spec_replay.proofs.Strata.Moved.{at_standing}
 use Rattle.spec_replay.proofs.Strata.Stopping.{count-is}
-use Rattle.spec_finishing.specs.Work.{dma_stored, turn_work, now_work, commit_work, commits_work}
+use Rattle.spec_finishing.specs.Work.{dma_stored, turn_work, next_work, commit_work, commits_work}
 use Rattle.spec_finishing.specs.Rank.{strata_left}
 use Rattle.spec_finishing.proofs.Paying.Plays.{work-split, left-behind}
 use Rattle.spec_finishing.proofs.Strata.Costing.{run_of, chunk-work, chunk-appended, stratum-cost, nothing-costs}
@@ -240,7 +240,7 @@ serial_task v image rest done before k standard c =
       task = one_task v image (Serial k) rest done before standard c refl c.open_;
       lives = subst (λ (z : Played). Lives z.threads k) (sym same) (turn-lives log y.progress y.used y.threads k (sym c.looked ∙ turn));
       works = λ t is.
-          ap (now_work log y) turn ∙ ap (λ (z : Played). turn_work log z k (slice_get z.threads k)) (sym same)
+          ap (next_work log y) turn ∙ ap (λ (z : Played). turn_work log z k (slice_get z.threads k)) (sym same)
           ∙ ap (turn_work log (stratum_at v image (at_standing (Serial k ∷ rest) done before)) k) is;
     }
 
@@ -253,7 +253,7 @@ dma_task v image rest done before standard c =
     record {
       task = one_task v image Dma rest done before standard c refl c.open_;
       works =
-          ap (now_work log y) c.goes.1.0
+          ap (next_work log y) c.goes.1.0
           ∙ ap (λ (z : Played). suc (dma_stored (dma_verdict log z.progress z.used))) (sym (at_start v image Dma rest done before standard c refl c.open_));
     }
 

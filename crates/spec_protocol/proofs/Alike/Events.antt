@@ -419,7 +419,7 @@ module _ (w : World) where
       ap (λ (n : ℕ). end_forgotten (raising (all_forgotten w) (i % n) k value)) count_same ∙ raise_blind (sphere_no w i) k value
   act_blind (Event.Dma i) = ap (λ (n : ℕ). end_forgotten (transferring (all_forgotten w) (i % n))) count_same ∙ dma_blind (sphere_no w i)
 
-  -- an event at the world that has forgotten comes to what it comes to, but forgotten
+  -- an event at the world that has forgotten comes to what it comes to, with its log forgotten
   pub happens-forgotten : (e : Event) → end_forgotten (happens (all_forgotten w) e) ≡ end_forgotten (happens w e)
   unfolding happens
   happens-forgotten e = ap (λ (a : EventOutcome). record a { world = with_event a }) (act_blind e)

@@ -17,7 +17,7 @@ use Rattle.spec_protocol.specs.machine.Spheres.{Recording, Role, Plain, Record, 
 use Rattle.spec_protocol.specs.machine.Asking.{is_short}
 use Rattle.spec_protocol.specs.machine.Commits.{MovedSphere, is_piece, chunk_in, chunk_moved, serial_in, serial_moved, dma_as, live_dma, dma_in, dma_moved, role_raised, raised}
 use Rattle.spec_protocol.specs.machine.Machine.{IsPlain, RoleSetup, SphereSetup, Setup, sphere_as, world_of, moves}
-use Rattle.spec_protocol.specs.machine.Moves.{move_chunk, do_what, do_at, do_move, do_moves}
+use Rattle.spec_protocol.specs.machine.Moves.{move_chunk, do_by_kind, do_at, do_move, do_moves}
 use Rattle.spec_protocol.specs.machine.Serial.{SerialState, serial_start, laid, do_moved, do_serial, do_dma, do_raise}
 use Rattle.spec_protocol.specs.machine.Shown.{shown_of}
 use Rattle.spec_protocol.specs.machine.World.{Numbers, MoveKind, OfChunk, OfSerial, OfDma, OfRaise, Move}
@@ -113,7 +113,7 @@ raise_plain x i k value p (Some t) is role =
       role = ap (role_raised k t.commits value) role;
     }
 
-what_plain : (z : Numbers) (x : SerialState) (moment i : ℕ) (p : Sphere) (what : MoveKind) → slice_get x.spheres i ≡ Some p → p.role ≡ Plain → StaysPlain i (do_what z x moment i p what)
+what_plain : (z : Numbers) (x : SerialState) (moment i : ℕ) (p : Sphere) (what : MoveKind) → slice_get x.spheres i ≡ Some p → p.role ≡ Plain → StaysPlain i (do_by_kind z x moment i p what)
 what_plain z x moment i p (OfChunk k how n limit) is role = chunk_plain z x i k how n limit p (slice_get p.threads k) is role
 what_plain z x moment i p (OfSerial k) is role = serial_plain x i k moment p (slice_get p.threads k) is role
 what_plain z x moment i p OfDma is role = dma_plain x i p is role
@@ -126,7 +126,7 @@ move_plain z x m i h =
       | inl e ↦ (
           let there : slice_get x.spheres m.sphere ≡ Some h.sphere = ap (slice_get x.spheres) (sym e) ∙ h.there in
           subst (λ (o : Option Sphere). StaysPlain i (do_at z x m o)) (sym there)
-          (subst (λ (n : ℕ). StaysPlain n (do_what z x m.moment m.sphere h.sphere m.what)) (sym e) (what_plain z x m.moment m.sphere h.sphere m.what there h.role))
+          (subst (λ (n : ℕ). StaysPlain n (do_by_kind z x m.moment m.sphere h.sphere m.what)) (sym e) (what_plain z x m.moment m.sphere h.sphere m.what there h.role))
           )
       | inr ne ↦ record { sphere = h.sphere; there = at-away z x m i (slice_get x.spheres m.sphere) ne ∙ h.there; role = h.role }
     ]

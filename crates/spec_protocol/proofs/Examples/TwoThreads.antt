@@ -1,6 +1,6 @@
 -- Two threads in turn, with a DMA: the log that the points tell, and its play. A request stands until its DMA, which moves no
--- turn: behind thread 0's commit and the DMA it is thread 1's. The spawned thread has its turn; short chunks of both stand
--- thread by thread; and a reservation ends with its commit, so that the store behind it fails.
+-- turn: after thread 0's commit and the DMA it is thread 1's. The spawned thread has its turn; short chunks of both stand
+-- thread by thread; and a reservation ends with its commit, so that the store after it fails.
 use Rattle.std.proofs.Common.{◌≡◌, ℕ, true, false, List, [], ◌∷◌, map, Option, None, Some, refl}
 use Rattle.std.specs.Prelude.{slice_get}
 use Rattle.dl_entry.specs.declared.Actor.{Actor}

@@ -27,7 +27,7 @@ use Rattle.spec_protocol.specs.machine.Asking.{is_short}
 use Rattle.spec_protocol.specs.machine.Machine.{RoleSetup, IsPlain, IsRecorded, IsReplayed, SphereSetup, Setup, sphere_as, sphere_of, world_of, moves}
 use Rattle.spec_protocol.specs.machine.Serial.{SerialState, serial_start, laid, do_serial, do_dma, do_raise}
 use Rattle.spec_protocol.specs.machine.Shown.{shown, shown_of}
-use Rattle.spec_protocol.specs.machine.Moves.{move_chunk, do_what, do_at, do_move, do_moves}
+use Rattle.spec_protocol.specs.machine.Moves.{move_chunk, do_by_kind, do_at, do_move, do_moves}
 use Rattle.spec_protocol.specs.promises.Promises.{after}
 use Rattle.spec_protocol.specs.promises.Lasts.{IsInOrder, IsLastSince, last_before, SpheresKeepLasts}
 use Rattle.spec_protocol.proofs.Invariants.Preserved.{shown-get}
@@ -139,7 +139,7 @@ unfolding raised
 raise_all before x i k value p None is all = all
 raise_all before x i k value p (Some t) is all = set_last before x.spheres i p (raised k value t p) is all (λ order. all i p is (raised_order k t.commits value p.role order))
 
-what_all : (before : ℕ → Option ℕ) (z : Numbers) (x : SerialState) (moment i : ℕ) (p : Sphere) (what : MoveKind) → slice_get x.spheres i ≡ Some p → AreLast before x.spheres → AreLast before (do_what z x moment i p what).spheres
+what_all : (before : ℕ → Option ℕ) (z : Numbers) (x : SerialState) (moment i : ℕ) (p : Sphere) (what : MoveKind) → slice_get x.spheres i ≡ Some p → AreLast before x.spheres → AreLast before (do_by_kind z x moment i p what).spheres
 unfolding dma_moved
 what_all before z x moment i p (OfChunk k how n limit) is all = chunk_all before z x i k how n limit p (slice_get p.threads k) is all
 what_all before z x moment i p (OfSerial k) is all = serial_all before x i k moment p (slice_get p.threads k) is all

@@ -58,7 +58,7 @@ module _ (s : Setup) (i : ℕ) (image : SphereSetup) (asked : RecordSetup) (ther
       HoldsIn (Keeps (how_kept s asked)) i (supplied i (serial_start s) qs ++ supplied i y ts) (do_points y ts)
   kept-on qs ts can more = points-kept (Keeps (how_kept s asked)) (keeps-by-points (how_kept s asked)) i (supplied i (serial_start s) qs) (do_points (serial_start s) qs) ts (kept-so qs can) more
 
-  -- the state after the first points, and that after those behind them
+  -- the state after the first points, and that after the next ones
   pub cuts_at : (qs ts rs : List Point) → CanDoAll (serial_start s) (qs ++ (ts ++ rs))
       → let y = do_points (serial_start s) qs in
       let z = do_points y ts in

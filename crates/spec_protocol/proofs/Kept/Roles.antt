@@ -20,7 +20,7 @@ use Rattle.spec_protocol.specs.machine.World.{Numbers, World, MoveKind, OfChunk,
 use Rattle.spec_protocol.specs.machine.Asking.{is_short}
 use Rattle.spec_protocol.specs.machine.Machine.{RoleSetup, IsPlain, IsRecorded, IsReplayed, new_epochs, SphereSetup, Setup, sphere_as, sphere_of, world_of, moves}
 use Rattle.spec_protocol.specs.machine.Serial.{SerialState, serial_start, laid, do_moved, do_serial, do_dma, do_raise}
-use Rattle.spec_protocol.specs.machine.Moves.{move_chunk, do_what, do_at, do_move, do_moves}
+use Rattle.spec_protocol.specs.machine.Moves.{move_chunk, do_by_kind, do_at, do_move, do_moves}
 use Rattle.spec_protocol.specs.machine.Shown.{shown, shown_from, shown_of}
 use Rattle.spec_protocol.specs.promises.Promises.{IsSetup, after}
 use Rattle.spec_protocol.specs.promises.Alike.{epochs_in}
@@ -93,7 +93,7 @@ put_raised : (x : SerialState) (i k value : ℕ) (t : Parts) (p : Sphere) → sl
 unfolding raised
 put_raised x i k value t p is = put_keeps x.spheres i p (raised k value t p) is (raised_keeps k t.commits value p.role)
 
-what_keeps : (z : Numbers) (x : SerialState) (moment i : ℕ) (p : Sphere) (what : MoveKind) → slice_get x.spheres i ≡ Some p → map epochs_at (do_what z x moment i p what).spheres ≡ map epochs_at x.spheres
+what_keeps : (z : Numbers) (x : SerialState) (moment i : ℕ) (p : Sphere) (what : MoveKind) → slice_get x.spheres i ≡ Some p → map epochs_at (do_by_kind z x moment i p what).spheres ≡ map epochs_at x.spheres
 what_keeps z x moment i p (OfChunk k how n limit) is = chunk_of (slice_get p.threads k) where
   chunk_of : (o : Option Parts) → map epochs_at (move_chunk z x i k how n limit p o).spheres ≡ map epochs_at x.spheres
   chunk_of None = refl

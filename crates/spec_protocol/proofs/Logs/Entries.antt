@@ -1,4 +1,4 @@
--- An entry that is put in its place among entries that stand thread by thread: it comes behind those of its thread.
+-- An entry that is put in its place among entries that stand thread by thread: it comes after those of its thread.
 use Rattle.std.proofs.Common.{◌≡◌, ◌≢◌, ℕ, zero, suc, ◌+◌, ◌<◌, ◌≤◌, inl, inr, Bool, true, false, ◌&&◌, ◌||◌, eqb, cond, List, [], ◌∷◌, ◌++◌, Some, None, refl, sym, ap, ◌∙◌, subst, arith}
 use Rattle.std.specs.Prelude.{nat_lt, find}
 use Rattle.std.specs.List.{flat_map}
@@ -10,7 +10,7 @@ use Rattle.spec_log.specs.Noting.{insert_by}
 use Rattle.spec_protocol.specs.machine.Logged.{threads}
 use Rattle.spec_protocol.proofs.Logs.Inserting.{both_tests, is_of_moment, found_first}
 
--- ---- before and behind
+-- ---- before and after
 
 -- these entries are of thread k, and of an index below n
 abbrev pub Are : {X : Type 0} (thread index : X → ℕ) (k n : ℕ) → List X → Type 0
@@ -77,7 +77,7 @@ later_threads thread index x k n (y ∷ ys) l a =
       later_threads thread index x k n ys l a.2,
     )
 
--- where no entry is of the moment behind them all, all are below it
+-- where no entry is of the moment after them all, all are below it
 pub are-below : {X : Type 0} (thread index : X → ℕ) (k n : ℕ) (ys : List X) → Are thread index k (suc n) ys → find (is_of_moment thread index k n) ys ≡ None → Are thread index k n ys
 are-below thread index k n [] a none = tt
 are-below thread index k n (y ∷ ys) a none =
@@ -120,7 +120,7 @@ placed_from {X} thread index f g most x a (suc n) l m top are other own =
           )
     ]
 
--- among the entries of all threads the entry of one goes behind that thread's
+-- among the entries of all threads the entry of one goes after that thread's
 pub placed-behind : {X : Type 0} (thread index : X → ℕ) (f g : ℕ → List X) (most : ℕ → ℕ) (x : X) → thread x < most_threads → Are thread index (thread x) (index x) (f (thread x)) → ((j : ℕ) → Are thread index j (most j) (f j))
     → ((j : ℕ) → j ≢ thread x → g j ≡ f j) → g (thread x) ≡ f (thread x) ++ x ∷ []
     → insert_by thread index x (flat_map f threads) ≡ flat_map g threads

@@ -1,4 +1,4 @@
--- How a recorded log grows: what it has of the past stays, and what is to come stands behind.
+-- How a recorded log grows: what it has of the past stays, and what is to come follows.
 use Rattle.std.proofs.Common.{◌≡◌, ◌≢◌, ℕ, zero, suc, ◌+◌, ◌<◌, ◌≤◌, ◌⊎◌, inl, inr, Bool, true, false, cond, List, [], ◌∷◌, ◌++◌, length, Option, Some, None, refl, sym, ap, ◌∙◌, subst, arith, set}
 use Rattle.std.specs.Prelude.{slice_get}
 use Rattle.std.proofs.lemmas.Bool.{cases_eq, eq-eqb, ne_eqb}
@@ -176,7 +176,7 @@ one_more k as_ = count-append k as_ (Actor.Thread k ∷ []) ∙ ap (λ (b : Bool
 pub none_more : (k j : ℕ) (as_ : List Actor) → j ≢ k → count_of j (as_ ++ Actor.Thread k ∷ []) ≡ count_of j as_
 none_more k j as_ ne = count-append j as_ (Actor.Thread k ∷ []) ∙ ap (λ (b : Bool). count_of j as_ + cond b 1 0) (ne_eqb k j (λ e. ne (sym e))) ∙ omega arith
 
--- a list has one more element with x behind it
+-- a list has one more element with x after it
 pub pushed_length : {A : Type 0} (xs : List A) (x : A) (n : ℕ) → length xs ≡ n → length (xs ++ x ∷ []) ≡ suc n
 pushed_length xs x n e = let h = length-append xs (x ∷ []) in omega arith
 
@@ -239,7 +239,7 @@ set_none (t ∷ ts) zero (suc j) u e = e
 set_none (t ∷ ts) (suc k) zero u e = e
 set_none (t ∷ ts) (suc k) (suc j) u e = set_none ts k j u e
 
--- there is no thread j if there is none with others behind
+-- there is no thread j if there is none with others after
 pub append_none : (ts spawned : List Parts) (j : ℕ) → slice_get (ts ++ spawned) j ≡ None → slice_get ts j ≡ None
 append_none [] spawned j e = refl
 append_none (t ∷ ts) spawned zero e = e

@@ -36,7 +36,7 @@ same_tests a b = (λ i. eq-eqb a a refl i && eq-eqb b b refl i)
 abbrev pub is_of_moment : {X : Type 0} (thread index : X → ℕ) (k i : ℕ) → X → Bool
 is_of_moment thread index k i x = eqb (thread x) k && eqb (index x) i
 
--- where nothing is found, neither the first passes nor one behind it
+-- where nothing is found, neither the first passes nor one after it
 pub found_first : {X : Type 0} (test : X → Bool) (y : X) (ys : List X) → find test (y ∷ ys) ≡ None → (test y ≡ false) × (find test ys ≡ None)
 found_first test y ys e =
     elim (test y) as (λ (b : Bool). cond b (Some y) (find test ys) ≡ None → (b ≡ false) × (find test ys ≡ None)) [
@@ -46,7 +46,7 @@ found_first test y ys e =
 
 -- ---- one more
 
--- before y, in its place or behind it
+-- before y, in its place or after it
 abbrev put_at : {X : Type 0} (x y : X) (ys inserted : List X) (earlier same : Bool) → List X
 put_at x y ys inserted earlier same = cond earlier (y ∷ inserted) (cond same (x ∷ ys) (x ∷ y ∷ ys))
 

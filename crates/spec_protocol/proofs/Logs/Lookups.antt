@@ -72,7 +72,7 @@ skip : (k : ℕ) (b : Bool) (a : Actor) (s : ℕ) (rest : List (Actor × ℕ)) (
 skip k true a s rest c n e = e
 skip k false a s rest c n e = e
 
--- the size of the thread's next commit stands behind as many as it had
+-- the size of the thread's next commit stands after as many as it had
 pub size-there : (k : ℕ) (os : List Actor) (ss : List ℕ) (n : ℕ) (rest : List Actor) (more : List ℕ) → length ss ≡ length os
     → slice_get (sizes_of_thread k (os ++ Actor.Thread k ∷ rest) (ss ++ n ∷ more)) (count_of k os) ≡ Some n
 size-there k [] [] n rest more e =
@@ -82,9 +82,9 @@ size-there k (o ∷ os) [] n rest more e = absurd (omega arith)
 size-there k (o ∷ os) (s ∷ ss) n rest more e =
     skip k (is_thread k o) o s _ (count_of k os) n (size-there k os ss n rest more (omega arith))
 
--- ---- behind others
+-- ---- after others
 
--- the element behind n others is the one with number n
+-- the element after n others is the one with number n
 pub get-behind : {A : Type 0} (xs : List A) (x : A) (ys : List A) (n : ℕ) → length xs ≡ n → slice_get (xs ++ x ∷ ys) n ≡ Some x
 get-behind [] x ys zero e = refl
 get-behind [] x ys (suc n) e = absurd (omega arith)

@@ -44,20 +44,20 @@ before i [] k = []
 before i (x ∷ xs) zero = []
 before i (x ∷ xs) (suc k) = words_of i x ++ before i xs k
 
--- the words of sphere i that fly in the slots behind k
+-- the words of sphere i that fly in the slots after k
 abbrev pub behind : (i : ℕ) → List (Option Flight) → ℕ → List Stored
 behind i [] k = []
 behind i (x ∷ xs) zero = flying i xs
 behind i (x ∷ xs) (suc k) = behind i xs k
 
--- what flies of a sphere is what flies before slot k, in it and behind it
+-- what flies of a sphere is what flies before slot k, in it and after it
 pub flying-at : (i : ℕ) (xs : List (Option Flight)) (k : ℕ) → flying i xs ≡ before i xs k ++ (words_of i (at xs k) ++ behind i xs k)
 flying-at i [] k = refl
 flying-at i (x ∷ xs) zero = refl
 flying-at i (x ∷ xs) (suc k) =
     ap (λ (ws : List Stored). words_of i x ++ ws) (flying-at i xs k) ∙ sym (append_assoc (words_of i x) (before i xs k) _)
 
--- after a change of slot k the new words stand between those before and behind
+-- after a change of slot k the new words stand between those before and after
 pub flying-set : (i : ℕ) (xs : List (Option Flight)) (k : ℕ) (v : Option Flight) → k < length xs
     → flying i (set xs k v) ≡ before i xs k ++ (words_of i v ++ behind i xs k)
 flying-set i [] k v l = absurd (omega arith)

@@ -25,7 +25,7 @@ use Rattle.spec_protocol.specs.promises.Invariants.{Closes}
 
 -- ---- what is kept
 
--- the two chunks are the same but for their runs
+-- the two chunks are the same except for their runs
 pub record SameBase (ch dh : Chunk) : Type 0 where
   pub sphere : dh.sphere ≡ ch.sphere
   pub start : dh.start ≡ ch.start

@@ -1,4 +1,4 @@
--- What a move leaves doesn't hang on whether the sphere is plain or recorded, but for the log.
+-- What a move leaves doesn't depend on whether the sphere is plain or recorded, except for the log.
 use Rattle.std.proofs.Common.{ℕ, Option, Some, None, refl, ap}
 use Rattle.dl_entry.specs.declared.Request.{Request}
 use Rattle.spec_isa.specs.declared.thread.Parts.{Parts}
@@ -22,7 +22,7 @@ step_of most k moment t devices p =
     let v = serve most k p.threads p.progress.request t p.memory g.input in
     granted_as Plain k (serial_effect k v) (console_written t p.memory v.outputs g.devices) p
 
--- a move leaves of a plain sphere what it leaves of a recorded one, but for the log
+-- a move leaves of a plain sphere what it leaves of a recorded one, except for the log
 pub plain_moves : PlainMovesAsRecorded
 unfolding chunk_moved serial_moved dma_moved raised
 plain_moves p recording =

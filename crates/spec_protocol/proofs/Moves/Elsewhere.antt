@@ -7,7 +7,7 @@ use Rattle.spec_protocol.specs.machine.Spheres.{Sphere}
 use Rattle.spec_protocol.specs.machine.Commits.{MovedSphere, dma_moved}
 use Rattle.spec_protocol.specs.machine.World.{Numbers, MoveKind, OfChunk, OfSerial, OfDma, OfRaise, Move}
 use Rattle.spec_protocol.specs.machine.Serial.{SerialState, do_serial, do_dma, do_raise}
-use Rattle.spec_protocol.specs.machine.Moves.{move_chunk, do_what, do_at}
+use Rattle.spec_protocol.specs.machine.Moves.{move_chunk, do_by_kind, do_at}
 use Rattle.spec_protocol.proofs.Moves.Granted.{get-set_other}
 
 chunk_away : (z : Numbers) (x : SerialState) (i j k : ℕ) (how : How) (n limit : ℕ) (p : Sphere) (o : Option Parts) → j ≢ i → slice_get (move_chunk z x i k how n limit p o).spheres j ≡ slice_get x.spheres j
@@ -29,7 +29,7 @@ pub raise-away : (x : SerialState) (i j k value : ℕ) (p : Sphere) (o : Option 
 raise-away x i j k value p None ne = refl
 raise-away x i j k value p (Some t) ne = get-set_other x.spheres i j _ ne
 
-what_away : (z : Numbers) (x : SerialState) (moment i j : ℕ) (p : Sphere) (what : MoveKind) → j ≢ i → slice_get (do_what z x moment i p what).spheres j ≡ slice_get x.spheres j
+what_away : (z : Numbers) (x : SerialState) (moment i j : ℕ) (p : Sphere) (what : MoveKind) → j ≢ i → slice_get (do_by_kind z x moment i p what).spheres j ≡ slice_get x.spheres j
 what_away z x moment i j p (OfChunk k how n limit) ne = chunk_away z x i j k how n limit p (slice_get p.threads k) ne
 what_away z x moment i j p (OfSerial k) ne = serial-away x i j k moment p (slice_get p.threads k) ne
 what_away z x moment i j p OfDma ne = dma-away x i j (dma_moved x.devices p) ne

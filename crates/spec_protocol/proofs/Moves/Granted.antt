@@ -52,7 +52,7 @@ get-set_same [] k x y e = absurd (none-some y e)
 get-set_same (z ∷ zs) zero x y e = refl
 get-set_same (z ∷ zs) (suc k) x y e = get-set_same zs k x y e
 
--- what is found in a list is found with others behind it
+-- what is found in a list is found with others after it
 pub get-append : {A : Type 0} (xs ys : List A) (j : ℕ) (x : A) → slice_get xs j ≡ Some x → slice_get (xs ++ ys) j ≡ Some x
 get-append [] ys j x e = absurd (none-some x e)
 get-append (y ∷ xs) ys zero x e = e
@@ -335,7 +335,7 @@ serial-lives k moment t devices p live = serial_in_lives p.role k moment t devic
 -- ---- what a whole commit of a chunk leaves for the thread's next chunk
 
 -- it stores the run's words and counts its thread, which may have taken an interrupt; the next commit has the limit that it
--- had behind this one
+-- had after this one
 pub record Leaves (k : ℕ) (p : Sphere) (r : Run) (v : MovedSphere) : Type 0 where
   pub words : v.words ≡ r.words
   pub thread : (t : Parts) → slice_get v.sphere.threads k ≡ Some t → (t ≡ counted r.thread) ⊎ ((t.mask ≡ true) × ((counted r.thread).mask ≡ false))

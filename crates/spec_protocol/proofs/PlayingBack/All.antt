@@ -28,7 +28,7 @@ use Rattle.spec_protocol.specs.machine.World.{Numbers, MoveKind, OfChunk, OfSeri
 use Rattle.spec_protocol.specs.machine.Asking.{is_short}
 use Rattle.spec_protocol.specs.machine.Machine.{first_threads, all_of, last_played, first_played, RoleSetup, new_recording, SphereSetup, live_sphere, sphere_as, moves, world_of}
 use Rattle.spec_protocol.specs.machine.Serial.{SerialState, serial_start, laid, do_moved, do_serial, do_dma, do_raise}
-use Rattle.spec_protocol.specs.machine.Moves.{move_chunk, do_what, do_at, do_move, do_moves, FitsChunk, FitsSerial, FitsRaise, FitsWhat, FitsAt, Fits, FitAll}
+use Rattle.spec_protocol.specs.machine.Moves.{move_chunk, do_by_kind, do_at, do_move, do_moves, FitsChunk, FitsSerial, FitsRaise, FitsWhat, FitsAt, Fits, FitAll}
 use Rattle.spec_protocol.specs.promises.PlayingBack.{PlaysBack, LogsPlayBack}
 use Rattle.spec_protocol.proofs.Moves.Granted.{get-set_same}
 use Rattle.spec_protocol.proofs.Moves.Elsewhere.{at-away}
@@ -96,7 +96,7 @@ raise_comes x i p recording k value (Some t) is role thread fits =
       grown = raise-grown recording p k value t role thread fits.takes;
     }
 
-what_comes : (z : Numbers) (x : SerialState) (moment i : ℕ) (p : Sphere) (recording : Recording) (what : MoveKind) → 0 < z.capacity → recording.log.s ≡ z.s → slice_get x.spheres i ≡ Some p → p.role ≡ Record recording → FitsWhat z x.devices p what → Comes (do_what z x moment i p what) i p recording.log
+what_comes : (z : Numbers) (x : SerialState) (moment i : ℕ) (p : Sphere) (recording : Recording) (what : MoveKind) → 0 < z.capacity → recording.log.s ≡ z.s → slice_get x.spheres i ≡ Some p → p.role ≡ Record recording → FitsWhat z x.devices p what → Comes (do_by_kind z x moment i p what) i p recording.log
 what_comes z x moment i p recording (OfChunk k how n limit) buffer s is role fits = chunk_comes z x i p recording k how n limit (slice_get p.threads k) buffer s is role refl fits
 what_comes z x moment i p recording (OfSerial k) buffer s is role fits = serial_comes x i moment p recording k (slice_get p.threads k) is role refl fits
 what_comes z x moment i p recording OfDma buffer s is role fits = dma_comes x i p recording p.progress.request is role refl fits.moves
@@ -111,7 +111,7 @@ move_comes z x m i p recording buffer s is role fits =
       | inl e ↦ (
           let there : slice_get x.spheres m.sphere ≡ Some p = ap (slice_get x.spheres) (sym e) ∙ is in
           subst (λ (o : Option Sphere). Comes (do_at z x m o) i p recording.log) (sym there)
-          (subst (λ (n : ℕ). Comes (do_what z x m.moment m.sphere p m.what) n p recording.log) (sym e)
+          (subst (λ (n : ℕ). Comes (do_by_kind z x m.moment m.sphere p m.what) n p recording.log) (sym e)
           (what_comes z x m.moment m.sphere p recording m.what buffer s there role (subst (FitsAt z x.devices m) there fits)))
           )
       | inr ne ↦ record { sphere = p; recording = recording; there = at-away z x m i (slice_get x.spheres m.sphere) ne ∙ is; role = role; grown = grown_refl p recording.log }

@@ -12,7 +12,7 @@ use Rattle.spec_play.specs.Effects.{Effect}
 use Rattle.spec_play.specs.Progress.{Progress, with_effect, position}
 use Rattle.spec_play.specs.declared.used.Used.{Used}
 use Rattle.spec_play.specs.Verdicts.{Goes, interrupt_at, with_interrupted}
-use Rattle.spec_play.specs.Plays.{Played, settled, play_thread, play_now, play_one}
+use Rattle.spec_play.specs.Plays.{Played, settled, play_thread, play_turn, play_one}
 use Rattle.spec_protocol.specs.machine.Spheres.{Sphere}
 use Rattle.spec_protocol.proofs.Moves.Granted.{get-set_other, get-set_same, get-append}
 use Rattle.spec_protocol.proofs.Logs.Growing.{Stands, Ahead, ThreadCommit, HasCommitted, has_committed-parts, get_cases, new_is, grows_of, set_none, SizesAhead, Behind}
@@ -204,7 +204,7 @@ module _ (L : LogParts) (c : ThreadCommit) (p q : Sphere) (log qlog : LogParts) 
         now = refl;
       }
 
-  -- the play that follows up to a commit of a thread follows behind it
+  -- the play that follows up to a commit of a thread follows after it
   pub commit-follows : (y : Played) (e : Effect) → Ahead L p log → Follows L p log y → Effects L c p q qlog y e
       → Follows L q qlog (play_one L y)
   unfolding play_one
@@ -218,5 +218,5 @@ module _ (L : LogParts) (c : ThreadCommit) (p q : Sphere) (log qlog : LogParts) 
       ap (λ (x : Option ℕ). with_interrupted x e used1) oes ∙ goes_so oe e used1 (λ v is. ap takes_interrupt es.thread ∙ s.takes v is)
       in
       subst (Follows L q qlog)
-      (sym (ap (play_now L y) h.0 ∙ ap (play_thread L y c.thread) h.1 ∙ ap (settled L y c.thread) es.verdict ∙ ap (settled L y c.thread) goes))
+      (sym (ap (play_turn L y) h.0 ∙ ap (play_thread L y c.thread) h.1 ∙ ap (settled L y c.thread) es.verdict ∙ ap (settled L y c.thread) goes))
       (goes_follow y e (early_effect oe e) (early_used oe used1) f es refl refl)

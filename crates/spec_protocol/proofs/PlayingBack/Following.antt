@@ -192,7 +192,7 @@ pub record Effects (L : LogParts) (c : ThreadCommit) (p q : Sphere) (qlog : LogP
   pub turn_ : L.mode ≡ ModeName.Picolog → turn p.progress.last (map is_live p.threads) ≡ Some c.thread
   pub verdict : thread_verdict L y c.thread c.before (next_kind c.before y.memory) ≡ ended L c.thread e (record y.used { inputs = length qlog.inputs })
 
--- a spawned thread has the same number behind as many others
+-- a spawned thread has the same number after as many others
 pub get_past : (ts us spawned : List Parts) (j : ℕ) (x : Parts) → length us ≡ length ts → slice_get ts j ≡ None → slice_get (ts ++ spawned) j ≡ Some x → slice_get (us ++ spawned) j ≡ Some x
 get_past [] [] spawned j x size none e = e
 get_past [] (u ∷ us) spawned j x size none e = absurd (omega arith)

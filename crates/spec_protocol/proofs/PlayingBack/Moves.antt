@@ -46,7 +46,7 @@ use Rattle.spec_play.proofs.Positions.{position-more}
 abbrev pub Reaches : LogParts → Played → Sphere → LogParts → Type 0
 Reaches L y p log = Follows L p log (plays L y (position p.progress))
 
--- q has come of p: its log stands by it, is behind what was ahead, and is reached by the same play
+-- q has come of p: its log stands by it, is past what was ahead, and is reached by the same play
 pub record Grown (p q : Sphere) (log qlog : LogParts) : Type 0 where
   pub stands : Stands p log → Stands q qlog
   pub s : qlog.s ≡ log.s

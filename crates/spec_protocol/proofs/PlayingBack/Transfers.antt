@@ -25,7 +25,7 @@ use Rattle.spec_play.specs.Verdicts.{interrupt_at, serial_why}
 use Rattle.spec_log.specs.Noting.{order_with}
 use Rattle.spec_play.specs.Recording.{noted, dma_noted}
 use Rattle.spec_play.specs.Transfers.{DmaGoes, DmaFails, is_for, transferred, dma_unless, dma_verdict}
-use Rattle.spec_play.specs.Plays.{Played, dma_settled, play_now, play_one}
+use Rattle.spec_play.specs.Plays.{Played, dma_settled, play_turn, play_one}
 use Rattle.spec_protocol.specs.machine.Spheres.{Sphere}
 use Rattle.spec_protocol.proofs.Logs.Inserting.{with_size}
 use Rattle.spec_protocol.proofs.Moves.Granted.{get-set_other, get-set_same}
@@ -109,16 +109,16 @@ dma_says L p q log bytes request y asked most sp ap_ aq f =
     (ap (λ (n : ℕ). serial_why (dma_size L.sizes n)) at_ ∙ dma_size_says log.mode L.sizes log.sizes (position p.progress) (position p.progress) p.threads q.threads sp.sizes aq.sizes)
     (there ∙ ap (λ (n : ℕ). Some (record { position = n; bytes = bytes })) (sym at_))
 
--- the play that follows up to a DMA follows behind it
+-- the play that follows up to a DMA follows after it
 pub transferred-follows : (L : LogParts) (p q : Sphere) (log qlog : LogParts) (bytes : List ℕ) (request : Request) (y : Played) → Transferred p q log qlog bytes → q.memory ≡ lays p.memory (dma_words request bytes) → q.progress ≡ with_dma p.progress → p.progress.request ≡ Some request → length bytes ≤ request.len
     → Stands p log → Ahead L p log → Ahead L q qlog → Follows L p log y → Follows L q qlog (play_one L y)
 unfolding play_one
 transferred-follows L p q log qlog bytes request y d mem progress asked most sp ap_ b f =
     let l : LogParts = dma_log_of p log bytes in
     let aq : Ahead L q l = subst (Ahead L q) d.log_ b in
-    subst (λ (x : LogParts). Follows L q x (play_now L y y.now)) (sym d.log_)
+    subst (λ (x : LogParts). Follows L q x (play_turn L y y.now)) (sym d.log_)
     (subst (Follows L q l)
-    (sym (ap (play_now L y) (dma_now L p q log bytes y sp ap_ aq f) ∙ ap (dma_settled L y) (dma_says L p q log bytes request y asked most sp ap_ aq f)))
+    (sym (ap (play_turn L y) (dma_now L p q log bytes y sp ap_ aq f) ∙ ap (dma_settled L y) (dma_says L p q log bytes request y asked most sp ap_ aq f)))
     (record {
       memory = ap (λ (m : List ℕ). lays m (dma_words request bytes)) f.memory ∙ sym mem;
       size = f.size ∙ sym (ap (λ (ts : List Parts). length ts) d.threads);
@@ -193,7 +193,7 @@ module _ (L : LogParts) (p q : Sphere) (log qlog : LogParts) where
         let c : length qlog.interrupts ≡ suc (length log.interrupts) = ap (λ (m : LogParts). length m.interrupts) d.log_ ∙ length-raised log.interrupts k t.commits value h.0 in
         omega arith
 
-    -- the play that follows up to an interrupt follows behind it, and does nothing
+    -- the play that follows up to an interrupt follows after it, and does nothing
     pub raised-follows : (y : Played) → q.memory ≡ p.memory → Follows L p log y → Follows L q qlog y
     raised-follows y mem f =
         record {

@@ -14,13 +14,13 @@ use Rattle.spec_protocol.specs.machine.Logged.{Supplied, actors_of, sizes_of, is
 use Rattle.spec_protocol.proofs.Logs.Lookups.{count_of}
 use Rattle.spec_protocol.proofs.Logs.Entries.{Are}
 
--- ---- the points so far, and one behind them
+-- ---- the points so far, and one after them
 
 -- the points, without what was supplied to them
 abbrev pub points_so : List Supplied → List Point
 points_so cs = map (λ (c : Supplied). c.point) cs
 
--- one point more stands behind the others
+-- one point more comes after the others
 pub points-more : (cs : List Supplied) (c : Supplied) → points_so (cs ++ c ∷ []) ≡ points_so cs ++ c.point ∷ []
 points-more cs c = map-append (λ (d : Supplied). d.point) cs (c ∷ [])
 
@@ -136,7 +136,7 @@ dmas-append n (c ∷ cs) ds =
 pub unchanged : {X : Type 0} (f g : ℕ → List X) → ((k : ℕ) → g k ≡ f k) → flat_map f threads ≡ flat_map g threads
 unchanged f g same = (λ h. flat_map (λ (k : ℕ). sym (same k) h) threads)
 
--- a list with nothing behind it is the list
+-- a list with nothing after it is the list
 pub nothing_behind : {X : Type 0} (xs ys zs : List X) → ys ≡ xs ++ zs → zs ≡ [] → ys ≡ xs
 nothing_behind {X} xs ys zs e none = e ∙ ap (λ (ws : List X). xs ++ ws) none ∙ append-nil xs
 

@@ -25,7 +25,7 @@ use Rattle.spec_protocol.specs.machine.Machine.{Setup, world_of, with_point, act
 use Rattle.spec_protocol.specs.machine.Serial.{SerialState, serial_start, laid, do_moved, do_chunk, do_serial, do_dma, do_raise, in_live, do_commit, do_interrupt, do_point, do_points, CanChunk, CanSerial, CanTake, InLive, CanCommit, CanInterrupt, CanDo, CanDoAll}
 use Rattle.spec_protocol.specs.machine.Shown.{shown, shown_from, shown_of}
 use Rattle.spec_engine.specs.Flights.{Flight}
-use Rattle.spec_protocol.specs.machine.Moves.{move_chunk, do_what, do_at, do_move, do_if, ChunkFits, FitsChunk, FitsSerial, FitsRaise, FitsWhat, FitsAt, FitsIf}
+use Rattle.spec_protocol.specs.machine.Moves.{move_chunk, do_by_kind, do_at, do_move, do_if, ChunkFits, FitsChunk, FitsSerial, FitsRaise, FitsWhat, FitsAt, FitsIf}
 use Rattle.spec_protocol.specs.promises.Promises.{IsSetup, after, CommitsAreSerial}
 use Rattle.spec_protocol.proofs.Moves.Granted.{get-set_other, get-set_same}
 use Rattle.spec_protocol.proofs.Invariants.Preserved.{point_for, sphere_of_point, IsOf, PointOf, PointIs, shown-get}
@@ -163,7 +163,7 @@ raise_replay : (p : Sphere) (o : Option Parts) → FitsRaise p o → replays p.r
 raise_replay p None fits rep = fits
 raise_replay p (Some t) fits rep = true≢false (sym rep ∙ fits.live)
 
-replay_what : (z : Numbers) (x y : SerialState) (moment i : ℕ) (p : Sphere) (what : MoveKind) → Agrees x y → slice_get x.spheres i ≡ Some p → replays p.role ≡ true → FitsWhat z x.devices p what → Agrees (do_what z x moment i p what) y
+replay_what : (z : Numbers) (x y : SerialState) (moment i : ℕ) (p : Sphere) (what : MoveKind) → Agrees x y → slice_get x.spheres i ≡ Some p → replays p.role ≡ true → FitsWhat z x.devices p what → Agrees (do_by_kind z x moment i p what) y
 replay_what z x y moment i p (OfChunk k how n limit) a xi rep fits = chunk_replay z x y i k how n limit p (slice_get p.threads k) a xi rep
 replay_what z x y moment i p (OfSerial k) a xi rep fits = serial_replay x y i k moment p (slice_get p.threads k) a xi rep
 replay_what z x y moment i p OfDma a xi rep fits = dma_replay x y i p (dma_moved x.devices p) a xi rep refl
@@ -272,28 +272,28 @@ raise_both x y i k value p (Some t) a xi yi live =
     agrees_set x y i p (raised k value t p) x.devices y.devices a xi yi (raised_stays k t.commits value p.role live) a.devices
 
 -- a move's point, of a sphere that both sides have
-live_what : (z : Numbers) (x y : SerialState) (moment i : ℕ) (p : Sphere) (what : MoveKind) → Agrees x y → slice_get x.spheres i ≡ Some p → replays p.role ≡ false → Agrees (do_what z x moment i p what) (do_point y (point_for z moment i what))
+live_what : (z : Numbers) (x y : SerialState) (moment i : ℕ) (p : Sphere) (what : MoveKind) → Agrees x y → slice_get x.spheres i ≡ Some p → replays p.role ≡ false → Agrees (do_by_kind z x moment i p what) (do_point y (point_for z moment i what))
 unfolding do_point
 live_what z x y moment i p (OfChunk k how n limit) a xi live =
     let yi = a.live i p xi live in
     let short = is_short z.s how limit in
-    subst (λ (u : SerialState). Agrees (do_what z x moment i p (OfChunk k how n limit)) u)
+    subst (λ (u : SerialState). Agrees (do_by_kind z x moment i p (OfChunk k how n limit)) u)
     (sym (ap (do_commit y moment i (Actor.Thread k) CommitKind.Chunk n short) yi ∙ in_living p.role y _ live))
     (chunk_both z x y i k how n limit p (slice_get p.threads k) a xi yi live)
 live_what z x y moment i p (OfSerial k) a xi live =
     let yi = a.live i p xi live in
-    subst (λ (u : SerialState). Agrees (do_what z x moment i p (OfSerial k)) u)
+    subst (λ (u : SerialState). Agrees (do_by_kind z x moment i p (OfSerial k)) u)
     (sym (ap (do_commit y moment i (Actor.Thread k) CommitKind.Serial 0 false) yi ∙ in_living p.role y _ live))
     (serial_both x y i k moment p (slice_get p.threads k) a xi yi live)
 live_what z x y moment i p OfDma a xi live =
     let yi = a.live i p xi live in
-    subst (λ (u : SerialState). Agrees (do_what z x moment i p OfDma) u)
+    subst (λ (u : SerialState). Agrees (do_by_kind z x moment i p OfDma) u)
     (sym (ap (do_commit y moment i Actor.Dma CommitKind.Dma 0 false) yi ∙ in_living p.role y _ live))
     (subst (λ (d : Devices). Agrees (do_dma x i (dma_moved x.devices p)) (do_dma y i (dma_moved d p))) a.devices
     (dma_both x y i p (dma_moved x.devices p) a xi yi live refl))
 live_what z x y moment i p (OfRaise k value) a xi live =
     let yi = a.live i p xi live in
-    subst (λ (u : SerialState). Agrees (do_what z x moment i p (OfRaise k value)) u)
+    subst (λ (u : SerialState). Agrees (do_by_kind z x moment i p (OfRaise k value)) u)
     (sym (ap (do_interrupt y i k value) yi ∙ in_living p.role y _ live))
     (raise_both x y i k value p (slice_get p.threads k) a xi yi live)
 
@@ -369,7 +369,7 @@ replay_follows z x y m p (Some pt) a xi rep fits is =
     let c = a.replayed m.sphere p xi rep in
     let r = replay_point y pt c.0 (ap (slice_get y.spheres) is ∙ c.1) c.2 in
     record {
-      agrees = subst (λ (u : SerialState). Agrees u (do_point y pt)) (sym (ap (do_at z x m) xi)) (subst (Agrees (do_what z x m.moment m.sphere p m.what)) (sym r.0) (replay_what z x y m.moment m.sphere p m.what a xi rep fits));
+      agrees = subst (λ (u : SerialState). Agrees u (do_point y pt)) (sym (ap (do_at z x m) xi)) (subst (Agrees (do_by_kind z x m.moment m.sphere p m.what)) (sym r.0) (replay_what z x y m.moment m.sphere p m.what a xi rep fits));
       can = r.1;
     }
 

@@ -14,7 +14,7 @@ use Rattle.spec_protocol.specs.machine.Asking.{is_short}
 use Rattle.spec_protocol.specs.machine.Machine.{happens}
 use Rattle.spec_protocol.specs.machine.Serial.{SerialState, laid}
 use Rattle.spec_protocol.specs.machine.Shown.{shown, shown_of}
-use Rattle.spec_protocol.specs.machine.Moves.{move_chunk, do_what, do_at, do_move, do_if, FitsChunk, FitsWhat, FitsAt, Fits, FitsIf}
+use Rattle.spec_protocol.specs.machine.Moves.{move_chunk, do_by_kind, do_at, do_move, do_if, FitsChunk, FitsWhat, FitsAt, Fits, FitsIf}
 use Rattle.spec_protocol.specs.promises.Promises.{after}
 use Rattle.spec_protocol.specs.promises.Pieces.{CountsNothing, PiecesCountNothing}
 use Rattle.spec_protocol.proofs.Moves.Joining.{MayGo, may_go, turn_in_order}
@@ -59,7 +59,7 @@ move_stays : (z : Numbers) (x : SerialState) (m : Move) (b : Cursor) (k : ℕ) (
 unfolding do_move
 move_stays z x m b k how n limit p there role what piece fits =
     let fit : FitsWhat z x.devices p m.what = subst (FitsAt z x.devices m) there fits in
-    subst (Stays b k m.sphere p) (sym (ap (do_at z x m) there ∙ ap (do_what z x m.moment m.sphere p) what))
+    subst (Stays b k m.sphere p) (sym (ap (do_at z x m) there ∙ ap (do_by_kind z x m.moment m.sphere p) what))
     (chunk_stays z x m.sphere b k how n limit p (slice_get p.threads k) there role piece (subst (FitsWhat z x.devices p) what fit))
 
 -- ---- in the machine

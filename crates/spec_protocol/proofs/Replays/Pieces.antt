@@ -21,7 +21,7 @@ use Rattle.spec_protocol.specs.machine.Placing.{replays}
 use Rattle.spec_protocol.specs.machine.Machine.{RoleSetup, IsPlain, IsRecorded, IsReplayed, SphereSetup, sphere_as, sphere_of, moves, world_of}
 use Rattle.spec_protocol.specs.machine.Serial.{SerialState, serial_start, laid, do_serial, do_dma, do_raise}
 use Rattle.spec_protocol.specs.machine.Shown.{shown, shown_of}
-use Rattle.spec_protocol.specs.machine.Moves.{move_chunk, do_what, do_at, do_move, do_moves, FitsChunk, FitsSerial, FitsRaise, FitsWhat, FitsAt, Fits, FitsIf, FitAll}
+use Rattle.spec_protocol.specs.machine.Moves.{move_chunk, do_by_kind, do_at, do_move, do_moves, FitsChunk, FitsSerial, FitsRaise, FitsWhat, FitsAt, Fits, FitsIf, FitAll}
 use Rattle.spec_protocol.specs.promises.Promises.{after}
 use Rattle.spec_protocol.specs.promises.Pieces.{IsChunkOf, PiecesStayTogether, StoppedSpheresStay}
 use Rattle.spec_protocol.proofs.Moves.Joining.{may_go, joins-whole}
@@ -127,7 +127,7 @@ unfolding raised
 raise_keeps_turn x i k value p None all is = all
 raise_keeps_turn x i k value p (Some t) all is = turn_set x i p (raised k value t p) x.devices all is (raise_turn k t.commits value p.role (all i p is))
 
-what_keeps_turn : (z : Numbers) (x : SerialState) (moment i : ℕ) (p : Sphere) (what : MoveKind) → AllInTurn x → slice_get x.spheres i ≡ Some p → FitsWhat z x.devices p what → AllInTurn (do_what z x moment i p what)
+what_keeps_turn : (z : Numbers) (x : SerialState) (moment i : ℕ) (p : Sphere) (what : MoveKind) → AllInTurn x → slice_get x.spheres i ≡ Some p → FitsWhat z x.devices p what → AllInTurn (do_by_kind z x moment i p what)
 what_keeps_turn z x moment i p (OfChunk k how n limit) all is fits = chunk_keeps_turn z x i k how n limit p (slice_get p.threads k) all is fits
 what_keeps_turn z x moment i p (OfSerial k) all is fits = serial_keeps_turn x i k moment p (slice_get p.threads k) all is
 what_keeps_turn z x moment i p OfDma all is fits = dma_keeps_turn x i p (dma_moved x.devices p) all is (dma_turn x.devices p)

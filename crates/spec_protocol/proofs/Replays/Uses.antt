@@ -59,7 +59,7 @@ rising-of (x ∷ y ∷ ys) adjacent =
 abbrev is_at : (thread commits : ℕ) → Interrupt → Bool
 is_at k c i = eqb i.thread k && eqb i.index c
 
--- none of the moment of x comes behind it
+-- none of the moment of x comes after it
 not-again : (x y : Interrupt) → Before x y → is_at x.thread x.index y ≡ false
 not-again x y (inl l) = both_tests y.thread y.index x.thread x.index (λ e f. omega (arith, l, e))
 not-again x y (inr p) = both_tests y.thread y.index x.thread x.index (λ e f. let l = p.1 in omega (arith, l, f))

@@ -68,7 +68,7 @@ interrupted-goes size log k ts t e u (Some value) at is sound uses =
     (λ _. (interrupted-effect size log.threads value ts t e sound, record { rising = uses.rising; inputs = uses.inputs; dmas = uses.dmas; interrupts = ap suc uses.interrupts ∙ sym d }))
     (λ _. tt)
 
--- a commit with a sound effect goes on soundly past the interrupt that is due behind it
+-- a commit with a sound effect goes on soundly past the interrupt that is due after it
 pub ended-goes : (size : ℕ) (log : LogParts) (k : ℕ) (ts : List Parts) (t : Parts) (e : Effect) (u : Used) → slice_get ts k ≡ Some t → IsSoundEffect size log.threads ts t e → Uses log ts u → IfGoes (SoundlyIn size log k ts t) (ended log k e u)
 ended-goes size log k ts t e u is sound uses = interrupted-goes size log k ts t e u (interrupt_at log.interrupts k e.thread.commits) refl is sound uses
 

@@ -17,7 +17,7 @@ use Rattle.spec_play.specs.Progress.{position, no_progress, nothing_used}
 use Rattle.spec_play.specs.Turns.{TurnOrEnd, Turn, TurnOfDma, Ended}
 use Rattle.spec_play.specs.Verdicts.{LogVerdict, Goes, Fails}
 use Rattle.spec_play.specs.Transfers.{DmaVerdict, DmaGoes, DmaFails, dma_verdict}
-use Rattle.spec_play.specs.Plays.{Played, opened, settled, size_or_standard, thread_verdict, play_thread, dma_settled, play_now, play_one, plays}
+use Rattle.spec_play.specs.Plays.{Played, opened, settled, size_or_standard, thread_verdict, play_thread, dma_settled, play_turn, play_one, plays}
 use Rattle.spec_play.specs.Intervals.{before, without_commits}
 use Rattle.spec_protocol.specs.machine.Spheres.{Cursor, Sphere}
 use Rattle.spec_protocol.specs.machine.Commits.{MovedSphere, between}
@@ -136,7 +136,7 @@ module _ (s : ℕ) (image : SphereSetup) (now : ℕ) (log : LogParts) (y : Playe
   transferred-sound (DmaFails why) turn goes =
       laid-sound s image (suc now) _ (dma-verdict-sound s image now cursor (DmaFails why) none (replaying log y) sound.role turn sound goes sound.few none-bytes)
 
-  now-sound : (turn : TurnOrEnd) → y.now ≡ turn → IsSoundSphere s image (suc now) (replaying log (play_now log y turn))
+  now-sound : (turn : TurnOrEnd) → y.now ≡ turn → IsSoundSphere s image (suc now) (replaying log (play_turn log y turn))
   now-sound (Ended how) e = later
   now-sound TurnOfDma e =
       transferred-sound (dma_verdict log y.progress y.used) e (dma-goes (length image.memory) log y.progress y.used whole sound.request)

@@ -89,7 +89,7 @@ granted w c q writes v (Diverged i why) =
 
 -- ---- a chunk
 
--- closed by want of room or by Cut, or by a limit below the standard size
+-- closed for lack of room or by Cut, or by a limit below the standard size
 abbrev pub is_short : (s : ℕ) → How → (limit : ℕ) → Bool
 is_short s How.Limit limit = nat_lt limit s
 is_short s How.Serial limit = false

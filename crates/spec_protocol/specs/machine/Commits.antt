@@ -108,7 +108,7 @@ by_verdict b k (Goes e u) devices p =
 
 -- ---- chunks
 
--- a replayed chunk that was closed by want of room or by Cut is a piece of a commit
+-- a replayed chunk that was closed for lack of room or by Cut is a piece of a commit
 abbrev pub is_piece : How → Bool
 is_piece How.Limit = false
 is_piece How.Serial = false

@@ -37,19 +37,19 @@ pub record SphereTurn : Type 0 where
   pub sphere : ℕ
   pub actor : Actor
 
-abbrev pub who_in : (i : ℕ) → Option Actor → Option SphereTurn → Option SphereTurn
-who_in i None others = others
-who_in i (Some actor) others = Some (record { sphere = i; actor = actor })
+abbrev pub named_turn : (i : ℕ) → Option Actor → Option SphereTurn → Option SphereTurn
+named_turn i None others = others
+named_turn i (Some actor) others = Some (record { sphere = i; actor = actor })
 
-abbrev pub who_of : (i : ℕ) → Role → Option SphereTurn → Option SphereTurn
-who_of i Plain others = others
-who_of i (Record recording) others = others
-who_of i (Replay b) others = who_in i (actor_of b.now) others
+abbrev pub turn_of_role : (i : ℕ) → Role → Option SphereTurn → Option SphereTurn
+turn_of_role i Plain others = others
+turn_of_role i (Record recording) others = others
+turn_of_role i (Replay b) others = named_turn i (actor_of b.now) others
 
 -- of the spheres from i on the least replay that has not stopped
 abbrev pub least : (i : ℕ) → List Sphere → Option SphereTurn
 least i [] = None
-least i (p ∷ ps) = who_of i p.role (least (suc i) ps)
+least i (p ∷ ps) = turn_of_role i p.role (least (suc i) ps)
 
 abbrev pub for_held : (core : ℕ) → Option Occupant → Option Event
 for_held c None = None
@@ -64,9 +64,9 @@ abbrev pub for_actor : World → (i : ℕ) → Actor → Option Event
 for_actor w i Actor.Dma = Some (Event.Dma i)
 for_actor w i (Actor.Thread k) = for_core w i k (core_of w i k)
 
-abbrev pub for_who : World → Option SphereTurn → Option Event
-for_who w None = None
-for_who w (Some who) = for_actor w who.sphere who.actor
+abbrev pub for_turn : World → Option SphereTurn → Option Event
+for_turn w None = None
+for_turn w (Some who) = for_actor w who.sphere who.actor
 
 -- ---- the next event
 
@@ -75,14 +75,14 @@ for_slot w k None = None
 for_slot w k (Some f) = Some (for_flight (length w.cores) k f f.words)
 
 abbrev pub for_standing : World → Option ℕ → Option Event
-for_standing w None = for_who w (least 0 w.spheres)
+for_standing w None = for_turn w (least 0 w.spheres)
 for_standing w (Some k) = for_slot w k (at w.slots k)
 
 -- none where no flight stands and every replay has stopped
 unfoldable pub next : World → Option Event
 next w = for_standing w (standing w)
 
--- these events finish the world: each is the next one, and none is left behind the last. At most one list does
+-- these events finish the world: each is the next one, and none is left after the last. At most one list does
 abbrev pub Finishes : World → List Event → Type 0
 Finishes w [] = next w ≡ None
 Finishes w (e ∷ es) = (next w ≡ Some e) × Finishes (happens w e).world es

@@ -23,15 +23,15 @@ move_chunk z x i k how n limit p None = x
 move_chunk z x i k how n limit p (Some t) =
     do_moved x i (chunk_moved k (is_piece how) (is_short z.s how limit) (run p.memory t n) x.devices p)
 
-abbrev pub do_what : Numbers → SerialState → (moment i : ℕ) → Sphere → MoveKind → SerialState
-do_what z x moment i p (OfChunk k how n limit) = move_chunk z x i k how n limit p (slice_get p.threads k)
-do_what z x moment i p (OfSerial k) = do_serial x i k moment p (slice_get p.threads k)
-do_what z x moment i p OfDma = do_dma x i (dma_moved x.devices p)
-do_what z x moment i p (OfRaise k value) = do_raise x i k value p (slice_get p.threads k)
+abbrev pub do_by_kind : Numbers → SerialState → (moment i : ℕ) → Sphere → MoveKind → SerialState
+do_by_kind z x moment i p (OfChunk k how n limit) = move_chunk z x i k how n limit p (slice_get p.threads k)
+do_by_kind z x moment i p (OfSerial k) = do_serial x i k moment p (slice_get p.threads k)
+do_by_kind z x moment i p OfDma = do_dma x i (dma_moved x.devices p)
+do_by_kind z x moment i p (OfRaise k value) = do_raise x i k value p (slice_get p.threads k)
 
 abbrev pub do_at : Numbers → SerialState → Move → Option Sphere → SerialState
 do_at z x m None = x
-do_at z x m (Some p) = do_what z x m.moment m.sphere p m.what
+do_at z x m (Some p) = do_by_kind z x m.moment m.sphere p m.what
 
 unfoldable pub do_move : Numbers → SerialState → Move → SerialState
 do_move z x m = do_at z x m (slice_get x.spheres m.sphere)

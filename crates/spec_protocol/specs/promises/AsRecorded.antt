@@ -1,4 +1,4 @@
--- A plain sphere moves as a recorded one but for its log: recording leaves no other mark.
+-- A plain sphere moves as a recorded one except for its log: recording leaves no other mark.
 use Rattle.std.specs.Prelude.{◌≡◌, ℕ, Bool, Option, Some, None}
 use Rattle.spec_isa.specs.declared.thread.Parts.{Parts}
 use Rattle.spec_isa.specs.Runs.{Run}
@@ -9,7 +9,7 @@ use Rattle.spec_protocol.specs.machine.Commits.{MovedSphere, chunk_moved, serial
 abbrev pub in_role : Role → Sphere → Sphere
 in_role role p = record p { role = role }
 
--- the two spheres are one but for their roles
+-- the two spheres are one except for their roles
 abbrev pub AreAlike : Sphere → Sphere → Type 0
 AreAlike p q = in_role Plain p ≡ in_role Plain q
 
@@ -25,7 +25,7 @@ MoveAlikeIf None None = Unit {0}
 MoveAlikeIf (Some v) (Some u) = MoveAlike v u
 MoveAlikeIf _ _ = ⊥
 
--- a chunk, a DMA and an interrupt leave in p what they leave in q, but for the roles; and so does a serial step, if both may
+-- a chunk, a DMA and an interrupt leave in p what they leave in q, except for the roles; and so does a serial step, if both may
 -- have as many threads
 pub record MovesAlike (p q : Sphere) : Type 0 where
   pub chunk : (k : ℕ) (piece short : Bool) (r : Run) (devices : Devices)

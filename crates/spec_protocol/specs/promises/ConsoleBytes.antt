@@ -23,7 +23,7 @@ abbrev pub place_of : Point → ℕ
 place_of (Point.Commit moment i actor kind size short) = i
 place_of (Point.Raise moment i k value) = i
 
--- the commits of sphere i in y behind those in x
+-- the commits of sphere i in y after those in x
 abbrev pub new_commits : (i : ℕ) → (x y : SerialState) → List Commit
 new_commits i x y = drop (length (sphere_in x i).progress.commits) (sphere_in y i).progress.commits
 

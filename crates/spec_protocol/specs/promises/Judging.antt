@@ -43,7 +43,7 @@ why_not log k t n =
     option_or (chunk_why (size_in log (Actor.Thread k) t.commits) n)
     (interrupt_why (interrupt_at log.interrupts k (t.commits + 1)) t)
 
--- whether a chunk goes as logged hangs on its thread's end and its number of instructions alone
+-- whether a chunk goes as logged depends on its thread's end and its number of instructions alone
 abbrev pub ChunksAreJudged : Type 0
 ChunksAreJudged =
     (log : LogParts) (p : Progress) (u : Used) (k : ℕ) (r : Run)

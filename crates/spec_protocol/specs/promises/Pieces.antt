@@ -52,7 +52,7 @@ pub record CountsNothing (b : Cursor) (k : ℕ) (p q : Sphere) : Type 0 where
   pub same : b.strata ≡ None → cursor.now ≡ b.now
   pub progress : q.progress ≡ p.progress
 
--- so it is after a chunk of a replay that was closed by want of room or by Cut
+-- so it is after a chunk of a replay that was closed for lack of room or by Cut
 abbrev pub PiecesCountNothing : Type 0
 PiecesCountNothing =
     (s : Setup) (es : List Event) (i : ℕ) (b : Cursor) → IsSetup s

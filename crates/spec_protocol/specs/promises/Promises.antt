@@ -1,4 +1,4 @@
--- What is promised of these definitions, for every setup within its limits and every list of events.
+-- What is promised of these definitions, for every setup and every list of events.
 use Rattle.std.specs.Prelude.{◌≡◌, ℕ, ◌<◌, false, List, length, slice_get, Some}
 use Rattle.spec_protocol.specs.declared.event.Event.{Event}
 use Rattle.spec_protocol.specs.machine.Spheres.{Sphere}

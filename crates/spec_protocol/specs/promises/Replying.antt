@@ -61,7 +61,7 @@ IsAt now None = Unit {0}
 IsAt now (Some (Point.Commit moment i actor kind size short)) = moment ≡ now
 IsAt now (Some (Point.Raise moment i k value)) = moment ≡ now
 
--- an event makes a point exactly where it answers so, of its own moment; the point is kept behind the earlier ones, and
+-- an event makes a point exactly where it answers so, of its own moment; the point is kept after the earlier ones, and
 -- the event is counted with its reply
 pub record MakesPoint (w : World) (e : Event) : Type 0 where
   pub exactly : is_some (happens w e).point ≡ makes_point (happens w e).reply

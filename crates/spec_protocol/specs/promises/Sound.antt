@@ -29,7 +29,8 @@ use Rattle.spec_engine.specs.Chunks.{Chunk}
 use Rattle.spec_protocol.specs.declared.event.Event.{Event}
 use Rattle.spec_protocol.specs.machine.Spheres.{Cursor, Role, Plain, Record, Replay, Sphere, is_over, actor_of, whole_limit, most_in}
 use Rattle.spec_protocol.specs.machine.World.{Occupant, World, moment, sphere_at}
-use Rattle.spec_protocol.specs.machine.Machine.{EpochSetup, RecordSetup, ReplaySetup, in_strata, RoleSetup, IsPlain, IsRecorded, IsReplayed, SphereSetup, Setup, happens}
+use Rattle.spec_protocol.specs.machine.Machine.{EpochSetup, RecordSetup, ReplaySetup, in_strata, RoleSetup, IsPlain, IsRecorded}
+use Rattle.spec_protocol.specs.machine.Machine.{IsReplayed, SphereSetup, Setup, happens}
 use Rattle.spec_protocol.specs.promises.Promises.{AreSizesKept, after}
 use Rattle.spec_protocol.specs.promises.Invariants.{IsGood}
 

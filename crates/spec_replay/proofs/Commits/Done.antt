@@ -19,7 +19,7 @@ use Rattle.spec_play.specs.Intervals.{now_in}
 use Rattle.spec_play.proofs.Going.{turn-lives}
 use Rattle.spec_play.specs.Verdicts.{LogVerdict, Goes, Fails}
 use Rattle.spec_play.specs.Transfers.{DmaVerdict, DmaGoes, DmaFails, dma_verdict}
-use Rattle.spec_play.specs.Plays.{Played, with_threads, settled, thread_verdict, play_thread, dma_settled, play_now, play_one, plays}
+use Rattle.spec_play.specs.Plays.{Played, with_threads, settled, thread_verdict, play_thread, dma_settled, play_turn, play_one, plays}
 use Rattle.spec_strata.specs.Standing.{Standing, after_thread, after_dma}
 use Rattle.spec_protocol.specs.machine.Spheres.{Cursor, Role, Plain, Record, Replay, Sphere}
 use Rattle.spec_protocol.specs.machine.Commits.{with_commit, now_by, turned, diverged, by_verdict, dma_by_verdict}
@@ -168,7 +168,7 @@ module _ (asked : ReplaySetup) (start y : Played) (p : Sphere) (b : Cursor) (k :
   play_judged : (w : LogVerdict) → thread_verdict asked.log y k t (next_kind t y.memory) ≡ w → play_one asked.log y ≡ settled asked.log y k w
   unfolding play_one
   play_judged w is =
-      ap (play_now asked.log y) (turn-in asked.interval asked.log.count (position y.progress) y.now (Turn k) refl h.turn)
+      ap (play_turn asked.log y) (turn-in asked.interval asked.log.count (position y.progress) y.now (Turn k) refl h.turn)
       ∙ ap (play_thread asked.log y k) h.moved.is
       ∙ ap (settled asked.log y k) is
 
@@ -207,7 +207,7 @@ dma_follows asked y p b ws devices s w =
 
 play_dma : (log : LogParts) (y : Played) (v : DmaVerdict) → y.now ≡ TurnOfDma → dma_verdict log y.progress y.used ≡ v → play_one log y ≡ dma_settled log y v
 unfolding play_one
-play_dma log y v turn is = ap (play_now log y) turn ∙ ap (dma_settled log y) is
+play_dma log y v turn is = ap (play_turn log y) turn ∙ ap (dma_settled log y) is
 
 dma_goes_on : (how : End) → TurnOfDma ≡ Ended how → ⊥
 dma_goes_on how e = cc

@@ -23,7 +23,7 @@ use Rattle.spec_play.specs.declared.used.Used.{Used}
 use Rattle.spec_play.specs.Turns.{TurnOrEnd, Turn, TurnOfDma, Ended}
 use Rattle.spec_play.specs.Verdicts.{LogVerdict, Goes, Fails, unless, interrupt_at, with_interrupted, chunk_why, chunk_verdict, serial_why, TakenRecord, given, served_verdict, serial_verdict}
 use Rattle.spec_play.specs.Transfers.{DmaVerdict, DmaGoes, DmaFails, is_for, transferred, dma_unless, dma_verdict}
-use Rattle.spec_play.specs.Plays.{Played, settled, size_or_standard, thread_verdict, play_thread, dma_settled, play_now, play_one}
+use Rattle.spec_play.specs.Plays.{Played, settled, size_or_standard, thread_verdict, play_thread, dma_settled, play_turn, play_one}
 use Rattle.spec_replay.specs.Promises.{is_between}
 use Rattle.spec_replay.proofs.Commits.Done.{ended_by, one_more}
 
@@ -134,7 +134,7 @@ within_dma log y (DmaFails other) why f same between =
     let h : other ≡ why = same_why (position y.progress) (position y.progress) other why (ap (λ (x : Played). x.now) same) in
     absurd (true≢false (sym between ∙ ap is_between (sym h) ∙ f))
 
-within_now : (log : LogParts) (y : Played) (now : TurnOrEnd) (why : Why) → play_now log y now ≡ ended_by y why → is_between why ≡ true → EndedBefore y why
+within_now : (log : LogParts) (y : Played) (now : TurnOrEnd) (why : Why) → play_turn log y now ≡ ended_by y why → is_between why ≡ true → EndedBefore y why
 within_now log y (Ended how) why same between = ap (λ (x : Played). x.now) same
 within_now log y (Turn k) why same between = within_thread log y k (slice_get y.threads k) why same between
 within_now log y TurnOfDma why same between = within_dma log y (dma_verdict log y.progress y.used) why (dma_within log y.progress y.used) same between

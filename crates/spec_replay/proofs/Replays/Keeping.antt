@@ -8,7 +8,7 @@ use Rattle.spec_protocol.specs.machine.World.{Numbers, MoveKind, Move}
 use Rattle.spec_protocol.specs.machine.Machine.{SphereSetup, Setup, sphere_of, moves, world_of}
 use Rattle.spec_protocol.specs.machine.Serial.{SerialState, serial_start}
 use Rattle.spec_protocol.specs.machine.Shown.{shown_of}
-use Rattle.spec_protocol.specs.machine.Moves.{do_what, do_at, do_move, do_moves, FitsWhat, FitsAt, Fits, FitAll}
+use Rattle.spec_protocol.specs.machine.Moves.{do_by_kind, do_at, do_move, do_moves, FitsWhat, FitsAt, Fits, FitAll}
 use Rattle.spec_protocol.specs.promises.Promises.{IsSetup, after}
 use Rattle.spec_protocol.proofs.Moves.Elsewhere.{at-away}
 use Rattle.spec_protocol.proofs.Invariants.Schedules.{start-sphere, moves_are}
@@ -23,7 +23,7 @@ pub record Stands (P : Sphere → Type 0) (x : SerialState) (i : ℕ) : Type 0 w
 abbrev pub Keeps : (Sphere → Type 0) → Numbers → Type 0
 Keeps P z =
     (x : SerialState) (i : ℕ) (p : Sphere) → slice_get x.spheres i ≡ Some p → P p
-    → (moment : ℕ) (what : MoveKind) → FitsWhat z x.devices p what → Stands P (do_what z x moment i p what) i
+    → (moment : ℕ) (what : MoveKind) → FitsWhat z x.devices p what → Stands P (do_by_kind z x moment i p what) i
 
 module _ (P : Sphere → Type 0) (z : Numbers) (keeps : Keeps P z) where
   move_stands : (x : SerialState) (m : Move) (i : ℕ) → Stands P x i → Fits z x m → Stands P (do_move z x m) i
@@ -33,7 +33,7 @@ module _ (P : Sphere → Type 0) (z : Numbers) (keeps : Keeps P z) where
         | inl e ↦ (
             let there : slice_get x.spheres m.sphere ≡ Some a.sphere = ap (slice_get x.spheres) (sym e) ∙ a.there in
             subst (λ (o : Option Sphere). Stands P (do_at z x m o) i) (sym there)
-            (subst (λ (n : ℕ). Stands P (do_what z x m.moment m.sphere a.sphere m.what) n) (sym e)
+            (subst (λ (n : ℕ). Stands P (do_by_kind z x m.moment m.sphere a.sphere m.what) n) (sym e)
             (keeps x m.sphere a.sphere there a.is m.moment m.what (subst (FitsAt z x.devices m) there fits)))
             )
         | inr ne ↦ record { sphere = a.sphere; there = at-away z x m i (slice_get x.spheres m.sphere) ne ∙ a.there; is = a.is }

@@ -20,7 +20,7 @@ use Rattle.spec_protocol.specs.machine.World.{Numbers, MoveKind, OfChunk, OfSeri
 use Rattle.spec_protocol.specs.machine.Asking.{is_short}
 use Rattle.spec_protocol.specs.machine.Machine.{ReplaySetup}
 use Rattle.spec_protocol.specs.machine.Serial.{SerialState, laid, do_moved, do_serial, do_dma}
-use Rattle.spec_protocol.specs.machine.Moves.{move_chunk, do_what, FitsChunk, SerialFits, FitsSerial, DmaFits, FitsWhat}
+use Rattle.spec_protocol.specs.machine.Moves.{move_chunk, do_by_kind, FitsChunk, SerialFits, FitsSerial, DmaFits, FitsWhat}
 use Rattle.spec_protocol.proofs.Moves.Granted.{get-set_same}
 use Rattle.spec_protocol.proofs.Moves.Joining.{MayGo, may_go, turn_in_order}
 use Rattle.spec_protocol.proofs.Moves.Transfers.{dma-turn_is}
@@ -177,7 +177,7 @@ module _ (asked : ReplaySetup) (start : Played) (x : SerialState) (i : ℕ) (p :
       (λ j. dma_verdict (sym g.beside.same_log j) (sym g.beside.progress j) (sym g.beside.used j))))
 
   -- a move of a replayed sphere leaves it in its log's play
-  pub what-stands : (z : Numbers) (moment : ℕ) (what : MoveKind) → FitsWhat z x.devices p what → Stands (Reaches asked start) (do_what z x moment i p what) i
+  pub what-stands : (z : Numbers) (moment : ℕ) (what : MoveKind) → FitsWhat z x.devices p what → Stands (Reaches asked start) (do_by_kind z x moment i p what) i
   what-stands z moment (OfChunk k how n limit) fits = chunk_stands z k how n limit (slice_get p.threads k) refl fits
   what-stands z moment (OfSerial k) fits = serial_stands moment k (slice_get p.threads k) refl fits
   what-stands z moment OfDma fits = dma_stands fits

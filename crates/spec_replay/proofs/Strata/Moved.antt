@@ -25,7 +25,7 @@ use Rattle.spec_protocol.specs.machine.World.{Numbers, MoveKind, OfChunk, OfSeri
 use Rattle.spec_protocol.specs.machine.Asking.{is_short}
 use Rattle.spec_protocol.specs.machine.Machine.{SphereSetup}
 use Rattle.spec_protocol.specs.machine.Serial.{SerialState, laid, do_moved, do_serial, do_dma}
-use Rattle.spec_protocol.specs.machine.Moves.{move_chunk, do_what, FitsChunk, ChunkFits, FitsSerial, DmaFits, FitsWhat}
+use Rattle.spec_protocol.specs.machine.Moves.{move_chunk, do_by_kind, FitsChunk, ChunkFits, FitsSerial, DmaFits, FitsWhat}
 use Rattle.spec_protocol.proofs.Moves.Granted.{get-set_same}
 use Rattle.spec_protocol.proofs.Moves.Joining.{MayGo}
 use Rattle.spec_protocol.proofs.PlayingBack.Verdicts.{run-first}
@@ -178,7 +178,7 @@ module _ (v : StrataParts) (image : SphereSetup) (s : 0 < v.s) where
         (moved_stands (dma_by_verdict b (dma_verdict b.log p.progress b.used) x.devices p)
         (dma-of y.strata y.done y.before p b r.comes r.is g.0 g.1.0 g.1.1 x.devices))
 
-    what-stands : (z : Numbers) (moment : ℕ) (what : MoveKind) → 0 < z.capacity → FitsWhat z x.devices p what → Stands (ComesTo v image) (do_what z x moment i p what) i
+    what-stands : (z : Numbers) (moment : ℕ) (what : MoveKind) → 0 < z.capacity → FitsWhat z x.devices p what → Stands (ComesTo v image) (do_by_kind z x moment i p what) i
     what-stands z moment (OfChunk k how n limit) some fits = chunk_stands z k how n limit (slice_get p.threads k) some refl fits
     what-stands z moment (OfSerial k) some fits = serial_stands moment k (slice_get p.threads k) refl fits
     what-stands z moment OfDma some fits = dma_stands fits

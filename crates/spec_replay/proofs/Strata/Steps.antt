@@ -13,7 +13,7 @@ use Rattle.spec_play.specs.Progress.{Progress, with_effect, with_dma, with_dma_u
 use Rattle.spec_play.specs.Turns.{TurnOfDma}
 use Rattle.spec_play.specs.Verdicts.{LogVerdict, Goes, serial_verdict}
 use Rattle.spec_play.specs.Transfers.{DmaVerdict, DmaGoes, dma_verdict}
-use Rattle.spec_play.specs.Plays.{Played, settled, dma_settled, play_thread, play_now, play_one, plays, with_threads}
+use Rattle.spec_play.specs.Plays.{Played, settled, dma_settled, play_thread, play_turn, play_one, plays, with_threads}
 use Rattle.spec_strata.specs.declared.stratum.Stratum.{Stratum}
 use Rattle.spec_strata.specs.declared.stratum.Stratum.TheVariants.{Serial, Dma}
 use Rattle.spec_strata.specs.declared.strata.StrataParts.{StrataParts}
@@ -108,7 +108,7 @@ module _ (v : StrataParts) (image : SphereSetup) (k : ℕ) (xs : List Stratum) (
 
 one-dma : (log : LogParts) (y : Played) (ws : List Stored) → y.now ≡ TurnOfDma → dma_verdict log y.progress y.used ≡ DmaGoes ws → play_one log y ≡ dma_settled log y (DmaGoes ws)
 unfolding play_one
-one-dma log y ws turn goes = ap (play_now log y) turn ∙ ap (dma_settled log y) goes
+one-dma log y ws turn goes = ap (play_turn log y) turn ∙ ap (dma_settled log y) goes
 
 module _ (v : StrataParts) (image : SphereSetup) (xs : List Stratum) (ds : List ℕ) (n : ℕ) (c : Comes v image (record { strata = Dma ∷ xs; done = ds; before = n })) (p : Sphere) (b : Cursor) where
   pub transfer-comes : (devices : Devices) → IsThere (canonical v) (in_stratum (canonical v) (plays (canonical v) (opened_by v image) n) (count_at ds)) (record { strata = Dma ∷ xs; done = ds; before = n }) p b → IsWhole (in_stratum (canonical v) (plays (canonical v) (opened_by v image) n) (count_at ds)) p b

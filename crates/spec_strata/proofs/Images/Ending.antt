@@ -15,7 +15,7 @@ use Rattle.spec_play.specs.Progress.{Progress, position}
 use Rattle.spec_play.specs.Turns.{TurnOrEnd, Turn, TurnOfDma, Ended, has_left_over, at_end, turn_of_thread, turn_of, next_actor, now_at}
 use Rattle.spec_play.specs.Verdicts.{LogVerdict, Goes, Fails}
 use Rattle.spec_play.specs.Transfers.{DmaVerdict, DmaGoes, DmaFails, dma_verdict}
-use Rattle.spec_play.specs.Plays.{Played, FitsImage, opened, settled, thread_verdict, play_thread, dma_settled, play_now, play_one, plays, play}
+use Rattle.spec_play.specs.Plays.{Played, FitsImage, opened, settled, thread_verdict, play_thread, dma_settled, play_turn, play_one, plays, play}
 use Rattle.spec_play.specs.Walks.{walked}
 use Rattle.spec_play.proofs.Going.{plays-most, plays-first}
 use Rattle.spec_play.proofs.Walking.{walks_are_plays}
@@ -40,7 +40,7 @@ thread-stands : (log : LogParts) (y : Played) (k : ℕ) (o : Option Parts) → S
 thread-stands log y k None s = s
 thread-stands log y k (Some t) s = settled-stands log y k (thread_verdict log y k t (next_kind t y.memory))
 
-now-stands : (log : LogParts) (y : Played) (now : TurnOrEnd) → Stands log y → Stands log (play_now log y now)
+now-stands : (log : LogParts) (y : Played) (now : TurnOrEnd) → Stands log y → Stands log (play_turn log y now)
 now-stands log y (Ended how) s = s
 now-stands log y TurnOfDma s = dma-stands log y (dma_verdict log y.progress y.used)
 now-stands log y (Turn k) s = thread-stands log y k (slice_get y.threads k) s

@@ -25,7 +25,7 @@ use Rattle.spec_play.specs.declared.used.Used.{Used}
 use Rattle.spec_play.specs.Turns.{TurnOrEnd, Turn, TurnOfDma, Ended, has_left_over, at_end, turn_of_thread, turn_of, next_actor, now_at}
 use Rattle.spec_play.specs.Verdicts.{LogVerdict, Goes, Fails, unless, interrupt_at, with_interrupted, ended, chunk_why, chunk_verdict, serial_why, TakenRecord, given, served_verdict, serial_verdict}
 use Rattle.spec_play.specs.Transfers.{DmaVerdict, DmaGoes, DmaFails, dma_verdict}
-use Rattle.spec_play.specs.Plays.{Played, opened, settled, size_or_standard, thread_verdict, play_thread, dma_settled, play_now, play_one, plays, play, FitsImage}
+use Rattle.spec_play.specs.Plays.{Played, opened, settled, size_or_standard, thread_verdict, play_thread, dma_settled, play_turn, play_one, plays, play, FitsImage}
 use Rattle.spec_play.proofs.Positions.{position-more}
 use Rattle.spec_play.proofs.Going.{plays-stay, Lives, turn-lives}
 use Rattle.spec_strata.specs.InPlay.{IsLooked}
@@ -214,9 +214,9 @@ stays log y n c i why left complete =
     diverged-complete i c why
     (sym left ∙ sym (ap (λ (x : Played). x.now) (sym (ap (plays log y) e) ∙ plays-stay log y 0 n (End.Diverged i why) left)) ∙ complete)
 
-one-is : (log : LogParts) (y : Played) (now : TurnOrEnd) → y.now ≡ now → play_one log y ≡ play_now log y now
+one-is : (log : LogParts) (y : Played) (now : TurnOrEnd) → y.now ≡ now → play_one log y ≡ play_turn log y now
 unfolding play_one
-one-is log y now e = ap (play_now log y) e
+one-is log y now e = ap (play_turn log y) e
 
 -- with one step that goes to z
 stepped : (log : LogParts) (y z : Played) (n : ℕ) (commit : Commit) → play_one log y ≡ z → IsLooked log y → position y.progress < log.count → Does log y y.now commit

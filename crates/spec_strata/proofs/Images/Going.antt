@@ -14,7 +14,7 @@ use Rattle.spec_log.specs.declared.ModeName.{ModeName}
 use Rattle.spec_kernel.specs.Needs.{next_kind}
 use Rattle.spec_play.specs.Progress.{position}
 use Rattle.spec_play.specs.Turns.{TurnOrEnd, Turn, TurnOfDma, Ended}
-use Rattle.spec_play.specs.Plays.{Played, opened, thread_verdict, play_now, play_one, plays, play}
+use Rattle.spec_play.specs.Plays.{Played, opened, thread_verdict, play_turn, play_one, plays, play}
 use Rattle.spec_strata.specs.declared.stratum.Stratum.{Stratum}
 use Rattle.spec_strata.specs.declared.stratum.Stratum.TheVariants.{Chunks, Serial, Dma}
 use Rattle.spec_strata.specs.Strata.{commits_in}
@@ -150,7 +150,7 @@ chunks-go log y (k ∷ ks) (c ∷ cs) actors kinds f as_ kinds_ =
     let actor : c.actor ≡ Actor.Thread k = head-same _ _ (map actor_in cs) (map Actor.Thread ks ++ actors) as_ in
     let kind : c.kind ≡ CommitKind.Chunk = head-same _ _ (map kind_in cs) (replicate (length ks) CommitKind.Chunk ++ kinds) kinds_ in
     let t : TakesTurn log y k c = takes-turn log y y.now k c refl f.0.does actor in
-    let one : play_one log y ≡ play_now log y (Turn k) = one-turn log y k t.turn in
+    let one : play_one log y ≡ play_turn log y (Turn k) = one-turn log y k t.turn in
     let rest = chunks-go log (play_one log y) ks cs actors kinds f.1
     (tail-same c.actor (Actor.Thread k) (map actor_in cs) (map Actor.Thread ks ++ actors) as_)
     (tail-same c.kind CommitKind.Chunk (map kind_in cs) (replicate (length ks) CommitKind.Chunk ++ kinds) kinds_) in (

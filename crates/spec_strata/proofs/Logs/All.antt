@@ -16,7 +16,7 @@ use Rattle.spec_play.specs.declared.used.Used.{Used}
 use Rattle.spec_play.specs.Turns.{TurnOrEnd, Turn, TurnOfDma, Ended}
 use Rattle.spec_play.specs.Verdicts.{LogVerdict, Goes, unless, interrupt_at, with_interrupted, serial_why, TakenRecord, given, served_verdict, serial_verdict}
 use Rattle.spec_play.specs.Transfers.{DmaVerdict, DmaGoes, dma_unless, transferred, dma_verdict}
-use Rattle.spec_play.specs.Plays.{Played, settled, thread_verdict, play_thread, dma_settled, play_now}
+use Rattle.spec_play.specs.Plays.{Played, settled, thread_verdict, play_thread, dma_settled, play_turn}
 use Rattle.spec_strata.specs.InPlay.{ChunkGoes, plays_of, IsLike}
 use Rattle.spec_strata.specs.Blocks.{Chunks, Alone}
 use Rattle.spec_strata.specs.Relogged.{SaysAll, GoesNow, BlocksRelog}
@@ -49,10 +49,10 @@ serial-relogged log other p u w k ts t m e says goes =
 
 pub record Both (log other : LogParts) (y z : Played) (now : TurnOrEnd) : Type 0 where
   pub goes : GoesNow other z now
-  pub like : IsLike (play_now log y now) (play_now other z now)
+  pub like : IsLike (play_turn log y now) (play_turn other z now)
 
 turn-is : (log : LogParts) (y : Played) (k : ℕ) (t : Parts) (o : Option Kind) (e : Effect) (u : Used) → slice_get y.threads k ≡ Some t → next_kind t y.memory ≡ o → thread_verdict log y k t o ≡ Goes e u
-    → play_now log y (Turn k) ≡ settled log y k (Goes e u)
+    → play_turn log y (Turn k) ≡ settled log y k (Goes e u)
 turn-is log y k t o e u there kind goes =
     ap (play_thread log y k) there
     ∙ ap (λ (x : Option Kind). settled log y k (thread_verdict log y k t x)) kind
@@ -79,7 +79,7 @@ thread-relogged log other y z k t (Some serial) e u says l like there kind goes 
     let b = turn-is other z k t (Some serial) e u there_z kind_z goes_z in
     record {
       goes = record { thread = t; there = there_z; effect = e; used = u; goes = ap (thread_verdict other z k t) kind_z ∙ goes_z };
-      like = subst (λ (w : Played). IsLike w (play_now other z (Turn k))) (sym a) (subst (λ (w : Played). IsLike (settled log y k (Goes e u)) w) (sym b) (settled-relogged log other y z k e u like));
+      like = subst (λ (w : Played). IsLike w (play_turn other z (Turn k))) (sym a) (subst (λ (w : Played). IsLike (settled log y k (Goes e u)) w) (sym b) (settled-relogged log other y z k e u like));
     }
 
 -- ---- a DMA
@@ -118,7 +118,7 @@ now-relogged log other y z TurnOfDma says l like g =
     let theirs : dma_verdict other z.progress z.used ≡ DmaGoes ws = dma-same other y z like ∙ dma-relogged log other y.progress y.used ws says g.1 in
     record {
       goes = (ws, theirs);
-      like = subst (λ (v : DmaVerdict). IsLike (dma_settled log y v) (play_now other z TurnOfDma)) (sym g.1)
+      like = subst (λ (v : DmaVerdict). IsLike (dma_settled log y v) (play_turn other z TurnOfDma)) (sym g.1)
           (subst (λ (v : DmaVerdict). IsLike (dma_settled log y (DmaGoes ws)) (dma_settled other z v)) (sym theirs) (dma-settled log other y z ws like));
     }
 
@@ -132,5 +132,5 @@ blocks_relog log other y z (Chunks ks js ∷ bs) says l like go =
     ((one.0, rest.0), rest.1)
 blocks_relog log other y z (Alone now ∷ bs) says l like go =
     let one : Both log other y z now = now-relogged log other y z now says l like go.0 in
-    let rest = blocks_relog log other (play_now log y now) (play_now other z now) bs says l one.like go.1 in
+    let rest = blocks_relog log other (play_turn log y now) (play_turn other z now) bs says l one.like go.1 in
     ((one.goes, rest.0), rest.1)

@@ -10,7 +10,7 @@ use Rattle.spec_play.specs.Progress.{Progress, position}
 use Rattle.spec_play.specs.declared.used.Used.{Used}
 use Rattle.spec_play.specs.Turns.{turn_of, at_end, has_left_over, now_at}
 use Rattle.std.specs.Prelude.{nat_lt, if◌then◌else◌}
-use Rattle.spec_play.specs.Plays.{Played, play_now}
+use Rattle.spec_play.specs.Plays.{Played, play_turn}
 use Rattle.spec_strata.specs.InPlay.{plays_of, IsLike}
 use Rattle.spec_strata.specs.Orders.{TurnsAlike}
 use Rattle.spec_strata.specs.Blocks.{Block, Chunks, Alone, in_canonical_order, as_done, AreBlocks, BlocksInterleave}
@@ -47,7 +47,7 @@ blocks-on log y z [] l like are = like
 blocks-on log y z (Chunks ks js ∷ bs) l like are =
     blocks-on log (plays_of log y ks) (plays_of log z js) bs l (strata_relog log log y z ks js (says-itself log) l like are.0 are.1).1 are.2
 blocks-on log y z (Alone now ∷ bs) l like are =
-    blocks-on log (play_now log y now) (play_now log z now) bs l (plays_stay_alike log y z now like) are
+    blocks-on log (play_turn log y now) (play_turn log z now) bs l (plays_stay_alike log y z now like) are
 
 pub blocks_interleave : BlocksInterleave
 blocks_interleave log y bs l are =

@@ -14,7 +14,7 @@ use Rattle.spec_play.specs.Progress.{Progress}
 use Rattle.spec_play.specs.declared.used.Used.{Used}
 use Rattle.spec_play.specs.Turns.{Turn}
 use Rattle.spec_play.specs.Verdicts.{Goes, unless, interrupt_at, with_interrupted, chunk_why, chunk_verdict}
-use Rattle.spec_play.specs.Plays.{Played, with_threads, settled, size_or_standard, thread_verdict, play_thread, play_now}
+use Rattle.spec_play.specs.Plays.{Played, with_threads, settled, size_or_standard, thread_verdict, play_thread, play_turn}
 use Rattle.spec_strata.specs.Footprints.{footprint}
 use Rattle.spec_strata.specs.Shares.{Rule, Share, share_more, StratumState, with_more, commit_more, stratum_start, counts_of}
 use Rattle.spec_strata.specs.Parallel.{OthersMiss, OthersBlind, IsClear, AreClear}
@@ -105,10 +105,10 @@ clear-relogged q r x k p e c =
 
 pub record Relogged (log other : LogParts) (y z : Played) (k : ℕ) : Type 0 where
   pub goes : ChunkGoes other z k
-  pub like : IsLike (play_now log y (Turn k)) (play_now other z (Turn k))
+  pub like : IsLike (play_turn log y (Turn k)) (play_turn other z (Turn k))
 
 pub play-is : (log : LogParts) (y : Played) (k : ℕ) (t : Parts) (e : Effect) (u : Used) → slice_get y.threads k ≡ Some t → next_kind t y.memory ≡ None
-    → chunk_verdict log y.progress y.used k (run y.memory t (size_or_standard log k t.commits)) ≡ Goes e u → play_now log y (Turn k) ≡ settled log y k (Goes e u)
+    → chunk_verdict log y.progress y.used k (run y.memory t (size_or_standard log k t.commits)) ≡ Goes e u → play_turn log y (Turn k) ≡ settled log y k (Goes e u)
 play-is log y k t e u there chunk goes =
     ap (play_thread log y k) there
     ∙ ap (λ (o : Option Kind). settled log y k (thread_verdict log y k t o)) chunk
@@ -140,11 +140,11 @@ step-relogged log other y z k says like c =
     ∙ chunk-same other y.progress z.progress y.used k r like.request
     ∙ verdict-relogged log other y.progress y.used k r says (ap (λ (x : ℕ). size_in other (Actor.Thread k) x) commits ∙ s.logged ∙ ap (λ (x : ℕ). size_in log (Actor.Thread k) x) (sym commits))
     ∙ c.goes in
-    let a : play_now log y (Turn k) ≡ settled log y k (Goes c.effect c.used) = play-is log y k t c.effect c.used c.there c.chunk c.goes in
-    let b : play_now other z (Turn k) ≡ settled other z k (Goes c.effect c.used) = play-is other z k t c.effect c.used there chunk goes in
+    let a : play_turn log y (Turn k) ≡ settled log y k (Goes c.effect c.used) = play-is log y k t c.effect c.used c.there c.chunk c.goes in
+    let b : play_turn other z (Turn k) ≡ settled other z k (Goes c.effect c.used) = play-is other z k t c.effect c.used there chunk goes in
     record {
       goes = record { thread = t; there = there; chunk = chunk; effect = c.effect; used = c.used; goes = goes };
-      like = subst (λ (w : Played). IsLike w (play_now other z (Turn k))) (sym a) (subst (λ (w : Played). IsLike (settled log y k (Goes c.effect c.used)) w) (sym b) (settled-relogged log other y z k c.effect c.used like));
+      like = subst (λ (w : Played). IsLike w (play_turn other z (Turn k))) (sym a) (subst (λ (w : Played). IsLike (settled log y k (Goes c.effect c.used)) w) (sym b) (settled-relogged log other y z k c.effect c.used like));
     }
 
 -- ---- all commits, in the log's order
@@ -176,8 +176,8 @@ all-relogged log other start y z x (k ∷ ks) says l like at_ go clear =
     let h : StepsOn log start y x next k = like-more log start y x k p is (good-found log y k x.memory p c l at_.memory a.1.1) at_ in
     let mine : commit_more (rule_of log) x k ≡ next = commit-as (rule_of log) x k p is in
     let theirs : commit_more (rule_of other) x k ≡ next = commit-as (rule_of other) x k p is ∙ with-relogged log other x k p says size in
-    let rest : AllRelogged log other (play_now log y (Turn k)) (play_now other z (Turn k)) next ks =
-    all-relogged log other start (play_now log y (Turn k)) (play_now other z (Turn k)) next ks says l one.like h.like go.1 (subst (λ (w : StratumState). AreClear (rule_of log) w ks) mine clear.1) in
+    let rest : AllRelogged log other (play_turn log y (Turn k)) (play_turn other z (Turn k)) next ks =
+    all-relogged log other start (play_turn log y (Turn k)) (play_turn other z (Turn k)) next ks says l one.like h.like go.1 (subst (λ (w : StratumState). AreClear (rule_of log) w ks) mine clear.1) in
     record {
       go = (one.goes, rest.go);
       clear = (

@@ -25,7 +25,7 @@ use Rattle.spec_play.specs.declared.used.Used.{Used}
 use Rattle.spec_play.specs.Turns.{TurnOrEnd, Turn, TurnOfDma, Ended}
 use Rattle.spec_play.specs.Verdicts.{LogVerdict, Goes, Fails, unless, interrupt_at, with_interrupted, ended, chunk_why, chunk_verdict, serial_why, TakenRecord, given, served_verdict, serial_verdict}
 use Rattle.spec_play.specs.Transfers.{DmaGoes}
-use Rattle.spec_play.specs.Plays.{Played, settled, size_or_standard, thread_verdict, play_thread, dma_settled, play_now, play_one, plays}
+use Rattle.spec_play.specs.Plays.{Played, settled, size_or_standard, thread_verdict, play_thread, dma_settled, play_turn, play_one, plays}
 use Rattle.spec_strata.proofs.Shares.Steps.{get-set_same, get-set_other}
 use Rattle.spec_strata.proofs.Plays.Canonical.{plays-shift}
 use Rattle.spec_strata.proofs.Plays.Verdicts.{run-commits}
@@ -248,9 +248,9 @@ pub record Counted (log : LogParts) (y : Played) (k : ℕ) (c : Commit) : Type 0
   pub mine : is_thread k c.actor ≡ true → commits_at (play_one log y).threads k ≡ suc (commits_at y.threads k)
   pub other : is_thread k c.actor ≡ false → commits_at (play_one log y).threads k ≡ commits_at y.threads k
 
-one-by : (log : LogParts) (y : Played) (now : TurnOrEnd) → y.now ≡ now → play_one log y ≡ play_now log y now
+one-by : (log : LogParts) (y : Played) (now : TurnOrEnd) → y.now ≡ now → play_one log y ≡ play_turn log y now
 unfolding play_one
-one-by log y now e = ap (play_now log y) e
+one-by log y now e = ap (play_turn log y) e
 
 true-false : {A : Type 0} (b : Bool) → b ≡ true → b ≡ false → A
 true-false true p q = cc

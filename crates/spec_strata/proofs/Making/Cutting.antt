@@ -17,7 +17,7 @@ use Rattle.spec_kernel.specs.Needs.{next_kind}
 use Rattle.spec_play.specs.Turns.{TurnOrEnd, Turn, TurnOfDma, Ended}
 use Rattle.spec_play.specs.Verdicts.{LogVerdict, Goes, Fails}
 use Rattle.spec_play.specs.Transfers.{DmaVerdict, DmaGoes, DmaFails, dma_verdict}
-use Rattle.spec_play.specs.Plays.{Played, settled, thread_verdict, play_thread, dma_settled, play_now, play_one, plays}
+use Rattle.spec_play.specs.Plays.{Played, settled, thread_verdict, play_thread, dma_settled, play_turn, play_one, plays}
 use Rattle.spec_strata.specs.declared.stratum.Stratum.{Stratum}
 use Rattle.spec_strata.specs.declared.stratum.Stratum.TheVariants.{Serial, Dma}
 use Rattle.spec_strata.specs.declared.stratum.Stratum.TheVariants.{Chunks as StratumChunks}
@@ -43,7 +43,7 @@ use Rattle.spec_strata.proofs.Images.Going.{next-clear, chunk-goes, actor_in}
 
 pub goes-push : (log : LogParts) (y : Played) (ks : List ℕ) (k : ℕ) → ChunksGo log y ks → ChunkGoes log (plays_of log y ks) k → ChunksGo log y (ks ++ k ∷ [])
 goes-push log y [] k go c = (c, tt)
-goes-push log y (j ∷ ks) k go c = (go.0, goes-push log (play_now log y (Turn j)) ks k go.1 c)
+goes-push log y (j ∷ ks) k go c = (go.0, goes-push log (play_turn log y (Turn j)) ks k go.1 c)
 
 pub clear-push : (q : ℕ → Rule) (x : StratumState) (ks : List ℕ) (k : ℕ) → AreClear q x ks → ((p : Share) → slice_get (commits_more q x ks).shares k ≡ Some p → IsClear (q k) (commits_more q x ks) k p) → AreClear q x (ks ++ k ∷ [])
 clear-push q x [] k clear c = (c, tt)
@@ -53,9 +53,9 @@ pub more-push : (q : ℕ → Rule) (x : StratumState) (ks : List ℕ) (k : ℕ) 
 more-push q x [] k = refl
 more-push q x (j ∷ ks) k = more-push q (commit_more q x j) ks k
 
-pub plays-push : (log : LogParts) (y : Played) (ks : List ℕ) (k : ℕ) → plays_of log y (ks ++ k ∷ []) ≡ play_now log (plays_of log y ks) (Turn k)
+pub plays-push : (log : LogParts) (y : Played) (ks : List ℕ) (k : ℕ) → plays_of log y (ks ++ k ∷ []) ≡ play_turn log (plays_of log y ks) (Turn k)
 plays-push log y [] k = refl
-plays-push log y (j ∷ ks) k = plays-push log (play_now log y (Turn j)) ks k
+plays-push log y (j ∷ ks) k = plays-push log (play_turn log y (Turn j)) ks k
 
 pub bumps-push : (c : ℕ → ℕ) (ks : List ℕ) (k j : ℕ) → bumps c (ks ++ k ∷ []) j ≡ bump (bumps c ks) k j
 bumps-push c [] k j = refl
@@ -102,7 +102,7 @@ dma-threads : (log : LogParts) (y : Played) (v : DmaVerdict) → length y.thread
 dma-threads log y (DmaGoes words) = omega arith
 dma-threads log y (DmaFails why) = omega arith
 
-now-threads : (log : LogParts) (y : Played) (now : TurnOrEnd) → length y.threads ≤ length (play_now log y now).threads
+now-threads : (log : LogParts) (y : Played) (now : TurnOrEnd) → length y.threads ≤ length (play_turn log y now).threads
 now-threads log y (Ended how) = omega arith
 now-threads log y TurnOfDma = dma-threads log y (dma_verdict log y.progress y.used)
 now-threads log y (Turn k) = thread-threads log y k (slice_get y.threads k)
@@ -148,7 +148,7 @@ pub record AloneRight (counted : ℕ) (log : LogParts) (y : Played) (now : TurnO
 abbrev pub GoesBy : (counted : ℕ) → LogParts → Played → List Block → Type 0
 GoesBy counted log y [] = Over log y
 GoesBy counted log y (Chunks ks js ∷ bs) = CutRight counted log y ks js × GoesBy counted log (plays_of log y ks) bs
-GoesBy counted log y (Alone now ∷ bs) = AloneRight counted log y now × GoesBy counted log (play_now log y now) bs
+GoesBy counted log y (Alone now ∷ bs) = AloneRight counted log y now × GoesBy counted log (play_turn log y now) bs
 
 abbrev pub stratum_for : (counted : ℕ) → Block → Stratum
 stratum_for counted (Chunks ks js) = StratumChunks (map (counts_of ks) (range_with_len 0 counted))
@@ -218,10 +218,10 @@ start-clear q m ts k p =
 -- with one more chunk, which conflicts with none of another thread
 joined : (counted : ℕ) (log : LogParts) (y0 y : Played) (p : Present) (k : ℕ) → Open counted log y0 y p → ChunkGoes log y k
     → ((t : Parts) → slice_get y.threads k ≡ Some t → is_live t ≡ true) → k < counted → ((o : Share) → slice_get p.state.shares k ≡ Some o → IsClear (rule_of log k) p.state k o)
-    → counts_of p.threads k < most_chunks → Open counted log y0 (play_now log y (Turn k)) (with_chunk log p k)
+    → counts_of p.threads k < most_chunks → Open counted log y0 (play_turn log y (Turn k)) (with_chunk log p k)
 joined counted log y0 y p k at_ c live l clear few =
     record {
-      come = ap (λ (z : Played). play_now log z (Turn k)) at_.come ∙ sym (plays-push log y0 p.threads k);
+      come = ap (λ (z : Played). play_turn log z (Turn k)) at_.come ∙ sym (plays-push log y0 p.threads k);
       state = ap (λ (x : StratumState). commit_more (rule_of log) x k) at_.state
           ∙ sym (more-push (rule_of log) (stratum_start y0.memory y0.threads) p.threads k);
       stratum = record {
@@ -260,7 +260,7 @@ none-open counted log y =
 
 -- a first chunk of thread k
 begun : (counted : ℕ) (log : LogParts) (y : Played) (k : ℕ) → ChunkGoes log y k → ((t : Parts) → slice_get y.threads k ≡ Some t → is_live t ≡ true) → k < counted
-    → Open counted log y (play_now log y (Turn k)) (with_chunk log (no_chunks y) k)
+    → Open counted log y (play_turn log y (Turn k)) (with_chunk log (no_chunks y) k)
 begun counted log y k c live l =
     joined counted log y y (no_chunks y) k (none-open counted log y) c live l (λ o is. start-clear (rule_of log k) y.memory y.threads k o) (omega arith)
 
@@ -274,7 +274,7 @@ Cutting counted log y end cs =
 
 -- a chunk that begins a stratum
 begins : (counted : ℕ) (log : LogParts) (y0 y end : Played) (k : ℕ) (cs : List Commit) (before : List Stratum) (o : Option Present) → At counted log y0 y o → Cutting counted log (play_one log y) end cs
-    → play_one log y ≡ play_now log y (Turn k) → Open counted log y (play_now log y (Turn k)) (with_chunk log (no_chunks y) k)
+    → play_one log y ≡ play_turn log y (Turn k) → Open counted log y (play_turn log y (Turn k)) (with_chunk log (no_chunks y) k)
     → CutInto counted log y0 end before (cut_off counted (cut_on counted log (play_one log y) cs (chunk_begins counted log y k (cuts before o))))
 begins counted log y0 y end k cs before o at_ next one open_ =
     closed counted log y0 y end before _ o at_
@@ -283,7 +283,7 @@ begins counted log y0 y end k cs before o at_ next one open_ =
 
 -- a chunk that comes to these, or begins a stratum
 joins-or : (counted : ℕ) (log : LogParts) (y0 y end : Played) (k : ℕ) (cs : List Commit) (before : List Stratum) (p : Present) → Open counted log y0 y p → 0 < length p.threads → Cutting counted log (play_one log y) end cs
-    → play_one log y ≡ play_now log y (Turn k) → ChunkGoes log y k → ((t : Parts) → slice_get y.threads k ≡ Some t → is_live t ≡ true) → k < counted
+    → play_one log y ≡ play_turn log y (Turn k) → ChunkGoes log y k → ((t : Parts) → slice_get y.threads k ≡ Some t → is_live t ≡ true) → k < counted
     → (b : Bool) → is_apart log p k ≡ b
     → CutInto counted log y0 end before (cut_off counted (cut_on counted log (play_one log y) cs
     (cond b (chunk_begins counted log y k (cuts before (Some p))) (cuts before (Some (with_chunk log p k))))))
@@ -306,7 +306,7 @@ joins-or counted log y0 y end k cs before p at_ some next one c live l false is 
     )
 
 chunk-cut-into : (counted : ℕ) (log : LogParts) (y0 y end : Played) (k : ℕ) (cs : List Commit) (before : List Stratum) (o : Option Present) → At counted log y0 y o → Cutting counted log (play_one log y) end cs
-    → play_one log y ≡ play_now log y (Turn k) → ChunkGoes log y k → ((t : Parts) → slice_get y.threads k ≡ Some t → is_live t ≡ true) → k < counted
+    → play_one log y ≡ play_turn log y (Turn k) → ChunkGoes log y k → ((t : Parts) → slice_get y.threads k ≡ Some t → is_live t ≡ true) → k < counted
     → CutInto counted log y0 end before (cut_off counted (cut_on counted log (play_one log y) cs (chunk_cut counted log y k (cuts before o))))
 chunk-cut-into counted log y0 y end k cs before None at_ next one c live l =
     begins counted log y0 y end k cs before None at_ next one (begun counted log y k c live l)
@@ -315,7 +315,7 @@ chunk-cut-into counted log y0 y end k cs before (Some p) at_ next one c live l =
 
 -- a commit by itself
 alone-cut-into : (counted : ℕ) (log : LogParts) (y0 y end : Played) (now : TurnOrEnd) (cs : List Commit) (before : List Stratum) (o : Option Present) → At counted log y0 y o → Cutting counted log (play_one log y) end cs
-    → play_one log y ≡ play_now log y now → AloneRight counted log y now
+    → play_one log y ≡ play_turn log y now → AloneRight counted log y now
     → CutInto counted log y0 end before (cut_off counted (cut_on counted log (play_one log y) cs (alone_cut counted (stratum_for counted (Alone now)) (cuts before o))))
 alone-cut-into counted log y0 y end now cs before o at_ next one right =
     let x : Stratum = stratum_for counted (Alone now) in
@@ -331,7 +331,7 @@ alone-cut-into counted log y0 y end now cs before o at_ next one right =
 
 -- the commit of thread k, by its kind
 thread-cut-into : (counted : ℕ) (log : LogParts) (y0 y end : Played) (k : ℕ) (c : Commit) (d : ThreadDoes log y k c) (kind : Option Kind) → next_kind d.thread y.memory ≡ kind
-    → (cs : List Commit) (before : List Stratum) (o : Option Present) → At counted log y0 y o → Cutting counted log (play_one log y) end cs → play_one log y ≡ play_now log y (Turn k) → k < counted
+    → (cs : List Commit) (before : List Stratum) (o : Option Present) → At counted log y0 y o → Cutting counted log (play_one log y) end cs → play_one log y ≡ play_turn log y (Turn k) → k < counted
     → CutInto counted log y0 end before (cut_off counted (cut_on counted log (play_one log y) cs (thread_cut counted log y k (kind_by kind) (cuts before o))))
 thread-cut-into counted log y0 y end k c d None is cs before o at_ next one l =
     let chunk : c.kind ≡ CommitKind.Chunk = d.kind ∙ ap kind_by is in
@@ -349,7 +349,7 @@ thread-cut-into counted log y0 y end k c d (Some serial) is cs before o at_ next
     })
 
 commit-cut-into : (counted : ℕ) (log : LogParts) (y0 y end : Played) (now : TurnOrEnd) (c : Commit) (cs : List Commit) (before : List Stratum) (o : Option Present) → y.now ≡ now → Does log y now c
-    → At counted log y0 y o → Cutting counted log (play_one log y) end cs → play_one log y ≡ play_now log y now → length y.threads ≤ counted
+    → At counted log y0 y o → Cutting counted log (play_one log y) end cs → play_one log y ≡ play_turn log y now → length y.threads ≤ counted
     → CutInto counted log y0 end before (cut_off counted (cut_on counted log (play_one log y) cs (actor_cut counted log y c.actor c.kind (cuts before o))))
 commit-cut-into counted log y0 y end (Ended how) c cs before o is does at_ next one most = absurd does
 commit-cut-into counted log y0 y end TurnOfDma c cs before o is does at_ next one most =
@@ -361,7 +361,7 @@ commit-cut-into counted log y0 y end (Turn k) c cs before o is does at_ next one
     (subst (λ (kind : CommitKind). CutInto counted log y0 end before (cut_off counted (cut_on counted log (play_one log y) cs (thread_cut counted log y k kind (cuts before o))))) (sym does.kind)
     (thread-cut-into counted log y0 y end k c does (next_kind does.thread y.memory) refl cs before o at_ next one (omega (arith, below, most))))
 
-one-now : (log : LogParts) (y : Played) → play_one log y ≡ play_now log y y.now
+one-now : (log : LogParts) (y : Played) → play_one log y ≡ play_turn log y y.now
 unfolding play_one
 one-now log y = refl
 

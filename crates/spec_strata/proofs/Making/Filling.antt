@@ -8,7 +8,7 @@ use Rattle.std.proofs.lemmas.List.Elements.{All-nil, All-cons, All-head, All-tai
 use Rattle.std.proofs.lemmas.List.Sums.{sum_by-cons}
 use Rattle.spec_log.specs.declared.LogParts.{LogParts}
 use Rattle.spec_play.specs.Turns.{Turn, TurnOfDma, Ended}
-use Rattle.spec_play.specs.Plays.{Played, play_now}
+use Rattle.spec_play.specs.Plays.{Played, play_turn}
 use Rattle.spec_strata.specs.declared.stratum.Stratum.{Stratum}
 use Rattle.spec_strata.specs.declared.stratum.Stratum.TheVariants.{Serial, Dma}
 use Rattle.spec_strata.specs.declared.stratum.Stratum.TheVariants.{Chunks as StratumChunks}
@@ -62,9 +62,9 @@ strata-are counted log y (Chunks ks js ∷ bs) go =
     All-cons (IsStratumOf counted) (stratum_for counted (Chunks ks js)) (map (stratum_for counted) bs) (chunks-are counted log y ks js go.0)
     (strata-are counted log (plays_of log y ks) bs go.1)
 strata-are counted log y (Alone (Turn k) ∷ bs) go =
-    All-cons (IsStratumOf counted) (Serial k) (map (stratum_for counted) bs) go.0.below (strata-are counted log (play_now log y (Turn k)) bs go.1)
+    All-cons (IsStratumOf counted) (Serial k) (map (stratum_for counted) bs) go.0.below (strata-are counted log (play_turn log y (Turn k)) bs go.1)
 strata-are counted log y (Alone TurnOfDma ∷ bs) go =
-    All-cons (IsStratumOf counted) Dma (map (stratum_for counted) bs) tt (strata-are counted log (play_now log y TurnOfDma) bs go.1)
+    All-cons (IsStratumOf counted) Dma (map (stratum_for counted) bs) tt (strata-are counted log (play_turn log y TurnOfDma) bs go.1)
 strata-are counted log y (Alone (Ended how) ∷ bs) go = absurd go.0.is
 
 -- each has a commit

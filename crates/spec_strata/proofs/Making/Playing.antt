@@ -19,7 +19,7 @@ use Rattle.spec_play.specs.Progress.{Progress, position}
 use Rattle.spec_play.specs.declared.used.Used.{Used}
 use Rattle.spec_play.specs.Turns.{TurnOrEnd, Turn, TurnOfDma, Ended, turn_of, now_at}
 use Rattle.spec_play.specs.Verdicts.{Goes}
-use Rattle.spec_play.specs.Plays.{Played, settled, size_or_standard, thread_verdict, play_thread, dma_settled, play_now, play_one, plays}
+use Rattle.spec_play.specs.Plays.{Played, settled, size_or_standard, thread_verdict, play_thread, dma_settled, play_turn, play_one, plays}
 use Rattle.spec_strata.specs.declared.stratum.Stratum.{Stratum}
 use Rattle.spec_strata.specs.declared.stratum.Stratum.TheVariants.{Serial, Dma}
 use Rattle.spec_strata.specs.declared.stratum.Stratum.TheVariants.{Chunks as StratumChunks}
@@ -69,7 +69,7 @@ settled-left log y k e u kind is =
       looked = refl;
     }
 
-chunk-left : (log : LogParts) (y : Played) (k : ℕ) → ChunkGoes log y k → Left log y (play_now log y (Turn k)) (CommitKind.Chunk ∷ [])
+chunk-left : (log : LogParts) (y : Played) (k : ℕ) → ChunkGoes log y k → Left log y (play_turn log y (Turn k)) (CommitKind.Chunk ∷ [])
 chunk-left log y k c =
     let by : IsBy k CommitKind.Chunk (Goes c.effect c.used) = subst (IsBy k CommitKind.Chunk) c.goes (chunk-by log y.progress y.used k (run y.memory c.thread (size_or_standard log k c.thread.commits))) in
     subst (λ (z : Played). Left log y z (CommitKind.Chunk ∷ [])) (sym (play-is log y k c.thread c.effect c.used c.there c.chunk c.goes))
@@ -78,8 +78,8 @@ chunk-left log y k c =
 chunks-left : (log : LogParts) (y : Played) (ks : List ℕ) → IsLooked log y → ChunksGo log y ks → Left log y (plays_of log y ks) (replicate (length ks) CommitKind.Chunk)
 chunks-left log y [] looked go = record { kinds_are = sym (append-nil (map kind_in y.progress.commits)); first = refl; looked = looked }
 chunks-left log y (k ∷ ks) looked go =
-    let a : Left log y (play_now log y (Turn k)) (CommitKind.Chunk ∷ []) = chunk-left log y k go.0 in
-    let b = chunks-left log (play_now log y (Turn k)) ks a.looked go.1 in
+    let a : Left log y (play_turn log y (Turn k)) (CommitKind.Chunk ∷ []) = chunk-left log y k go.0 in
+    let b = chunks-left log (play_turn log y (Turn k)) ks a.looked go.1 in
     record {
       kinds_are = b.kinds_are ∙ ap (λ (xs : List CommitKind). xs ++ replicate (length ks) CommitKind.Chunk) a.kinds_are
           ∙ append_assoc (map kind_in y.progress.commits) (CommitKind.Chunk ∷ []) (replicate (length ks) CommitKind.Chunk);
@@ -230,28 +230,28 @@ chunks-through counted log other knows ks js bs is rest y z go like looked order
     (subst (λ (hs : List ℕ). (i : ℕ) → clashes_in (rule_of other) (stratum_start z.memory z.threads) hs i ≡ false) is (λ i. clear-none (rule_of other) (stratum_start z.memory z.threads) js i stratum.clear))
     (rest (plays_of log y ks) z1 go.1 s.1 left.looked (ordered-on other (position z.progress) (position z1.progress) x xs order (omega (arith, at_, l))) (omega (arith, at_, l, sum, total)))
 
-one-by : (log : LogParts) (z : Played) (now : TurnOrEnd) → z.now ≡ now → plays log z 1 ≡ play_now log z now
+one-by : (log : LogParts) (z : Played) (now : TurnOrEnd) → z.now ≡ now → plays log z 1 ≡ play_turn log z now
 unfolding play_one
-one-by log z now turn = ap (play_now log z) turn
+one-by log z now turn = ap (play_turn log z) turn
 
-alone-through : (counted : ℕ) (log other : LogParts) → Knows log other → (now : TurnOrEnd) (bs : List Block) (y z : Played) → AloneRight counted log y now → GoesBy counted log (play_now log y now) bs → IsLike y z
+alone-through : (counted : ℕ) (log other : LogParts) → Knows log other → (now : TurnOrEnd) (bs : List Block) (y z : Played) → AloneRight counted log y now → GoesBy counted log (play_turn log y now) bs → IsLike y z
     → Ordered other (position z.progress) (map (stratum_for counted) (Alone now ∷ bs)) → position z.progress + commits_in_all (map (stratum_for counted) (Alone now ∷ bs)) ≡ other.count
-    → z.now ≡ now → commits_in (stratum_for counted (Alone now)) ≡ 1 → ((i : ℕ) → conflicts_in other z (stratum_for counted (Alone now)) i ≡ false) → Left other z (play_now other z now) (kinds_of (stratum_for counted (Alone now)))
+    → z.now ≡ now → commits_in (stratum_for counted (Alone now)) ≡ 1 → ((i : ℕ) → conflicts_in other z (stratum_for counted (Alone now)) i ≡ false) → Left other z (play_turn other z now) (kinds_of (stratum_for counted (Alone now)))
     → Goal counted log other bs → Through log other y z (Alone now ∷ bs) (map (stratum_for counted) (Alone now ∷ bs))
 alone-through counted log other knows now bs y z right go like order total turn one none left rest =
     let x : Stratum = stratum_for counted (Alone now) in
     let xs : List Stratum = map (stratum_for counted) bs in
     let b : Both log other y z now = now-relogged log other y z now knows.says knows.some like right.goes in
-    let z1 : Played = play_now other z now in
+    let z1 : Played = play_turn other z now in
     let next : plays other z (commits_in x) ≡ z1 = ap (plays other z) one ∙ one-by other z now turn in
     let sum = sum_by-cons commits_in x xs in
     let at_ = left-position other z z1 (kinds_of x) left in
     let l = length-kinds x in
-    through-more log other y (play_now log y now) z z1 (Alone now) bs x xs refl next left none
-    (rest (play_now log y now) z1 go b.like left.looked (ordered-on other (position z.progress) (position z1.progress) x xs order (omega (arith, at_, l))) (omega (arith, at_, l, sum, total)))
+    through-more log other y (play_turn log y now) z z1 (Alone now) bs x xs refl next left none
+    (rest (play_turn log y now) z1 go b.like left.looked (ordered-on other (position z.progress) (position z1.progress) x xs order (omega (arith, at_, l))) (omega (arith, at_, l, sum, total)))
 
 -- the step of thread k that goes is of the kind of its instruction
-serial-left : (log : LogParts) (z : Played) (k : ℕ) (t : Parts) (kind : Kind) → slice_get z.threads k ≡ Some t → next_kind t z.memory ≡ Some kind → GoesNow log z (Turn k) → Left log z (play_now log z (Turn k)) (CommitKind.Serial ∷ [])
+serial-left : (log : LogParts) (z : Played) (k : ℕ) (t : Parts) (kind : Kind) → slice_get z.threads k ≡ Some t → next_kind t z.memory ≡ Some kind → GoesNow log z (Turn k) → Left log z (play_turn log z (Turn k)) (CommitKind.Serial ∷ [])
 serial-left log z k t kind there is g =
     let same : g.thread ≡ t = some-same g.thread t (sym g.there ∙ there) in
     let serial : next_kind g.thread z.memory ≡ Some kind = ap (λ (s : Parts). next_kind s z.memory) same ∙ is in
@@ -264,7 +264,7 @@ serial-left log z k t kind there is g =
     some-same : (a b : Parts) → Some a ≡ Some b → a ≡ b
     some-same a b e = cc
 
-dma-left : (log : LogParts) (z : Played) → GoesNow log z TurnOfDma → Left log z (play_now log z TurnOfDma) (CommitKind.Dma ∷ [])
+dma-left : (log : LogParts) (z : Played) → GoesNow log z TurnOfDma → Left log z (play_turn log z TurnOfDma) (CommitKind.Dma ∷ [])
 dma-left log z g =
     subst (λ (w : Played). Left log z w (CommitKind.Dma ∷ [])) (sym (ap (dma_settled log z) g.1))
     (record { kinds_are = map-push kind_in z.progress.commits dma_commit; first = refl; looked = refl })

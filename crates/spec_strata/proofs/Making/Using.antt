@@ -24,7 +24,7 @@ use Rattle.spec_play.specs.declared.used.Used.{Used}
 use Rattle.spec_play.specs.Turns.{TurnOrEnd, Turn, TurnOfDma, Ended}
 use Rattle.spec_play.specs.Verdicts.{LogVerdict, Goes, Fails, unless, interrupt_at, with_interrupted, ended, chunk_why, chunk_verdict, serial_why, TakenRecord, given, served_verdict, serial_verdict}
 use Rattle.spec_play.specs.Transfers.{DmaGoes}
-use Rattle.spec_play.specs.Plays.{Played, settled, size_or_standard, thread_verdict, play_thread, dma_settled, play_now, play_one, plays}
+use Rattle.spec_play.specs.Plays.{Played, settled, size_or_standard, thread_verdict, play_thread, dma_settled, play_turn, play_one, plays}
 use Rattle.spec_strata.specs.InPlay.{number_of}
 use Rattle.spec_strata.proofs.Shares.Steps.{get-set_same, get-set_other}
 use Rattle.spec_strata.proofs.Plays.Canonical.{plays-shift}
@@ -201,9 +201,9 @@ pub record Within (log : LogParts) (y : Played) : Type 0 where
   pub threads : length y.threads ≤ log.threads
   pub taken : y.used.interrupts ≤ past_of y.threads log.interrupts
 
-one-by : (log : LogParts) (y : Played) (now : TurnOrEnd) → y.now ≡ now → play_one log y ≡ play_now log y now
+one-by : (log : LogParts) (y : Played) (now : TurnOrEnd) → y.now ≡ now → play_one log y ≡ play_turn log y now
 unfolding play_one
-one-by log y now e = ap (play_now log y) e
+one-by log y now e = ap (play_turn log y) e
 
 thread-within : (log : LogParts) (y : Played) (j : ℕ) (c : Commit) → y.now ≡ Turn j → ThreadDoes log y j c → Within log y → Within log (play_one log y)
 thread-within log y j c turn d w =

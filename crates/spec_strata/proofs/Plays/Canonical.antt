@@ -10,7 +10,7 @@ use Rattle.spec_log.specs.declared.LogParts.{LogParts}
 use Rattle.spec_play.specs.Effects.{chunk_commit}
 use Rattle.spec_play.specs.Progress.{thread_of, last_thread}
 use Rattle.spec_play.specs.Turns.{Turn, now_at}
-use Rattle.spec_play.specs.Plays.{Played, play_now, play_one, plays}
+use Rattle.spec_play.specs.Plays.{Played, play_turn, play_one, plays}
 use Rattle.spec_strata.specs.Shares.{Rule, Share, alone, StratumState, stratum_start, bump, bumps, state_at, counts_of}
 use Rattle.spec_strata.specs.Parallel.{IsParallel}
 use Rattle.spec_strata.specs.InPlay.{rule_of, plays_of, commits_of, IsLooked, with_state, in_stratum, IsLike, IsStratum}
@@ -62,9 +62,9 @@ pushed k (d ∷ cs) c e = ap (λ (o : Option ℕ). option_or o (thread_of d.acto
 
 -- ---- one commit
 
--- where threads behind k have done nothing, k's next commit comes last
+-- where threads after k have done nothing, k's next commit comes last
 canonical-step : (log : LogParts) (y : Played) (count done : ℕ → ℕ) (k : ℕ) → IsParallel (rule_of log) y.memory y.threads count → AreGood log y count → ((j : ℕ) → bump done k j ≤ count j) → ((j : ℕ) → k < j → done j ≡ 0)
-    → play_now log (in_stratum log y done) (Turn k) ≡ in_stratum log y (bump done k)
+    → play_turn log (in_stratum log y done) (Turn k) ≡ in_stratum log y (bump done k)
 canonical-step log y count done k parallel good few later_ =
     let q : ℕ → Rule = rule_of log in
     let z : Played = in_stratum log y done in
@@ -79,11 +79,11 @@ canonical-step log y count done k parallel good few later_ =
     ap (λ (p : Share). p.runs) (sym f.1.1) ∙ ap (λ (n : ℕ). (alone (q j) y.memory f.0 n).runs) (later_ j l)) in
     let back : new ≡ old ++ s.commit ∷ [] =
     s.placed ∙ ap (λ (n : ℕ). insert_at n s.commit old) (place-last chunk_commit x.shares k empty) ∙ insert-last s.commit old in
-    let commits : (play_now log z (Turn k)).progress.commits ≡ y.progress.commits ++ new =
+    let commits : (play_turn log z (Turn k)).progress.commits ≡ y.progress.commits ++ new =
     s.appended ∙ append_assoc y.progress.commits old (s.commit ∷ []) ∙ ap (λ (cs : List Commit). y.progress.commits ++ cs) (sym back) in
-    let last : (play_now log z (Turn k)).progress.last ≡ option_or (last_thread new) y.progress.last =
+    let last : (play_turn log z (Turn k)).progress.last ≡ option_or (last_thread new) y.progress.last =
     s.last ∙ sym (ap (λ (cs : List Commit). option_or (last_thread cs) y.progress.last) back ∙ ap (λ (o : Option ℕ). option_or o y.progress.last) (pushed k old s.commit s.actor)) in
-    same-played log (in_stratum log y (bump done k)) (play_now log z (Turn k)) s.like commits last refl s.looked
+    same-played log (in_stratum log y (bump done k)) (play_turn log z (Turn k)) s.like commits last refl s.looked
 
 canonical-on : (log : LogParts) (y : Played) (count done : ℕ → ℕ) (ks : List ℕ) (from : ℕ) → IsParallel (rule_of log) y.memory y.threads count → AreGood log y count
     → ((j : ℕ) → bumps done ks j ≤ count j) → IsRising from ks → ((j : ℕ) → from < j → done j ≡ 0)
@@ -126,9 +126,9 @@ pub plays-shift : (log : LogParts) (y : Played) (i : ℕ) → plays log (play_on
 plays-shift log y zero = refl
 plays-shift log y (suc i) = ap (play_one log) (plays-shift log y i)
 
-pub one-turn : (log : LogParts) (y : Played) (k : ℕ) → y.now ≡ Turn k → play_one log y ≡ play_now log y (Turn k)
+pub one-turn : (log : LogParts) (y : Played) (k : ℕ) → y.now ≡ Turn k → play_one log y ≡ play_turn log y (Turn k)
 unfolding play_one
-one-turn log y k e = ap (play_now log y) e
+one-turn log y k e = ap (play_turn log y) e
 
 plays-turns : (log : LogParts) (y : Played) (ks : List ℕ) (i : ℕ) → TurnsAre log y ks → i ≤ length ks → plays log y i ≡ plays_of log y (take i ks)
 plays-turns log y ks zero turns l = refl

@@ -14,7 +14,7 @@ use Rattle.spec_play.specs.Effects.{Effect}
 use Rattle.spec_play.specs.declared.used.Used.{Used}
 use Rattle.spec_play.specs.Turns.{Turn}
 use Rattle.spec_play.specs.Verdicts.{Goes, chunk_why, chunk_verdict}
-use Rattle.spec_play.specs.Plays.{Played, settled, size_or_standard, thread_verdict, play_thread, play_now}
+use Rattle.spec_play.specs.Plays.{Played, settled, size_or_standard, thread_verdict, play_thread, play_turn}
 use Rattle.spec_strata.specs.declared.touch.Touch.{Touch}
 use Rattle.spec_strata.specs.Footprints.{footprint}
 use Rattle.spec_strata.specs.Shares.{Rule, Share, empty_share, next_run, next_seen, StratumState, stratum_start, with_more, commit_more}
@@ -48,7 +48,7 @@ threads-empty (t ∷ ts) = ap (λ (us : List Parts). t ∷ us) (threads-empty ts
 pub come-start : (y : Played) → HasCome y (stratum_start y.memory y.threads)
 come-start y = record { memory = refl; threads = threads-empty y.threads }
 
-pub come-more : (log : LogParts) (y : Played) (x : StratumState) (k : ℕ) → 0 < log.s → ChunkGoes log y k → HasCome y x → HasCome (play_now log y (Turn k)) (commit_more (rule_of log) x k)
+pub come-more : (log : LogParts) (y : Played) (x : StratumState) (k : ℕ) → 0 < log.s → ChunkGoes log y k → HasCome y x → HasCome (play_turn log y (Turn k)) (commit_more (rule_of log) x k)
 come-more log y x k some c h =
     let s : IsShareOf x k c.thread = share-of y x k c.thread h c.there in
     let p : Share = s.share in
@@ -62,7 +62,7 @@ come-more log y x k some c h =
     let goes : chunk_verdict log y.progress y.used k (run y.memory p.thread (size_or_standard log k p.thread.commits)) ≡ Goes e u =
     ap (λ (m : List ℕ). chunk_verdict log y.progress y.used k (run m p.thread (size_or_standard log k p.thread.commits))) h.memory
     ∙ logged-goes log y.progress y.used k r good.logged in
-    let end : play_now log y (Turn k) ≡ settled log y k (Goes e u) =
+    let end : play_turn log y (Turn k) ≡ settled log y k (Goes e u) =
     ap (play_thread log y k) there
     ∙ ap (λ (o : Option Kind). settled log y k (thread_verdict log y k p.thread o)) chunk
     ∙ ap (settled log y k) goes in

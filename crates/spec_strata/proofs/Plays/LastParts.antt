@@ -9,7 +9,7 @@ use Rattle.spec_kernel.specs.Needs.{next_kind}
 use Rattle.spec_play.specs.Effects.{Effect, chunk_commit}
 use Rattle.spec_play.specs.Turns.{Turn}
 use Rattle.spec_play.specs.Verdicts.{Goes}
-use Rattle.spec_play.specs.Plays.{Played, settled, size_or_standard, play_now}
+use Rattle.spec_play.specs.Plays.{Played, settled, size_or_standard, play_turn}
 use Rattle.spec_strata.specs.Shares.{Rule, Share, alone, StratumState, state_at, bump}
 use Rattle.spec_strata.specs.InPlay.{rule_of, ChunkGoes, commits_of}
 use Rattle.spec_strata.specs.Orders.{insert_at, place, StepsOn}
@@ -53,9 +53,9 @@ last_parts_go log y z ks done k total n t l s is few like sum =
     (goes-logged log z.progress z.used c.used k (run z.memory c.thread (size_or_standard log k c.thread.commits)) c.effect c.goes) in
     let chunk : next_kind p.thread z.memory ≡ None = ap (λ (u : Parts). next_kind u z.memory) (sym same) ∙ c.chunk in
     let e : Effect = effect_of log k z.progress.request w in
-    let end : play_now log z (Turn k) ≡ settled log z k (Goes e (used_of log k w z.used)) =
+    let end : play_turn log z (Turn k) ≡ settled log z k (Goes e (used_of log k w z.used)) =
     play-is log z k p.thread e (used_of log k w z.used) there chunk (logged-goes log z.progress z.used k w logged) in
-    -- the last part, with the pieces, is the whole but for its words
+    -- the last part, with the pieces, is the whole except for its words
     let mine : record w { words = part.words } ≡ last_part r part = (λ i. record { thread = j.thread i; words = part.words; loads = j.loads i; n = j.n i }) in
     let mine_logged : IsLogged log k (last_part r part) = subst (IsLogged log k) mine (record { size = logged.size; taken = logged.taken }) in
     let commit : h.commit ≡ chunk_commit k (last_part r part) =

@@ -15,7 +15,7 @@ use Rattle.spec_play.specs.Effects.{Effect, chunk_commit}
 use Rattle.spec_play.specs.declared.used.Used.{Used}
 use Rattle.spec_play.specs.Turns.{Turn}
 use Rattle.spec_play.specs.Verdicts.{Goes, chunk_verdict}
-use Rattle.spec_play.specs.Plays.{Played, settled, size_or_standard, thread_verdict, play_thread, play_now}
+use Rattle.spec_play.specs.Plays.{Played, settled, size_or_standard, thread_verdict, play_thread, play_turn}
 use Rattle.spec_strata.specs.Footprints.{looks, footprint}
 use Rattle.spec_strata.specs.Shares.{Rule, Share, empty_share, next_run, next_seen, share_more, alone, StratumState, with_more, commit_more, bump, bumps, shares_at, words_of, state_at, counts_of}
 use Rattle.spec_strata.specs.Parallel.{OthersMiss, IsClear, AreClear, IsParallel}
@@ -118,7 +118,7 @@ by-none-of a f (o ∷ os) none =
     by-append a (map (f 0) o.runs) (commits_of (λ j. f (suc j)) os)
     ∙ (λ i. by-none a (f 0) o.runs (none 0) i ++ by-none-of a (λ j. f (suc j)) os (λ j r. none (suc j) r) i)
 
--- one commit's list before or behind those of later threads
+-- one commit's list before or after those of later threads
 swap-behind : (a : Option ℕ) (f : ℕ → Run → Commit) (c : Commit) (os : List Share) → (is_by a c ≡ true → (j : ℕ) (r : Run) → is_by a (f j r) ≡ false)
     → commits_by a (c ∷ []) ++ commits_by a (commits_of f os) ≡ commits_by a (commits_of f os) ++ commits_by a (c ∷ [])
 swap-behind a f c os only =
@@ -184,7 +184,7 @@ like-more log y z x k p is good like =
     let goes : chunk_verdict log z.progress z.used k (run z.memory p.thread (size_or_standard log k p.thread.commits)) ≡ Goes e u =
     ap (λ (m : List ℕ). chunk_verdict log z.progress z.used k (run m p.thread (size_or_standard log k p.thread.commits))) like.memory
     ∙ logged-goes log z.progress z.used k r good.logged in
-    let end : play_now log z (Turn k) ≡ settled log z k (Goes e u) =
+    let end : play_turn log z (Turn k) ≡ settled log z k (Goes e u) =
     ap (play_thread log z k) there
     ∙ ap (λ (o : Option Kind). settled log z k (thread_verdict log z k p.thread o)) chunk
     ∙ ap (settled log z k) goes in
@@ -285,7 +285,7 @@ steps-within : (log : LogParts) (y z : Played) (count done : ℕ → ℕ) (ks : 
 steps-within log y z count done [] parallel good few like = (tt, like)
 steps-within log y z count done (k ∷ ks) parallel good few like =
     let h = step-within log y z count done k parallel good (λ j. let a = bumps_more (bump done k) ks j in let b = few j in omega arith) like in
-    let rest = steps-within log y (play_now log z (Turn k)) count (bump done k) ks parallel good few h.like in
+    let rest = steps-within log y (play_turn log z (Turn k)) count (bump done k) ks parallel good few h.like in
     ((h.goes, rest.0), rest.1)
 
 -- ---- commits that are checked one after the other
@@ -333,7 +333,7 @@ pub record Checked (log : LogParts) (y z : Played) (done : ℕ → ℕ) : Type 0
 
 checked-found : (log : LogParts) (y z : Played) (done : ℕ → ℕ) (k : ℕ) (t : Parts) (c : ChunkGoes log z k) → 0 < log.s → Checked log y z done
     → ((p : Share) → slice_get (state_at (rule_of log) y.memory y.threads done).shares k ≡ Some p → IsClear (rule_of log k) (state_at (rule_of log) y.memory y.threads done) k p)
-    → slice_get y.threads k ≡ Some t → (alone (rule_of log k) y.memory t (done k)).thread ≡ c.thread → Checked log y (play_now log z (Turn k)) (bump done k)
+    → slice_get y.threads k ≡ Some t → (alone (rule_of log k) y.memory t (done k)).thread ≡ c.thread → Checked log y (play_turn log z (Turn k)) (bump done k)
 checked-found log y z done k t c l checked clear is same =
     let q : ℕ → Rule = rule_of log in
     let x : StratumState = state_at q y.memory y.threads done in
@@ -349,7 +349,7 @@ checked-found log y z done k t c l checked clear is same =
 
 checked-one : (log : LogParts) (y z : Played) (done : ℕ → ℕ) (k : ℕ) → 0 < log.s → Checked log y z done → ChunkGoes log z k
     → ((p : Share) → slice_get (state_at (rule_of log) y.memory y.threads done).shares k ≡ Some p → IsClear (rule_of log k) (state_at (rule_of log) y.memory y.threads done) k p)
-    → Checked log y (play_now log z (Turn k)) (bump done k)
+    → Checked log y (play_turn log z (Turn k)) (bump done k)
 checked-one log y z done k l checked c clear =
     let q : ℕ → Rule = rule_of log in
     let x : StratumState = state_at q y.memory y.threads done in
@@ -361,10 +361,10 @@ checked-all : (log : LogParts) (y z : Played) (done : ℕ → ℕ) (ks : List �
     → Checked log y (plays_of log z ks) (bumps done ks)
 checked-all log y z done [] l checked go clear = checked
 checked-all log y z done (k ∷ ks) l checked go clear =
-    let next : Checked log y (play_now log z (Turn k)) (bump done k) = checked-one log y z done k l checked go.0 clear.0 in
+    let next : Checked log y (play_turn log z (Turn k)) (bump done k) = checked-one log y z done k l checked go.0 clear.0 in
     let same : commit_more (rule_of log) (state_at (rule_of log) y.memory y.threads done) k ≡ state_at (rule_of log) y.memory y.threads (bump done k) =
     (checked-step (rule_of log) y.memory y.threads done k (slice_get y.threads k) refl checked.parallel clear.0).same in
-    checked-all log y (play_now log z (Turn k)) (bump done k) ks l next go.1 (subst (λ (x : StratumState). AreClear (rule_of log) x ks) same clear.1)
+    checked-all log y (play_turn log z (Turn k)) (bump done k) ks l next go.1 (subst (λ (x : StratumState). AreClear (rule_of log) x ks) same clear.1)
 
 -- ---- the stratum's start
 

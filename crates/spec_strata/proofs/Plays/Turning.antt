@@ -21,7 +21,7 @@ use Rattle.spec_play.specs.Progress.{Progress, position}
 use Rattle.spec_play.specs.declared.used.Used.{Used}
 use Rattle.spec_play.specs.Turns.{Turn, turn_of, turn_of_thread, next_actor, at_end, has_left_over, now_at}
 use Rattle.spec_play.specs.Verdicts.{Goes, interrupt_at}
-use Rattle.spec_play.specs.Plays.{Played, settled, size_or_standard, play_now, play_one}
+use Rattle.spec_play.specs.Plays.{Played, settled, size_or_standard, play_turn, play_one}
 use Rattle.spec_strata.specs.InPlay.{after_interrupt, ChunkGoes, IsLooked}
 use Rattle.spec_strata.specs.Orders.{TurnsAre, Names, AreLive, OrdersTurn}
 use Rattle.spec_strata.proofs.Shares.Steps.{get-set_other, get-set_same, same_some}
@@ -108,7 +108,7 @@ live-all ts k t u y z (j ∷ js) ye ze there status live = (
   live-all ts k t u y z js ye ze there status live.1,
 )
 
-turned : (log : LogParts) (y : Played) (k : ℕ) → ChunkGoes log y k → Turned log y (play_now log y (Turn k))
+turned : (log : LogParts) (y : Played) (k : ℕ) → ChunkGoes log y k → Turned log y (play_turn log y (Turn k))
 turned log y k c =
     let t : Parts = c.thread in
     let n : ℕ = size_or_standard log k t.commits in
@@ -116,7 +116,7 @@ turned log y k c =
     let l : IsLogged log k r = goes-logged log y.progress y.used c.used k r c.effect c.goes in
     let e : Effect = effect_of log k y.progress.request r in
     let u : Used = used_of log k r y.used in
-    let end : play_now log y (Turn k) ≡ settled log y k (Goes e u) = play-is log y k t e u c.there c.chunk (logged-goes log y.progress y.used k r l) in
+    let end : play_turn log y (Turn k) ≡ settled log y k (Goes e u) = play-is log y k t e u c.there c.chunk (logged-goes log y.progress y.used k r l) in
     let status : e.thread.status ≡ t.status = after-status (interrupt_at log.interrupts k (counted r.thread).commits) (counted r.thread) ∙ run-status y.memory t n in
     subst (λ (z : Played). Turned log y z) (sym end)
     (record {
@@ -138,14 +138,14 @@ live-before ts k t u there status j live s is =
           )
     ]
 
-pub chunk-live : (log : LogParts) (y : Played) (k : ℕ) → ChunkGoes log y k → (j : ℕ) → ((s : Parts) → slice_get (play_now log y (Turn k)).threads j ≡ Some s → is_live s ≡ true) → (s : Parts) → slice_get y.threads j ≡ Some s → is_live s ≡ true
+pub chunk-live : (log : LogParts) (y : Played) (k : ℕ) → ChunkGoes log y k → (j : ℕ) → ((s : Parts) → slice_get (play_turn log y (Turn k)).threads j ≡ Some s → is_live s ≡ true) → (s : Parts) → slice_get y.threads j ≡ Some s → is_live s ≡ true
 chunk-live log y k c j live s is =
     let t : Parts = c.thread in
     let r : Run = run y.memory t (size_or_standard log k t.commits) in
     let l : IsLogged log k r = goes-logged log y.progress y.used c.used k r c.effect c.goes in
     let e : Effect = effect_of log k y.progress.request r in
     let u : Used = used_of log k r y.used in
-    let end : play_now log y (Turn k) ≡ settled log y k (Goes e u) = play-is log y k t e u c.there c.chunk (logged-goes log y.progress y.used k r l) in
+    let end : play_turn log y (Turn k) ≡ settled log y k (Goes e u) = play-is log y k t e u c.there c.chunk (logged-goes log y.progress y.used k r l) in
     let status : e.thread.status ≡ t.status = after-status (interrupt_at log.interrupts k (counted r.thread).commits) (counted r.thread) ∙ run-status y.memory t (size_or_standard log k t.commits) in
     live-before y.threads k t e.thread c.there status j (λ v v_is. live v (ap (λ (x : Played). slice_get x.threads j) end ∙ v_is)) s is
 
@@ -154,10 +154,10 @@ orders_turn log y [] ne go looked named few live = tt
 orders_turn log y (k ∷ ks) ne go looked named few live =
     let c : ChunkGoes log y k = go.0 in
     let now : y.now ≡ Turn k = looked ∙ turn-now log y.progress y.used y.threads k c.thread ne (omega arith) named.0 c.there (live.0 c.thread c.there) in
-    let d : Turned log y (play_now log y (Turn k)) = turned log y k c in
-    let next : play_one log y ≡ play_now log y (Turn k) = one-turn log y k now in
+    let d : Turned log y (play_turn log y (Turn k)) = turned log y k c in
+    let next : play_one log y ≡ play_turn log y (Turn k) = one-turn log y k now in
     let p = d.position in (
       now,
       subst (λ (z : Played). TurnsAre log z ks) (sym next)
-          (orders_turn log (play_now log y (Turn k)) ks ne go.1 d.looked (subst (λ (i : ℕ). Names log i ks) (sym d.position) named.1) (omega (arith, p, few)) (d.live ks live.1)),
+          (orders_turn log (play_turn log y (Turn k)) ks ne go.1 d.looked (subst (λ (i : ℕ). Names log i ks) (sym d.position) named.1) (omega (arith, p, few)) (d.live ks live.1)),
     )

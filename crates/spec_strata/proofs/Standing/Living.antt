@@ -8,7 +8,7 @@ use Rattle.spec_kernel.specs.Interrupts.{is_live, lives}
 use Rattle.spec_play.specs.Effects.{counted}
 use Rattle.spec_play.specs.Turns.{Turn}
 use Rattle.spec_play.specs.Verdicts.{Goes, interrupt_at}
-use Rattle.spec_play.specs.Plays.{Played, settled, size_or_standard, play_now, play_one}
+use Rattle.spec_play.specs.Plays.{Played, settled, size_or_standard, play_turn, play_one}
 use Rattle.spec_play.proofs.Going.{Lives, turn-lives}
 use Rattle.spec_strata.specs.Shares.{Share, alone, share_more}
 use Rattle.spec_strata.specs.InPlay.{rule_of, IsLooked, ChunkGoes, ChunksGo, in_stratum}
@@ -51,22 +51,22 @@ lives-at log y done k l =
 
 -- ---- threads that have turns in a stratum are live at its start
 
-alive-before : (log : LogParts) (y : Played) (k : ℕ) (js : List ℕ) → ChunkGoes log y k → AreLive (play_now log y (Turn k)) js → AreLive y js
+alive-before : (log : LogParts) (y : Played) (k : ℕ) (js : List ℕ) → ChunkGoes log y k → AreLive (play_turn log y (Turn k)) js → AreLive y js
 alive-before log y k [] c live = tt
 alive-before log y k (j ∷ js) c live = (chunk-live log y k c j live.0, alive-before log y k js c live.1)
 
-pub looked-after : (log : LogParts) (y : Played) (k : ℕ) → ChunkGoes log y k → IsLooked log (play_now log y (Turn k))
+pub looked-after : (log : LogParts) (y : Played) (k : ℕ) → ChunkGoes log y k → IsLooked log (play_turn log y (Turn k))
 looked-after log y k c =
-    let end : play_now log y (Turn k) ≡ settled log y k (Goes c.effect c.used) = play-is log y k c.thread c.effect c.used c.there c.chunk c.goes in
+    let end : play_turn log y (Turn k) ≡ settled log y k (Goes c.effect c.used) = play-is log y k c.thread c.effect c.used c.there c.chunk c.goes in
     subst (IsLooked log) (sym end) refl
 
 pub turns-alive : (log : LogParts) (y : Played) (ks : List ℕ) → IsLooked log y → ChunksGo log y ks → TurnsAre log y ks → AreLive y ks
 turns-alive log y [] looked go turns = tt
 turns-alive log y (k ∷ ks) looked go turns =
     let l : Lives y.threads k = turn-lives log y.progress y.used y.threads k (sym looked ∙ turns.0) in
-    let one : play_one log y ≡ play_now log y (Turn k) = one-turn log y k turns.0 in
-    let rest : AreLive (play_now log y (Turn k)) ks =
-    turns-alive log (play_now log y (Turn k)) ks (looked-after log y k go.0) go.1 (subst (λ (z : Played). TurnsAre log z ks) one turns.1) in (
+    let one : play_one log y ≡ play_turn log y (Turn k) = one-turn log y k turns.0 in
+    let rest : AreLive (play_turn log y (Turn k)) ks =
+    turns-alive log (play_turn log y (Turn k)) ks (looked-after log y k go.0) go.1 (subst (λ (z : Played). TurnsAre log z ks) one turns.1) in (
       (λ t is. ap (λ (u : Parts). is_live u) (same_some t l.thread (sym is ∙ l.is)) ∙ l.live),
       alive-before log y k ks go.0 rest,
     )

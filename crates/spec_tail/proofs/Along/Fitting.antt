@@ -13,7 +13,7 @@ use Rattle.spec_log.specs.declared.LogParts.{LogParts}
 use Rattle.spec_kernel.specs.Interrupts.{is_live}
 use Rattle.spec_kernel.specs.Needs.{next_kind}
 use Rattle.spec_play.specs.Effects.{dma_commit}
-use Rattle.spec_play.specs.Plays.{Played, opened, settled, thread_verdict, play_thread, dma_settled, play_now, play_one, plays, play, FitsImage}
+use Rattle.spec_play.specs.Plays.{Played, opened, settled, thread_verdict, play_thread, dma_settled, play_turn, play_one, plays, play, FitsImage}
 use Rattle.spec_play.specs.Progress.{Progress, position}
 use Rattle.spec_play.specs.Transfers.{DmaVerdict, DmaGoes, DmaFails, dma_verdict}
 use Rattle.spec_play.specs.Turns.{TurnOrEnd, Turn, TurnOfDma, Ended, are_sizes_used, has_left_over, at_end, turn_of_thread, turn_of, next_actor, now_at}
@@ -44,7 +44,7 @@ told-dma : (log : LogParts) (y : Played) (v : DmaVerdict) → IsTold log (dma_se
 told-dma log y (DmaGoes words) n is = is
 told-dma log y (DmaFails why) n is = cc
 
-told-now : (log : LogParts) (y : Played) (now : TurnOrEnd) → IsTold log y → IsTold log (play_now log y now)
+told-now : (log : LogParts) (y : Played) (now : TurnOrEnd) → IsTold log y → IsTold log (play_turn log y now)
 told-now log y (Ended how) told = told
 told-now log y TurnOfDma told = told-dma log y (dma_verdict log y.progress y.used)
 told-now log y (Turn k) told = told-thread log y k (slice_get y.threads k) told
@@ -146,7 +146,7 @@ dma-since log base before z (DmaGoes words) is u =
       ];
     }
 
-now-since : (log : LogParts) (base before : ℕ) (z : Played) (now : TurnOrEnd) → IsUsedSince log base before z → IsUsedSince log base before (play_now log z now)
+now-since : (log : LogParts) (base before : ℕ) (z : Played) (now : TurnOrEnd) → IsUsedSince log base before z → IsUsedSince log base before (play_turn log z now)
 now-since log base before z (Ended how) u = u
 now-since log base before z TurnOfDma u = dma-since log base before z (dma_verdict log z.progress z.used) refl u
 now-since log base before z (Turn k) u = thread-since log base before z k (slice_get z.threads k) u

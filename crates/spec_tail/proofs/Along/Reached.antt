@@ -32,7 +32,7 @@ use Rattle.spec_play.specs.declared.used.Used.{Used}
 use Rattle.spec_play.specs.Turns.{TurnOrEnd, Turn, TurnOfDma, Ended, at_end, turn_of_thread, turn_of, has_left_over, next_actor, now_at}
 use Rattle.spec_play.specs.Verdicts.{LogVerdict, Goes, Fails, unless, interrupt_at, with_interrupted, ended, chunk_why, chunk_verdict, TakenRecord, given, serial_why, served_verdict, serial_verdict}
 use Rattle.spec_play.specs.Transfers.{DmaVerdict, DmaGoes, DmaFails, is_for, transferred, dma_unless, dma_verdict}
-use Rattle.spec_play.specs.Plays.{Played, opened, with_threads, settled, size_or_standard, thread_verdict, play_thread, dma_settled, play_now, play_one, plays}
+use Rattle.spec_play.specs.Plays.{Played, opened, with_threads, settled, size_or_standard, thread_verdict, play_thread, dma_settled, play_turn, play_one, plays}
 use Rattle.spec_play.proofs.Positions.{position-more}
 use Rattle.spec_play.proofs.Going.{EndsOr, over-stays, plays-go}
 use Rattle.spec_play.proofs.Threads.{run-keeps, serve-keeps}
@@ -448,7 +448,7 @@ module _ (log : LogParts) (rising : Rising log.interrupts) where
         handled = r.handled;
       }
 
-  now_reached : (y : Played) (now : TurnOrEnd) → now_at log y.progress y.used y.threads ≡ now → IsReached log y → IsReached log (play_now log y now)
+  now_reached : (y : Played) (now : TurnOrEnd) → now_at log y.progress y.used y.threads ≡ now → IsReached log y → IsReached log (play_turn log y now)
   now_reached y (Ended how) is r = r
   now_reached y TurnOfDma is r = dma_reached y (dma_verdict log y.progress y.used) refl (next-dma log y.progress y.used y.threads is) r
   now_reached y (Turn k) is r = thread_reached y k (slice_get y.threads k) refl (next-named log y.progress y.used y.threads k is) r

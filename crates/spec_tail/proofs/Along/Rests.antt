@@ -184,7 +184,7 @@ was-raised false masked before index e gone = absurd (true≢false gone)
 
 -- ---- the rest of a log
 
--- the log's play is at y, and s is the state there, but for interrupts that are raised later
+-- the log's play is at y, and s is the state there, except for interrupts that are raised later
 module _ (log : LogParts) (y : Played) (s : State) (is : IsArranged log) (reached : IsReached log y) (here : position y.progress ≡ s.commits) (same : (k : ℕ) → begun s.threads k ≡ begun y.threads k) (by_position : filter (λ d. nat_le s.commits d.position) log.dmas ≡ drop y.used.dmas log.dmas) where
   abbrev base : ℕ
   base = s.commits

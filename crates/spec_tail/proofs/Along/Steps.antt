@@ -26,7 +26,7 @@ use Rattle.spec_play.specs.declared.used.Used.{Used}
 use Rattle.spec_play.specs.Turns.{TurnOrEnd, Turn, TurnOfDma, Ended, has_left_over, at_end, turn_of_thread, turn_of, next_actor, now_at}
 use Rattle.spec_play.specs.Verdicts.{LogVerdict, Goes, Fails, unless, interrupt_at, with_interrupted, ended, chunk_why, chunk_verdict, serial_why, TakenRecord, given, served_verdict, serial_verdict}
 use Rattle.spec_play.specs.Transfers.{DmaVerdict, DmaGoes, DmaFails, transferred, dma_unless, dma_verdict}
-use Rattle.spec_play.specs.Plays.{Played, with_threads, settled, size_or_standard, thread_verdict, play_thread, dma_settled, play_now, play_one, plays}
+use Rattle.spec_play.specs.Plays.{Played, with_threads, settled, size_or_standard, thread_verdict, play_thread, dma_settled, play_turn, play_one, plays}
 use Rattle.spec_tail.specs.Playing.{counted_from}
 use Rattle.spec_tail.specs.Promise.{turn_from}
 use Rattle.spec_tail.proofs.Along.Recounted.{recounted, either, run_recounted, run-same, kind-same, need-same, get-counted, live-counted, serve-same}
@@ -326,7 +326,7 @@ module _ (log rest : LogParts) (base : ℕ) (begun : ℕ → ℕ) (before : Used
       ap (λ (n : ℕ). let v : Used = record (after before w.used) { dmas = n } in with_used v (now_at log (progress_lifted base p) v us)) one
       ∙ ap (with_used (after before u)) (now-lifted p u w.threads covers)
 
-  turns-lifted : (w : Played) (now : TurnOrEnd) → w.now ≡ now → IsFit rest begun w → play_now log (lift w) (turn_from base now) ≡ lift (play_now rest w now)
+  turns-lifted : (w : Played) (now : TurnOrEnd) → w.now ≡ now → IsFit rest begun w → play_turn log (lift w) (turn_from base now) ≡ lift (play_turn rest w now)
   turns-lifted w (Ended how) is fit = refl
   turns-lifted w TurnOfDma is fit =
       ap (dma_settled log (lift w)) (transfer-lifted w.progress w.used (fit.turn is))
@@ -375,7 +375,7 @@ module _ (log rest : LogParts) (base : ℕ) (begun : ℕ → ℕ) (before : Used
   thread-fit w k None fit = fit
   thread-fit w k (Some t) fit = settled-fit w k (thread_verdict rest w k t (next_kind t w.memory)) fit
 
-  now-fit : (w : Played) (now : TurnOrEnd) → IsFit rest begun w → IsFit rest begun (play_now rest w now)
+  now-fit : (w : Played) (now : TurnOrEnd) → IsFit rest begun w → IsFit rest begun (play_turn rest w now)
   now-fit w (Ended how) fit = fit
   now-fit w TurnOfDma fit = dma-fit w (dma_verdict rest w.progress w.used) fit
   now-fit w (Turn k) fit = thread-fit w k (slice_get w.threads k) fit

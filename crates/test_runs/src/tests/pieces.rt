@@ -114,8 +114,8 @@ struct Failing {
     said: &'static [u8],
 }
 
-// A log of two pieces is read by three calls, the last at its end; if its first field is bad, the second piece is never
-// asked for.
+// A log of two pieces is read by three calls, the last at its end, and then by none: so the next call writes, or isn't made. If
+// the log's first field is bad, the second piece is never asked for.
 const FAILING: &[Failing] = &[
     Failing {
         words: INSPECT,
@@ -176,6 +176,30 @@ const FAILING: &[Failing] = &[
         call: 0,
         status: Status::Fault,
         said: b"fault made.elf\n",
+    },
+    Failing {
+        words: &["migrate", "loop.log", "new.log"],
+        call: 3,
+        status: Status::Fault,
+        said: b"fault new.log\n",
+    },
+    Failing {
+        words: &["interval", "loop.elf", "4096", "loop.log", "9", "0", "9"],
+        call: 3,
+        status: Status::Fault,
+        said: b"fault loop.log\n",
+    },
+    Failing {
+        words: &["strata", "loop.elf", "4096", "loop.log", "a.strata"],
+        call: 4,
+        status: Status::Fault,
+        said: b"fault a.strata\n",
+    },
+    Failing {
+        words: &["when", "loop.elf", "4096", "loop.log", "0", "111"],
+        call: 4,
+        status: Status::Done,
+        said: b"none\n",
     },
     Failing {
         words: &["inspect", "bad.log"],

@@ -4,7 +4,7 @@ use Rattle.spec_log.specs.declared.log.LogParts.{LogParts}
 use Rattle.spec_play.specs.Resuming.{IsBounded}
 use Rattle.spec_play.specs.States.{progress_from}
 use Rattle.dl_kernel.specs.States.{state_in}
-use Rattle.dl_replay.specs.Following.{Following, now_seen}
+use Rattle.dl_replay.specs.Following.{Following, turn_seen}
 use Rattle.dl_replay.specs.Replays.{IsReplaying}
 use Rattle.dl_replay.proofs.Advancing.{agrees-self, followed-is, goes-on}
 use Rattle.dl_replay.proofs.replayer.Replayer.at.Goals as goal
@@ -17,5 +17,5 @@ returns-clause-at g c =
     let is = subst (λ (x : LogParts). IsLog x) (sym same) c.in_ok-log.ensures.log in
     let bounded = subst (λ (x : LogParts). IsBounded x (state_in s)) (sym same) c.requires.state in
     let turn = c.now_in-turn.ensures (progress_from (state_in s)) (agrees-self s) in
-    subst (λ (x : Following). IsReplaying x s) (sym (followed-is log c.args.interval s (now_seen c.now_in-turn.result) turn))
+    subst (λ (x : Following). IsReplaying x s) (sym (followed-is log c.args.interval s (turn_seen c.now_in-turn.result) turn))
     (goes-on log c.args.interval None s is bounded c.requires.request tt)

@@ -1,12 +1,19 @@
-use Rattle.std.proofs.Common.{sym, ◌∙◌}
-use Rattle.dl_sphere.proofs.Replays.Takes.{free_head, head_free}
+use Rattle.std.proofs.Common.{◌≡◌, None, sym, subst, ap, ◌∙◌}
+use Rattle.spec_protocol.specs.machine.Spheres.{Role, turn_against, turn_in}
+use Rattle.dl_sphere.specs.declared.part.Part.{Part}
+use Rattle.dl_sphere.specs.Roles.{role_in}
+use Rattle.dl_sphere.specs.SizedSpheres.{SizedSphere}
 use Rattle.dl_sphere.proofs.sphere.Sphere.takes.Goals as goal
 
-pub returns-else-joins_in : goal.returns-else-joins_in
-returns-else-joins_in c =
+pub returns-in-Replayed : goal.returns-in-Replayed
+unfolding turn_against
+returns-in-Replayed c =
+    let a = c.self.inside in
+    let r = c.in-Replayed.replay in
     let p = c.args.self.now.sphere in
-    let actor = c.args.actor in
-    let out = sym c.joins_in.ensures ∙ c.if-joins_in.false in (
-      λ is. head_free p actor c.requires.replays out (sym c.head.ensures ∙ c.is_of.ensures.0 is),
-      λ free. c.is_of.ensures.1 (c.head.ensures ∙ free_head p actor c.requires.replays c.requires.going out free),
+    let here = c.takes.ensures a.past.state.used r.loads.items p in
+    let same : role_in a.past.state.used (Part.Replayed r) ≡ p.role =
+    sym (ap (λ (x : Part). role_in a.past.state.used x) c.in-Replayed.is) ∙ ap (λ (v : SizedSphere). v.sphere.role) c.self.view_is in (
+      λ is. subst (λ (role : Role). turn_in role p c.args.actor ≡ None) same (here.0 is),
+      λ free. here.1 (subst (λ (role : Role). turn_in role p c.args.actor ≡ None) (sym same) free),
     )

@@ -4,7 +4,7 @@ use Rattle.std.proofs.lemmas.Bool.{true≢false}
 use Rattle.spec_strata.specs.declared.touch.Touch.{Touch}
 use Rattle.spec_strata.specs.declared.touch.Touch.TheVariants.{Untouched}
 use Rattle.spec_play.specs.Turns.{Turn}
-use Rattle.spec_play.specs.Plays.{play_now}
+use Rattle.spec_play.specs.Plays.{play_turn}
 use Rattle.spec_strata.specs.declared.stratum.Stratum.TheVariants.{Chunks}
 use Rattle.spec_strata.specs.Making.{Cuts, chunk_cut}
 use Rattle.dl_strata.specs.Tables.{Table}
@@ -24,7 +24,7 @@ returns-in_default-clause-cut c log y x next cut =
     let none : i.present ≡ None = sym c.in_default.ensures.value in
     let same = count ∙ first-cut old log y x k here none in
     on-ok c.begin.result _ _
-    (λ b. subst (λ (w : Cuts). HasCut c.begin.new.self (play_now log y (Turn k)) w) (sym same)
+    (λ b. subst (λ (w : Cuts). HasCut c.begin.new.self (play_turn log y (Turn k)) w) (sym same)
     (begins-cut old c.begin.new.self i.strata c.take.new.self log y x k f l next here (sym (ap (closed_strata i.strata) none)) b))
     c.begin.ensures
 
@@ -39,7 +39,7 @@ returns-then-joins-clause-cut c log y x next cut =
     let count = ap (λ (v : Cutting). chunk_cut v.counted log y k x) (sym c.self.view_is) in
     let some : i.present ≡ Some c.in-Some.counts = sym c.in-Some.ensures.value in
     let can = c.if-joins.ensures.joins.0 refl in
-    subst (λ (w : Cuts). HasCut c.count.new.self (play_now log y (Turn k)) w) (sym count)
+    subst (λ (w : Cuts). HasCut c.count.new.self (play_turn log y (Turn k)) w) (sym count)
     (joins-cut old c.count.new.self c.take.new.self log y x k f c.in-Some.counts l next here some can.0 can.1 c.count.ensures)
 
 pub returns-clause-cut : goal.returns-clause-cut
@@ -54,7 +54,7 @@ returns-clause-cut c log y x next cut =
     let some : i.present ≡ Some c.in-Some.counts = sym c.in-Some.ensures.value in
     let same = count ∙ apart-cut old log y x k f c.in-Some.counts l next here some c.if-joins.ensures.most (λ p. true≢false (sym (c.if-joins.ensures.joins.1 p))) in
     on-ok c.begin-2.result _ _
-    (λ b. subst (λ (w : Cuts). HasCut c.begin-2.new.self (play_now log y (Turn k)) w) (sym same)
+    (λ b. subst (λ (w : Cuts). HasCut c.begin-2.new.self (play_turn log y (Turn k)) w) (sym same)
     (begins-cut old c.begin-2.new.self (i.strata ++ Chunks c.in-Some.counts ∷ []) c.take.new.self log y x k f l next here (sym (ap (closed_strata i.strata) some))
     (subst (λ (v : Cutting).
     let t : Table = record { stratum = v.table.stratum + 1; touches = map (λ (t : Touch). Untouched) v.table.touches } in
