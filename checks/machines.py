@@ -297,16 +297,23 @@ NO_STRATA = Machine(
     "strata-diverged", {"a.elf": EXIT, "a.log": SHORT_LOG}, [], ["strata", "a.elf", "4096", "a.log", "a.strata"], 1,
 )
 
+
+def strata(*each):
+    """A file of these strata, in hexadecimal, with the sizes of the chunks of that log."""
+    return bytes.fromhex(
+        f"44 4C 52 53 01 02 0F 00 64 00 00 00 {len(each):02X} 00 00 00" + "".join(each)
+        + "03 00 00 00  00 00 00 00 00 03 00 00 00  00 02 00 00 00 02 00 00 00  01 00 00 00 00 03 00 00 00" + "00" * 12
+    )
+
+
 # those strata replayed, in pieces, by two cores
+SIX_STRATA = strata("00 01 00", "01 00", "00 00 01", "00 01 00", "01 00", "01 01")
 IN_STRATA = Machine(
     "in-strata",
     {
         "plan.toml": plan(REPLAYED.replace('log = "a.log"', 'strata = "a.strata"'), cores=2, buffer=1),
         "a.elf": RACE.files["a.elf"],
-        "a.strata": bytes.fromhex(
-            "44 4C 52 53 01 02 0F 00 64 00 00 00 06 00 00 00  00 01 00  01 00  00 00 01  00 01 00  01 00  01 01"
-            "03 00 00 00  00 00 00 00 00 03 00 00 00  00 02 00 00 00 02 00 00 00  01 00 00 00 00 03 00 00 00" + "00" * 12
-        ),
+        "a.strata": SIX_STRATA,
         "s.txt": script("step 0", "place 1 0 1", "step 1"),
     },
     ["b.txt", "r.txt"],
@@ -315,8 +322,7 @@ IN_STRATA = Machine(
 MACHINES = [
     THREE, TWO_CHUNKS, RACE, WIDE, EPOCHS, PIECES, WIDE_PIECES, DMA, DMA_EPOCHS, INTERRUPT, INTERRUPT_EPOCHS, CONSOLE, DIVERGED,
     PART, LATE, PIPE, INSPECT, INSPECT_WIDE, WALK, WATCH, WHO, WHEN, INTERVAL, LATE_INTERVAL, *TAILS, MIGRATE, MIGRATE_WIDE,
-    STRATA, NO_STRATA, IN_STRATA, MAKE,
-    ASM,
+    STRATA, NO_STRATA, IN_STRATA, MAKE, ASM,
 ]
 
 
@@ -324,6 +330,11 @@ def refused(name, status, **files):
     """The least recording with another of its files."""
     other = {file.replace("_", "."): data for file, data in files.items()}
     return Machine(name, {**THREE.files, **other}, RECORDING, status=status)
+
+
+def refused_strata(name, data):
+    """Those strata spoiled."""
+    return Machine(name, {**IN_STRATA.files, "a.strata": data}, IN_STRATA.writes, status=5)
 
 
 REFUSED = [
@@ -336,6 +347,9 @@ REFUSED = [
     Machine("wrong-log", {"a.log": LOG + b"\0"}, [], ["inspect", "a.log"], 5),
     Machine("wrong-threads", {"a.log": WIDE_LOG[:6] + b"\x10" + WIDE_LOG[7:]}, ["b.log"], ["migrate", "a.log", "b.log"], 5),
     Machine("wrong-tail", {"a.tail": DMA_TAIL + b"\0"}, [], ["tail", "a.tail"], 5),
+    refused_strata("wrong-strata", SIX_STRATA + b"\0"),
+    refused_strata("strata-in-conflict", strata("00 01 00", "01 00", "00 01 01", "01 00", "01 01")),
+    refused_strata("strata-that-do-not-fit", strata("00 01 00", "01 01")),
     refused("wrong-script", 5, s_txt=b"step 0\nstep x\n"),
     Machine("failed-write", THREE.files, RECORDING, status=6, folders=["a.txt"]),
     Machine("wrong-source", {"a.s": b"addi x1, x0, 2048\n"}, ["x.elf"], ["asm", "a.s", "x.elf"], 9),

@@ -78,12 +78,17 @@ def read_log(data):
         sizes = [f.number(width, s) for _ in range(count)]
     else:
         sizes = dict(f.rising(lambda: (moment(), f.number(width, s, 1))))
+    return Log(version, threads, mode, s, count, order, sizes, *read_records(f, moment))
+
+
+def read_records(f, moment):
+    """The last sections: interrupts, inputs and DMAs; and nothing comes after them. `moment` reads a thread and an index."""
     interrupts = dict(f.rising(lambda: (moment(), f.number(4))))
     inputs = [Input(f.one_of(1, KINDS), f.number(4), f.take(f.number(2, 4096))) for _ in range(f.number(4))]
     dmas = f.rising(lambda: (f.number(4), f.take(f.number(2, 4096))))
     if f.at < len(f.data):
         raise Malformed(7, f.at)
-    return Log(version, threads, mode, s, count, order, sizes, interrupts, inputs, dmas)
+    return interrupts, inputs, dmas
 
 
 def _nibbles_order(f, entries):
