@@ -1,4 +1,4 @@
--- A DMA answers what it comes to, and without a request there is none except in a replay.
+-- A DMA answers what it comes to. Without a request only a replay has one.
 use Rattle.std.proofs.Common.{◌≡◌, ℕ, false, Option, Some, None, List, refl, sym, ap, ◌∙◌, subst}
 use Rattle.dl_entry.specs.declared.Request.{Request}
 use Rattle.spec_isa.specs.Words.{Stored}

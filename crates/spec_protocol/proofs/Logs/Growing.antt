@@ -239,7 +239,7 @@ set_none (t ∷ ts) zero (suc j) u e = e
 set_none (t ∷ ts) (suc k) zero u e = e
 set_none (t ∷ ts) (suc k) (suc j) u e = set_none ts k j u e
 
--- there is no thread j if there is none with others after
+-- a list has no thread j if a longer one has none
 pub append_none : (ts spawned : List Parts) (j : ℕ) → slice_get (ts ++ spawned) j ≡ None → slice_get ts j ≡ None
 append_none [] spawned j e = refl
 append_none (t ∷ ts) spawned zero e = e
