@@ -2,6 +2,7 @@
 
 mod accounts;
 mod assembling;
+mod instructions;
 mod log_bytes;
 mod log_lines;
 mod log_reading;
@@ -9,8 +10,13 @@ mod log_versions;
 mod log_writing;
 mod logs;
 mod making;
+mod plan_keys;
+mod plan_limits;
+mod plan_names;
+mod plan_roles;
 mod plans;
 mod reports;
+mod source_rules;
 mod strata_bytes;
 mod summaries;
 mod tail_bytes;

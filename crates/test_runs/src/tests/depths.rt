@@ -1,5 +1,6 @@
 //! Runs of machines whose plan has a depth. What is written comes from outside the code.
-use super::{Case, IMAGE, RUN, come_out};
+use super::recording::IMAGE;
+use super::{Case, RUN, come_out};
 use spec_program::status::Status;
 use std::test::Fail;
 

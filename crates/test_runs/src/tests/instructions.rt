@@ -1,5 +1,6 @@
 //! Recordings of instructions at their edge cases.
-use super::{PLAN, RUN, answer_in_memory, holds};
+use super::recording::PLAN;
+use super::{RUN, answer_in_memory, holds};
 use dl_files::{Files, GoodFiles, GoodSink};
 use spec_program::status::Status;
 use std::alloc::Global;

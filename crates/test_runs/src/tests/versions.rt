@@ -1,5 +1,6 @@
 //! Logs of both versions: what is recorded, migrated, replayed and walked. What is written comes from outside the code.
-use super::{Case, IMAGE, RUN, SCRIPT, come_out, comes_out};
+use super::recording::{IMAGE, SCRIPT};
+use super::{Case, RUN, come_out, comes_out};
 use spec_program::status::Status;
 use std::test::Fail;
 
