@@ -36,3 +36,11 @@ numbered_read text old xs i x here read =
 pub numbered_read_on : {X : Type 0} (text : ℕ → X → List ℕ) (n : ℕ) (old : List ℕ) (xs : List X) (i : ℕ) (x : X) → i < length xs → x ≡ get_or xs i x → old ++ numbered text n (take i xs) ++ text (n + i) x ≡ old ++ numbered text n (take (i + 1) xs)
 numbered_read_on text n old xs i x here read =
     ap (λ (y : _). old ++ numbered text n (take i xs) ++ text (n + i) y) read ∙ numbered_on text n old xs i x here
+
+-- the text of entries after others has the numbers after those before it
+pub numbered-append : {X : Type 0} (text : ℕ → X → List ℕ) (n : ℕ) (xs ys : List X) → numbered text n (xs ++ ys) ≡ numbered text n xs ++ numbered text (n + length xs) ys
+numbered-append text n [] ys = ap (λ (k : ℕ). numbered text k ys) (omega arith)
+numbered-append text n (x ∷ xs) ys =
+    ap (λ (rest : List ℕ). text n x ++ rest) (numbered-append text (n + 1) xs ys)
+    ∙ ap (λ (k : ℕ). text n x ++ (numbered text (n + 1) xs ++ numbered text k ys)) (omega arith)
+    ∙ sym (append_assoc (text n x) (numbered text (n + 1) xs) (numbered text (n + length (x ∷ xs)) ys))

@@ -6,3 +6,4 @@ pub mod Report
 pub mod Commits
 pub mod States
 pub mod Account
+pub mod CommitLists

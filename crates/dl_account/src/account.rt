@@ -1,15 +1,17 @@
 //! The account of a sphere: its commits, and its state if its replay did not diverge.
 ghost use Rattle.std.specs.Prelude.{◌≡◌, ◌++◌, codes, flat_map, OnOk, IfOk};
 ghost use Rattle.dl_account.specs.Account.{account_of, end_fields, final_lines};
+ghost use Rattle.dl_account.specs.CommitLists.{commits_in};
 ghost use Rattle.dl_account.specs.Lines.{line, spaced};
 ghost use Rattle.dl_account.specs.States.{request_lines, state_lines};
 
+use crate::commit_lists::CommitLists;
 use crate::commits::{put_commits, room_for};
 use crate::memory::put_memory;
 use crate::replays::put_diverged;
 use crate::text::Text;
 use crate::threads::put_threads;
-use dl_entry::{Commit, End, OutOfMemory, Request};
+use dl_entry::{End, OutOfMemory, Request};
 use dl_mem::Memory;
 use dl_thread::Threads;
 use std::alloc::Global;
@@ -19,7 +21,7 @@ use std::alloc::Global;
 /// the number `first` in the sphere's log.
 pub fn account_text(
     alloc: Global,
-    commits: &[Commit],
+    commits: CommitLists<'_>,
     threads: &Threads,
     request: &Option<Request>,
     memory: &Memory,
@@ -27,7 +29,7 @@ pub fn account_text(
     first: u32,
 ) -> Result<Vec<u8>, OutOfMemory>
     ensures { IfOk result (λ text.
-        text.items ≡ account_of first commits.now threads.now request.now memory.now end.now) }
+        text.items ≡ account_of first (commits_in commits.entry) threads.now request.now memory.now end.now) }
 {
     let mut text = Text::with_room(alloc, room_for(commits))?;
     put_commits(&mut text, first, commits)?;

@@ -1,9 +1,11 @@
 //! The lines of commits: each one, its loads and its outputs.
-ghost use Rattle.std.specs.Prelude.{◌≡◌, [], ◌∷◌, ◌++◌, codes, decimal, flat_map, OnOk};
+ghost use Rattle.std.specs.Prelude.{◌≡◌, [], ◌∷◌, ◌++◌, ◌+◌, codes, decimal, flat_map, length, IfOk, OnOk};
+ghost use Rattle.dl_account.specs.CommitLists.{commits_in};
 ghost use Rattle.dl_account.specs.Commits.{commit_lines, load_line, output_line};
 ghost use Rattle.dl_account.specs.Lines.{line, numbered};
 ghost use Rattle.dl_entry.specs.Actor.{code};
 
+use crate::commit_lists::CommitLists;
 use crate::text::{Text, high_digit, low_digit};
 use dl_entry::{Commit, Load, OutOfMemory, Output};
 
@@ -11,7 +13,15 @@ use dl_entry::{Commit, Load, OutOfMemory, Output};
 const LINE: usize = 20;
 
 // How many bytes the lines of commits take, or a few more, if none has an output: so a text with this room seldom grows.
-pub(crate) fn room_for(commits: &[Commit]) -> usize {
+pub(crate) fn room_for(commits: CommitLists<'_>) -> usize {
+    let mut room = room_for_list(commits.whole);
+    for list in commits.by_thread {
+        room = room.saturating_add(room_for_list(list));
+    }
+    room
+}
+
+fn room_for_list(commits: &[Commit]) -> usize {
     let mut room: usize = 0;
     for commit in commits {
         room = room.saturating_add(commit.loads.len().saturating_add(1).saturating_mul(LINE));
@@ -23,14 +33,30 @@ pub(crate) fn room_for(commits: &[Commit]) -> usize {
 pub(crate) fn put_commits(
     text: &mut Text,
     first: u32,
-    commits: &[Commit],
+    commits: CommitLists<'_>,
 ) -> Result<(), OutOfMemory>
-    ensures { OnOk result (text.new ≡ text.old ++ numbered commit_lines first commits.now) }
+    ensures { OnOk result (text.new ≡ text.old ++ numbered commit_lines first (commits_in commits.entry)) }
 {
-    for (index, commit) in commits.iter().enumerate() {
-        put_commit(text, first as u64 + index as u64, commit)?;
+    let mut number = put_list(text, u64::from(first), commits.whole)?;
+    for list in commits.by_thread {
+        number = put_list(text, number, list)?;
     }
     Ok(())
+}
+
+// The lines of each commit of a list, the first of which has that number, and the number after them.
+fn put_list(text: &mut Text, number: u64, commits: &[Commit]) -> Result<u64, OutOfMemory>
+    ensures lines { OnOk result (text.new ≡ text.old ++ numbered commit_lines number commits.now) }
+    ensures next { IfOk result (λ next. next ≡ number + length commits.now) }
+{
+    // the lines of so many commits fit no memory
+    let Some(next) = number.checked_add(commits.len() as u64) else {
+        return Err(OutOfMemory);
+    };
+    for (index, commit) in commits.iter().enumerate() {
+        put_commit(text, number + index as u64, commit)?;
+    }
+    Ok(next)
 }
 
 fn put_commit(text: &mut Text, number: u64, commit: &Commit) -> Result<(), OutOfMemory>

@@ -2,6 +2,7 @@
 #![tactic(auto)]
 
 mod account;
+mod commit_lists;
 mod commits;
 mod memory;
 mod replays;
@@ -12,6 +13,7 @@ mod text;
 mod threads;
 
 pub use account::account_text;
+pub use commit_lists::CommitLists;
 pub use dl_entry::{Commit, Counts, End, OutOfMemory, Point, Request, SphereLine};
 pub use dl_mem::Memory;
 pub use dl_thread::Threads;

@@ -6,7 +6,7 @@ ghost use Rattle.dl_gather.specs.Halts.{Halts, IsNotUsage};
 ghost use Rattle.dl_commands.specs.Jobs.{IsJobOf, finish_of};
 
 use crate::job::{Job, said};
-use dl_account::account_text;
+use dl_account::{CommitLists, account_text};
 use dl_entry::{End, OutOfMemory};
 use dl_files::Files;
 use dl_gather::{Halt, read_good_tail};
@@ -35,7 +35,7 @@ fn tell_tail(alloc: Global, tail: &Tail) -> Result<Job, OutOfMemory>
     let end = end_of(walked.end);
     let text = account_text(
         alloc,
-        walked.commits.as_slice(),
+        CommitLists::of(walked.commits.as_slice()),
         &walked.state.threads,
         &walked.state.request,
         &walked.state.memory,

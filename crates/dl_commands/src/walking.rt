@@ -11,7 +11,7 @@ ghost use Rattle.dl_commands.specs.Jobs.{IsJobOf, finish_of};
 ghost use Rattle.dl_commands.specs.Walks.{HasEnded};
 
 use crate::job::{Job, said};
-use dl_account::account_text;
+use dl_account::{CommitLists, account_text};
 use dl_entry::{End, OutOfMemory};
 use dl_files::Files;
 use dl_gather::{Halt, PlaybackRead, read_playback};
@@ -44,7 +44,7 @@ fn walk_whole(alloc: Global, read: &PlaybackRead) -> Result<Job, OutOfMemory>
     let end = whole_end(walked.end);
     let text = account_text(
         alloc,
-        walked.commits.as_slice(),
+        CommitLists::of(walked.commits.as_slice()),
         &walked.state.threads,
         &walked.state.request,
         &walked.state.memory,

@@ -42,11 +42,7 @@ pub fn replaying_setup(alloc: Global, number: u32, log: Log) -> Result<Setup, Ou
     ensures value { IfOk result (λ s. setup_in s ≡ replaying number) }
     ensures within { IfOk result IsWithin }
 {
-    let role = Role::Replay(Replay {
-        log,
-        begun: None,
-        strata: None,
-    });
+    let role = Role::Replay(Replay::Log { log, begun: None });
     let spheres = one_sphere(alloc, number, role)?;
     Ok(Setup {
         cores: 1,

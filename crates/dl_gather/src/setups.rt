@@ -85,11 +85,7 @@ fn role_of(alloc: Global, number: usize, image: &Image, role: RoleInputs) -> Res
         RoleInputs::Replay { log, from, to } => {
             let log = good_log(alloc, number, log)?;
             let begun = begun_of(alloc, image, &log, interval_of(from, to, log.parts().count))?;
-            Ok(Role::Replay(Replay {
-                log,
-                begun,
-                strata: None,
-            }))
+            Ok(Role::Replay(Replay::Log { log, begun }))
         }
         RoleInputs::InStrata { strata } => role_in_strata(alloc, number, image, &strata),
     }

@@ -14,7 +14,7 @@ use crate::halt::Halt;
 use crate::lines::bad_strata_line;
 use dl_elf::Image;
 use dl_sphere::{Replay, Role};
-use dl_strata::{CheckError, Strata, StrataError, canonical_log, check_strata, read_strata};
+use dl_strata::{CheckError, Strata, StrataError, check_strata, read_strata};
 use spec_program::status::Refusal;
 use std::alloc::Global;
 
@@ -32,12 +32,7 @@ pub fn role_in_strata(
 {
     let strata = good_strata(alloc, sphere, bytes)?;
     check(alloc, sphere, image, &strata)?;
-    let log = canonical_log(alloc, &strata)?;
-    Ok(Role::Replay(Replay {
-        log,
-        begun: None,
-        strata: Some(strata),
-    }))
+    Ok(Role::Replay(Replay::Strata(strata)))
 }
 
 // The strata in these bytes.

@@ -1,3 +1,4 @@
+pub mod Joined
 pub mod Causes
 pub mod Spans
 pub mod Rows

@@ -5,3 +5,4 @@ pub mod Outside
 pub mod StepResults
 pub mod Threads
 pub mod States
+pub mod InOrder

@@ -3,9 +3,11 @@
 #![tactic(auto)]
 
 mod answering;
+mod by_thread;
 mod calls;
 mod commits;
 mod copying;
+mod in_order;
 mod inside;
 mod need;
 mod outside;
@@ -23,6 +25,7 @@ pub use dl_dev::Devices;
 pub use dl_entry::{Input, OutOfMemory, Request};
 pub use dl_mem::{Memory, Snapshot};
 pub use dl_thread::{Thread, Threads};
+pub use in_order::InOrder;
 pub use inside::sphere_call;
 pub use outside::{outside_call, outside_record, outside_take};
 pub use past::Past;

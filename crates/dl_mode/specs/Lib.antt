@@ -4,3 +4,4 @@ pub mod Lists
 pub mod Logged
 pub mod Since
 pub mod Whole
+pub mod Strata

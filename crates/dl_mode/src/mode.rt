@@ -1,5 +1,5 @@
-//! What each mode of recording does.
-ghost use Rattle.std.specs.Prelude.{◌≡◌, ◌^◌, ◌<◌, take, IfOk, IsOk, IsTrue, OnOk, OnErr};
+//! What each mode does: three modes of recording, and strata.
+ghost use Rattle.std.specs.Prelude.{◌≡◌, ◌^◌, ◌<◌, None, Option, take, option_map, IfOk, IsOk, IsTrue, OnOk, OnErr};
 ghost use Rattle.dl_entry.specs.Numbers.{most_threads};
 ghost use Rattle.spec_log.specs.declared.mode_name.ModeName.{ModeName};
 ghost use Rattle.spec_log.specs.Log.{IsActor};
@@ -8,19 +8,24 @@ ghost use Rattle.dl_mode.specs.Counts.{counted, done_by};
 ghost use Rattle.dl_mode.specs.Lists.{lists_of, AreLists};
 ghost use Rattle.dl_mode.specs.Since.{kept_since};
 ghost use Rattle.dl_mode.specs.Logged.{Logged, note_of};
+ghost use Rattle.dl_mode.specs.Strata.{AreFewIf, after_commit, comes_last, head_at, is_head, takes_at};
+ghost use Rattle.spec_strata.specs.Standing.{Standing, place_of};
 
 use crate::lists::Lists;
 use dl_entry::{Actor, Commit, OutOfMemory};
 use spec_log::ModeName;
 use std::alloc::Global;
 
-/// A mode of recording: what a log of it says of the next commit and of its size.
+/// A mode: what a log of it says of the next commit and of its size. Strata stand in place of a log's order, and know how far
+/// they have come.
 pub trait Mode {
     type Log: Drop;
 
     ghost mode: { ModeName };
 
     ghost logged: { Self.Log → Logged };
+
+    ghost strata: { Self.Log → Option Standing };
 
     /// The mode's name.
     fn name() -> ModeName
@@ -40,7 +45,8 @@ pub trait Mode {
         ensures { let kept = (logged log.now).kept in result ≡ sizes_used kept.order kept.sizes done.now };
 
     /// Whose commit comes at a position, told whether a DMA commits there, which thread committed last, and which are live.
-    /// Of these no more are looked at than a log can name.
+    /// Of these no more are looked at than a log can name. In strata it is the least thread with chunks left in the present
+    /// stratum, or the actor that is there.
     fn head(
         log: &Self::Log,
         position: u32,
@@ -48,7 +54,26 @@ pub trait Mode {
         last: Option<u8>,
         live: &[bool],
     ) -> Option<Actor>
-        ensures { result ≡ kept_head mode (logged log.now).kept.order position dma last (take most_threads live.now) };
+        ensures { result ≡ head_at (strata log.now)
+            (kept_head mode (logged log.now).kept.order position dma last (take most_threads live.now)) };
+
+    /// Whether an actor may commit, told who the head is: in a log the head alone; in strata also a thread that has chunks left
+    /// in the present stratum.
+    fn takes(log: &Self::Log, head: Option<Actor>, actor: Actor) -> bool
+        ensures { result ≡ takes_at (strata log.now) head actor };
+
+    /// How many of the commits that are done come before a thread's next one in the order of the account; none if all do, as in
+    /// a log.
+    fn place(log: &Self::Log, thread: u8) -> Option<u32>
+        ensures { result ≡ option_map (place_of thread) (strata log.now) };
+
+    /// Strata go on after an actor's commit. Whether none of the commits that were done comes after it in the order of the
+    /// account; in a log none does.
+    fn advance(log: &mut Self::Log, actor: Actor) -> bool
+        requires { AreFewIf (strata log.old) }
+        ensures kept { (logged log.new).kept ≡ (logged log.old).kept }
+        ensures strata { strata log.new ≡ option_map (after_commit actor) (strata log.old) }
+        ensures last { result ≡ comes_last (strata log.old) actor };
 }
 
 /// A mode in which commits are noted, so that its log grows: it keeps what a replay needs of their order and sizes.
@@ -86,11 +111,23 @@ pub trait Noting: Mode {
     fn from_lists(alloc: Global, lists: &Lists) -> Result<Self::Log, OutOfMemory>
         requires { AreLists Self.mode lists.now }
         ensures lists { IfOk result (λ log. lists_of Self.mode (Self.logged log).kept ≡ lists.now) }
-        ensures done { IfOk result (λ log. (Self.logged log).kept.done ≡ counted lists.now.order) };
+        ensures done { IfOk result (λ log. (Self.logged log).kept.done ≡ counted lists.now.order) }
+        ensures strata { IfOk result (λ log. Self.strata log ≡ None) };
+}
+
+/// Whether an actor is the head.
+pub fn is_head(head: Option<Actor>, actor: Actor) -> bool
+    ensures { result ≡ is_head head actor }
+{
+    match (head, actor) {
+        (Some(Actor::Thread(head)), Actor::Thread(thread)) => head == thread,
+        (Some(Actor::Dma), Actor::Dma) => true,
+        (Some(_) | None, _) => false,
+    }
 }
 
 /// The limit of a chunk with this logged size.
-pub(crate) fn limit_of(s: u32, size: Option<u32>) -> u32
+pub fn limit_of(s: u32, size: Option<u32>) -> u32
     ensures { result ≡ limit_by s size }
 {
     match size {

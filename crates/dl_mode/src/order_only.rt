@@ -1,9 +1,9 @@
 //! Order-only: the order of commits, and the sizes of short chunks.
-ghost use Rattle.std.specs.Prelude.{◌≡◌};
+ghost use Rattle.std.specs.Prelude.{None, ◌≡◌};
 ghost use Rattle.spec_log.specs.declared.mode_name.ModeName.TheVariants.{OrderOnly as ByOrder};
 
 use crate::lists::Lists;
-use crate::mode::{Mode, Noting, limit_of};
+use crate::mode::{Mode, Noting, is_head, limit_of};
 use crate::thread_sizes::ThreadSizes;
 use dl_entry::{Actor, Commit, OutOfMemory};
 use spec_log::{ModeName, Order, Sizes};
@@ -43,6 +43,8 @@ impl Mode for OrderOnly {
 
     ghost logged = { λ log. log };
 
+    ghost strata = { λ log. None };
+
     fn name() -> ModeName {
         ModeName::OrderOnly
     }
@@ -70,6 +72,18 @@ impl Mode for OrderOnly {
         _: &[bool],
     ) -> Option<Actor> {
         log.order.get(position as usize).copied()
+    }
+
+    fn takes(_: &OrderOnlyLog, head: Option<Actor>, actor: Actor) -> bool {
+        is_head(head, actor)
+    }
+
+    fn place(_: &OrderOnlyLog, _: u8) -> Option<u32> {
+        None
+    }
+
+    fn advance(_: &mut OrderOnlyLog, _: Actor) -> bool {
+        true
     }
 }
 

@@ -1,5 +1,5 @@
 //! Order-size: the order of commits, and the size of each.
-ghost use Rattle.std.specs.Prelude.{◌≡◌, ◌+◌, ◌^◌, ◌<◌, Bool, fold, IfOk, IsOk, IsTrue, OnOk, OnErr};
+ghost use Rattle.std.specs.Prelude.{None, ◌≡◌, ◌+◌, ◌^◌, ◌<◌, Bool, fold, IfOk, IsOk, IsTrue, OnOk, OnErr};
 ghost use Rattle.spec_log.specs.declared.mode_name.ModeName.TheVariants.{OrderSize as BySize};
 ghost use Rattle.dl_entry.specs.Numbers.{most_threads};
 ghost use Rattle.spec_log.specs.Log.{IsActor};
@@ -10,7 +10,7 @@ ghost use Rattle.dl_mode.specs.Logged.{note};
 ghost use Rattle.spec_log.specs.declared.sizes.Sizes.TheVariants.{Each};
 
 use crate::lists::Lists;
-use crate::mode::{Mode, Noting, limit_of};
+use crate::mode::{Mode, Noting, is_head, limit_of};
 use crate::thread_sizes::{ThreadSizes, count_of};
 use dl_entry::{Actor, Commit, MOST_THREADS, OutOfMemory, Sequence};
 use dl_moments::THREADS;
@@ -98,6 +98,8 @@ impl Mode for OrderAndSize {
 
     ghost logged = { λ log. log };
 
+    ghost strata = { λ log. None };
+
     fn name() -> ModeName {
         ModeName::OrderSize
     }
@@ -131,6 +133,18 @@ impl Mode for OrderAndSize {
         _: &[bool],
     ) -> Option<Actor> {
         log.order.get(position as usize).copied()
+    }
+
+    fn takes(_: &OrderSizeLog, head: Option<Actor>, actor: Actor) -> bool {
+        is_head(head, actor)
+    }
+
+    fn place(_: &OrderSizeLog, _: u8) -> Option<u32> {
+        None
+    }
+
+    fn advance(_: &mut OrderSizeLog, _: Actor) -> bool {
+        true
     }
 }
 

@@ -1,11 +1,11 @@
 //! Picolog: no order, since threads take turns, and the sizes of short chunks.
-ghost use Rattle.std.specs.Prelude.{◌≡◌, ◌<◌, ◌≤◌, length, take, IfSome};
+ghost use Rattle.std.specs.Prelude.{None, ◌≡◌, ◌<◌, ◌≤◌, length, take, IfSome};
 ghost use Rattle.dl_entry.specs.Numbers.{most_threads};
 ghost use Rattle.spec_log.specs.declared.mode_name.ModeName.TheVariants.{Picolog as ByTurn};
 ghost use Rattle.spec_log.specs.Head.{turn as turn_of, first_live as first_of, next_live as next_of};
 
 use crate::lists::Lists;
-use crate::mode::{Mode, Noting, limit_of};
+use crate::mode::{Mode, Noting, is_head, limit_of};
 use crate::thread_sizes::ThreadSizes;
 use dl_entry::{Actor, Commit, OutOfMemory};
 use dl_moments::THREADS;
@@ -44,6 +44,8 @@ impl Mode for PicoLog {
 
     ghost logged = { λ log. log };
 
+    ghost strata = { λ log. None };
+
     fn name() -> ModeName {
         ModeName::Picolog
     }
@@ -68,6 +70,18 @@ impl Mode for PicoLog {
             return Some(Actor::Dma);
         }
         Some(Actor::Thread(turn(last, named(live))?))
+    }
+
+    fn takes(_: &TurnLog, head: Option<Actor>, actor: Actor) -> bool {
+        is_head(head, actor)
+    }
+
+    fn place(_: &TurnLog, _: u8) -> Option<u32> {
+        None
+    }
+
+    fn advance(_: &mut TurnLog, _: Actor) -> bool {
+        true
     }
 }
 

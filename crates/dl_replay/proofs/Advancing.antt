@@ -1,5 +1,5 @@
 -- With one commit more, the replay and the state are what judging that commit makes of them.
-use Rattle.std.proofs.Common.{◌≡◌, ℕ, zero, suc, ◌+◌, ◌<◌, ◌≤◌, Bool, true, false, List, [], ◌∷◌, ◌++◌, length, slice_get, nat_lt, nat_le, ◌&&◌, cond, Option, Some, None, inl, inr, refl, ap, sym, ◌∙◌, arith}
+use Rattle.std.proofs.Common.{◌≡◌, ℕ, zero, suc, ◌+◌, ◌<◌, ◌≤◌, Bool, true, false, List, [], ◌∷◌, ◌++◌, length, slice_get, map, nat_lt, nat_le, ◌&&◌, cond, Option, Some, None, inl, inr, refl, ap, sym, ◌∙◌, arith}
 use Rattle.std.specs.Prelude.{slice_set}
 use Rattle.std.proofs.lemmas.Bool.{cases_Bool, ltb-true, true≢false}
 use Rattle.dl_entry.specs.declared.End.{End}
@@ -21,7 +21,9 @@ use Rattle.dl_kernel.specs.States.{PlayState as State, state_in}
 use Rattle.dl_kernel.specs.Calls.{spawned_list}
 use Rattle.spec_protocol.specs.promises.Sound.{IsSoundIf}
 use Rattle.dl_replay.specs.Following.{Following, followed, followed_from}
-use Rattle.dl_replay.specs.Standings.{IsWithinIf, actor_next}
+use Rattle.spec_kernel.specs.Interrupts.{is_live}
+use Rattle.dl_replay.specs.Lists.{head_of}
+use Rattle.dl_replay.specs.Standings.{IsWithinIf}
 use Rattle.spec_strata.specs.Standing.{Standing}
 use Rattle.spec_protocol.specs.machine.Commits.{now_by}
 use Rattle.dl_replay.specs.Replays.{Agrees, IsReplaying}
@@ -32,7 +34,7 @@ use Rattle.dl_replay.specs.Replays.{Agrees, IsReplaying}
 module _ (log : LogParts) (p : Progress) (u : Used) (ts : List Parts) where
   -- before the end of the log it is the turn of the actor that the log names
   pub now-before : (o : Option Standing) (n : ℕ) (last : Option ℕ) → position p ≡ n → p.last ≡ last → nat_lt n log.count ≡ true
-      → turn_of n ts (actor_next o log n last ts) ≡ now_by o log p u ts
+      → turn_of n ts (head_of (record { log = log; strata = o }) n last (map is_live ts)) ≡ now_by o log p u ts
   unfolding now_at
   now-before None n last d l e = rw (d, l, e) refl
   now-before (Some x) n last d l e = rw (d, e) refl
@@ -83,15 +85,13 @@ pub goes-on : (log : LogParts) (i : Option Interval) (o : Option Standing) (s : 
     → IsReplaying (followed_at log i o s) s
 goes-on log i o s is bounded inside within = record { is_log = is; bounded = bounded; left = left-from log i o s; request = inside; strata = within }
 
--- whose turn it is at a state, by the number of its commits
-pub followed-is : (log : LogParts) (i : Option Interval) (s : State) (now : TurnOrEnd)
-    → now ≡ now_in i log.count s.commits (now_at log (progress_from (state_in s)) s.used s.threads)
-    → record { log = log; interval = i; strata = None; now = now; total = 0 } ≡ followed_from log i (state_in s)
-followed-is log i s now e =
-    let p = progress_from (state_in s) in
-    let at : s.commits ≡ position p = omega arith in
-    ap (λ (n : TurnOrEnd). record { log = log; interval = i; strata = None; now = n; total = 0 })
-    (e ∙ ap (λ (n : ℕ). now_in i log.count n (now_at log p s.used s.threads)) at)
+-- whose turn it is, by the number of the commits that are done
+pub followed-is : (log : LogParts) (i : Option Interval) (o : Option Standing) (p : Progress) (u : Used) (ts : List Parts) (n : ℕ) (now : TurnOrEnd) → position p ≡ n
+    → now ≡ now_in i log.count n (now_by o log p u ts)
+    → record { log = log; interval = i; strata = o; now = now; total = 0 } ≡ followed log i o p u ts
+followed-is log i o p u ts n now at_ e =
+    ap (λ (m : TurnOrEnd). (let r : Following = record { log = log; interval = i; strata = o; now = m; total = 0 } in r))
+    (e ∙ ap (λ (k : ℕ). now_in i log.count k (now_by o log p u ts)) (sym at_))
 
 -- one commit more is done
 pub one-more : (p : Progress) (c : Commit) (n : ℕ) → position p ≡ n → p.first + length (p.commits ++ c ∷ []) ≡ n + 1

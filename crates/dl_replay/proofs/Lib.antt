@@ -1,5 +1,6 @@
 pub mod Standings
 mod Rising
+mod FirstHeads
 mod Lookups
 pub mod Counts
 mod Takes

@@ -1,6 +1,6 @@
 -- How a standing in strata moves: what is left and done of a stratum, the start of one, and a commit more.
 use Rattle.std.proofs.Common.{◌≡◌, ℕ, zero, suc, ◌+◌, ◌^◌, ◌<◌, ◌≤◌, Bool, List, [], ◌∷◌, length, take, drop, map, replicate, get_or, set, min, nat_lt, cond, Option, Some, None, inl, inr, refl, sym, ap, ◌∙◌, subst, arith}
-use Rattle.std.specs.Prelude.{All, option_map}
+use Rattle.std.specs.Prelude.{All, IfSome, option_map}
 use Rattle.std.specs.List.{sum}
 use Rattle.std.proofs.lemmas.Bool.{cases_Bool, ltb-true, ltb-false}
 use Rattle.std.proofs.lemmas.List.{drop-drop, drop_all, take_all}
@@ -11,7 +11,8 @@ use Rattle.spec_strata.specs.declared.stratum.Stratum.{Stratum}
 use Rattle.spec_strata.specs.declared.stratum.Stratum.TheVariants.{Chunks, Serial, Dma}
 use Rattle.spec_strata.specs.Standing.{Standing, after_dma, after_thread, done_up_to, least_left, nothing_done, place_of, stratum_begun, with_alone, with_one_done, with_thread}
 use Rattle.spec_strata.specs.Strata.{IsStratumOf}
-use Rattle.dl_replay.specs.Standings.{AreFewIf, CountsThreads, IsWithin, IsWithinIf, count_in, done_in, standing_from}
+use Rattle.dl_mode.specs.Strata.{AreFewIf}
+use Rattle.dl_replay.specs.Standings.{CountsThreads, IsWithin, IsWithinIf, count_in, done_in, standing_from}
 
 -- ---- what is left and done
 
@@ -194,8 +195,12 @@ dma-within None n within = tt
 dma-within (Some x) n within = dma-in x x.strata n within
 
 -- a place is among the commits that are done
-pub place-within : (k : ℕ) (x : Standing) (n : ℕ) → IsWithin x n → place_of k x ≤ n
+place-within : (k : ℕ) (x : Standing) (n : ℕ) → IsWithin x n → place_of k x ≤ n
 place-within k x n within = omega (arith, within, done-within k x.done)
+
+pub place-within-if : (k : ℕ) (o : Option Standing) (n : ℕ) → IsWithinIf o n → IfSome (option_map (place_of k) o) (λ place. place ≤ n)
+place-within-if k None n within = tt
+place-within-if k (Some x) n within = place-within k x n within
 
 -- there is room for one more
 pub few-within : (o : Option Standing) (n : ℕ) → n + 1 < 2 ^ 32 → IsWithinIf o n → AreFewIf o

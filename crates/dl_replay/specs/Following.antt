@@ -1,6 +1,5 @@
 -- A replay: its log, which of its commits it does if not all, or in which strata it does them, and whose turn it is.
-use Rattle.std.specs.Prelude.{ℕ, Bool, false, List, Option, Some, None}
-use Rattle.dl_entry.specs.declared.Actor.{Actor}
+use Rattle.std.specs.Prelude.{ℕ, List, Option, Some, None}
 use Rattle.dl_entry.specs.declared.End.{End}
 use Rattle.dl_entry.specs.declared.Why.{Why}
 use Rattle.spec_isa.specs.declared.thread.Parts.{Parts}
@@ -13,7 +12,7 @@ use Rattle.spec_play.specs.Turns as turns
 use Rattle.spec_strata.specs.Standing.{Standing}
 use Rattle.spec_play.specs.States.{State, progress_from}
 use Rattle.spec_play.specs.Intervals.{now_in}
-use Rattle.spec_protocol.specs.machine.Spheres.{Cursor, joins_in}
+use Rattle.spec_protocol.specs.machine.Spheres.{Cursor}
 use Rattle.spec_protocol.specs.machine.Commits.{now_by}
 use Rattle.dl_replay.specs.declared.turn_or_end.TurnOrEnd.{TurnOrEnd}
 
@@ -66,11 +65,6 @@ cursor_of r used loads =
       total = r.total;
       loads = loads;
     }
-
--- whether an actor may commit although it isn't its turn
-abbrev pub joins : Following → Actor → Bool
-joins r (Actor.Thread k) = joins_in r.strata k r.total
-joins r Actor.Dma = false
 
 -- how it ended, if it did
 abbrev pub end_of : turns.TurnOrEnd → Option End

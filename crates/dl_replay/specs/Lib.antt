@@ -7,3 +7,4 @@ pub mod Replays
 pub mod Judged
 pub mod Left
 pub mod Limits
+pub mod StrataLogs

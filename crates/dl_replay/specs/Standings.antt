@@ -1,14 +1,9 @@
 -- How the code keeps how far a replay has come in strata.
-use Rattle.std.specs.Prelude.{◌≡◌, ℕ, ◌+◌, ◌^◌, ◌<◌, ◌≤◌, List, [], ◌∷◌, length, drop, map, Option, Some, None}
+use Rattle.std.specs.Prelude.{◌≡◌, ℕ, ◌+◌, ◌≤◌, List, [], ◌∷◌, length, drop, Option, Some, None}
 use Rattle.std.specs.List.{sum}
 use Rattle.spec_strata.specs.declared.stratum.Stratum.{Stratum}
 use Rattle.spec_strata.specs.declared.stratum.Stratum.TheVariants.{Chunks, Serial, Dma}
-use Rattle.spec_strata.specs.Standing.{Standing, head_standing}
-use Rattle.dl_entry.specs.declared.Actor.{Actor}
-use Rattle.spec_isa.specs.declared.thread.Parts.{Parts}
-use Rattle.spec_log.specs.declared.LogParts.{LogParts}
-use Rattle.spec_log.specs.Head.{head}
-use Rattle.spec_kernel.specs.Interrupts.{is_live}
+use Rattle.spec_strata.specs.Standing.{Standing, stratum_begun}
 
 -- how many chunks of each thread are done in the present stratum, if it has chunks
 abbrev pub done_in : List Stratum → (done : List ℕ) → List ℕ
@@ -23,12 +18,20 @@ standing_from strata place done before =
     let left = drop place strata in
     record { strata = left; done = done_in left done; before = before }
 
--- how many chunks the present stratum has, if it has chunks
+-- how many chunks a stratum has, if it has chunks
+abbrev pub count_of : Stratum → Option ℕ
+count_of (Chunks counts) = Some (sum counts)
+count_of (Serial thread) = None
+count_of Dma = None
+
+abbrev pub count_if : Option Stratum → Option ℕ
+count_if None = None
+count_if (Some x) = count_of x
+
+-- and the present one
 abbrev pub count_in : List Stratum → Option ℕ
 count_in [] = None
-count_in (Chunks counts ∷ xs) = Some (sum counts)
-count_in (Serial thread ∷ xs) = None
-count_in (Dma ∷ xs) = None
+count_in (x ∷ xs) = count_of x
 
 -- a stratum counts the chunks of so many threads, if it has chunks
 abbrev pub CountsThreads : (threads : ℕ) → Stratum → Type 0
@@ -42,11 +45,6 @@ CountsFew (Chunks counts) = length counts ≤ 63
 CountsFew (Serial thread) = Unit {0}
 CountsFew Dma = Unit {0}
 
--- the actor that comes next: the head of strata, or the one that the log names
-abbrev pub actor_next : Option Standing → LogParts → (commits : ℕ) → (last : Option ℕ) → List Parts → Option Actor
-actor_next None log n last threads = head log n last (map is_live threads)
-actor_next (Some x) log n last threads = head_standing x
-
 -- it counts no more commits than are done
 abbrev pub IsWithin : Standing → (commits : ℕ) → Type 0
 IsWithin x n = x.before + sum x.done ≤ n
@@ -55,7 +53,14 @@ abbrev pub IsWithinIf : Option Standing → (commits : ℕ) → Type 0
 IsWithinIf None n = Unit {0}
 IsWithinIf (Some x) n = IsWithin x n
 
--- it can count one commit more
-abbrev pub AreFewIf : Option Standing → Type 0
-AreFewIf None = Unit {0}
-AreFewIf (Some x) = x.before + sum x.done + 1 < 2 ^ 32
+-- all strata, and how far they have come
+pub record Stood : Type 0 where
+  pub all : List Stratum
+  pub standing : Standing
+
+abbrev pub stood : List Stratum → (place : ℕ) → (done : List ℕ) → (before : ℕ) → Stood
+stood strata place done before = record { all = strata; standing = standing_from strata place done before }
+
+-- nothing of them is done
+abbrev pub nothing_stood : List Stratum → Stood
+nothing_stood strata = record { all = strata; standing = stratum_begun strata 0 }

@@ -1,5 +1,5 @@
 //! The parts of a log, each copied into the store that it is looked up in.
-ghost use Rattle.std.specs.Prelude.{◌≡◌, map, IfOk};
+ghost use Rattle.std.specs.Prelude.{◌≡◌, None, map, IfOk};
 ghost use Rattle.dl_entry.specs.Numbers.{most_threads};
 ghost use Rattle.spec_log.specs.Log.{IsLog, AreInterrupts, AreInputs, AreDmas};
 ghost use Rattle.dl_input.specs.Tracked.{interrupt_of};
@@ -16,7 +16,8 @@ use std::alloc::Global;
 pub fn kept_of<M: Noting>(alloc: Global, parts: &LogParts) -> Result<M::Log, OutOfMemory>
     requires log { IsLog parts.now }
     requires mode { parts.now.mode ≡ M.mode }
-    ensures { IfOk result (λ log. lists_of M.mode (M.logged log).kept ≡ lists_in parts.now) }
+    ensures lists { IfOk result (λ log. lists_of M.mode (M.logged log).kept ≡ lists_in parts.now) }
+    ensures strata { IfOk result (λ log. M.strata log ≡ None) }
 {
     let lists = Lists {
         mode: parts.mode,

@@ -1,7 +1,11 @@
-//! How many chunks of a stratum are counted and done, by thread.
-ghost use Rattle.std.specs.Prelude.{◌≡◌, ◌<◌, ◌≤◌, ◌^◌, length};
+//! How many chunks of a stratum are counted and done, by thread; and how many commits strata have.
+ghost use Rattle.std.specs.Prelude.{◌≡◌, ◌<◌, ◌≤◌, ◌^◌, All, length};
 ghost use Rattle.std.specs.List.{sum};
+ghost use Rattle.spec_strata.specs.Strata.{commits_in, commits_in_all};
+ghost use Rattle.dl_replay.specs.Standings.{CountsFew};
 ghost use Rattle.spec_strata.specs.Standing.{done_up_to, least_left};
+
+use spec_strata::Stratum;
 
 /// The least thread with fewer chunks done than are counted.
 pub fn least_left(counts: &[u8], done: &[u32]) -> Option<u8>
@@ -28,7 +32,7 @@ pub fn done_up_to(thread: u8, done: &[u32]) -> u32
 }
 
 /// How many are done of all threads.
-pub fn total_of(done: &[u32]) -> u32
+fn total_of(done: &[u32]) -> u32
     requires { sum done.now < 2 ^ 32 }
     ensures { result ≡ sum done.now }
 {
@@ -49,4 +53,27 @@ pub fn sum_of(counts: &[u8]) -> u32
         sum += u32::from(*count);
     }
     sum
+}
+
+/// How many commits strata have.
+pub fn commits_in(strata: &[Stratum]) -> u32
+    requires all { commits_in_all strata.now ≤ 2 ^ 24 }
+    requires few { All CountsFew strata.now }
+    ensures { result ≡ commits_in_all strata.now }
+{
+    let mut commits = 0;
+    for stratum in strata {
+        commits += commits_of(stratum);
+    }
+    commits
+}
+
+fn commits_of(stratum: &Stratum) -> u32
+    requires { CountsFew stratum.now }
+    ensures { result ≡ commits_in stratum.now }
+{
+    match stratum {
+        Stratum::Chunks(counts) => sum_of(counts.as_slice()),
+        Stratum::Serial(_) | Stratum::Dma => 1,
+    }
 }

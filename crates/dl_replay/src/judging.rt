@@ -40,7 +40,7 @@ pub struct Finish {
 // An interrupt that is logged for the end of a thread's commit must be one that the thread takes.
 fn ended<M: Mode>(log: &Lookup<M>, number: u8, thread: &Thread, used: Used) -> Result<Finish, Why>
     requires { used.interrupts + 1 < 2 ^ 32 }
-    ensures verdict { (e : Effect) → e.thread ≡ thread.now → verdict_of result e ≡ ended log.now number e used }
+    ensures verdict { (e : Effect) → e.thread ≡ thread.now → verdict_of result e ≡ ended log.now.log number e used }
     ensures commits { IfOk result (λ f. f.thread.commits ≡ thread.now.commits) }
     ensures interrupts { IfOk result (λ f. f.used.interrupts ≤ used.interrupts + 1) }
 {
@@ -75,7 +75,7 @@ pub fn judge_chunk<M: Mode>(
     requires few { used.interrupts + 1 < 2 ^ 32 }
     requires commits { thread.now.commits + 1 < 2 ^ 32 }
     ensures verdict { (p : Progress) (r : Run) → r.thread ≡ thread.now → r.n ≡ total →
-        verdict_of result (chunk_effect number p.request r) ≡ chunk_verdict log.now p used number r }
+        verdict_of result (chunk_effect number p.request r) ≡ chunk_verdict log.now.log p used number r }
     ensures commits { IfOk result (λ f. f.thread.commits ≡ thread.now.commits + 1) }
     ensures interrupts { IfOk result (λ f. f.used.interrupts ≤ used.interrupts + 1) }
 {
@@ -121,12 +121,12 @@ pub fn judge_step<M: Mode>(
     number: u8,
     state: &State,
 ) -> Result<Result<Done, Why>, OutOfMemory>
-    requires bounded { IsBounded log.now (state_in state.now) }
+    requires bounded { IsBounded log.now.log (state_in state.now) }
     requires few { state.now.commits + 1 < 2 ^ 32 }
     requires thread { number < length state.now.threads }
     requires request { IsSoundIf (length state.now.memory) state.now.request }
     ensures verdict { (p : Progress) (t : Parts) → let s = state.now in Agrees s p → slice_get s.threads number ≡ Some t →
-        IfOk result (λ r. step_verdict number r ≡ serial_verdict log.now p s.used number s.threads t s.memory) }
+        IfOk result (λ r. step_verdict number r ≡ serial_verdict log.now.log p s.used number s.threads t s.memory) }
     ensures commits { IfOk result (λ r. IfOk r (λ d. d.finish.thread.commits ≤ state.now.commits + 1)) }
     ensures interrupts { IfOk result (λ r. IfOk r (λ d. d.finish.used.interrupts ≤ state.now.used.interrupts + 1)) }
     ensures spawned { IfOk result (λ r. IfOk r (λ d. AreNew (spawned_list d.left.spawned))) }
@@ -172,7 +172,7 @@ fn given<'a, M: Mode>(
     thread: &Thread,
     memory: &Memory,
 ) -> Option<Taken<'a>>
-    ensures value { option_map given_by result ≡ given (need thread.now memory.now) (slice_get log.now.inputs used.inputs) used }
+    ensures value { option_map given_by result ≡ given (need thread.now memory.now) (slice_get log.now.log.inputs used.inputs) used }
     ensures few { IfSome result (λ g. IfSome g.input (λ r. length r.now.bytes ≤ most_bytes)) }
     ensures interrupts { IfSome result (λ g. g.used.interrupts ≡ used.interrupts) }
 {
@@ -203,7 +203,7 @@ pub struct Transfer<'a> {
 
 /// Judges a DMA.
 pub fn transfer_of<'a, M: Mode>(log: &'a Lookup<M>, state: &State) -> Result<Transfer<'a>, Why>
-    ensures verdict { (p : Progress) → Agrees state.now p → transfer_seen result ≡ dma_verdict log.now p state.now.used }
+    ensures verdict { (p : Progress) → Agrees state.now p → transfer_seen result ≡ dma_verdict log.now.log p state.now.used }
     ensures few { OnOk result (state.now.used.dmas + 1 < 2 ^ 32) }
     ensures request { IfOk result (λ t. state.now.request ≡ Some t.request) }
     ensures bytes { IfOk result (λ t. length t.bytes.now ≤ t.request.len) }
@@ -232,7 +232,7 @@ pub fn judge_dma<M: Mode>(
 ) -> Result<Result<Buffer, Why>, OutOfMemory>
     requires { IsSoundIf (length state.now.memory) state.now.request }
     ensures verdict { (p : Progress) → Agrees state.now p →
-        IfOk result (λ r. transfer_verdict r ≡ dma_verdict log.now p state.now.used) }
+        IfOk result (λ r. transfer_verdict r ≡ dma_verdict log.now.log p state.now.used) }
     ensures few { IfOk result (λ r. OnOk r (state.now.used.dmas + 1 < 2 ^ 32)) }
 {
     // a memory ends below 2^32

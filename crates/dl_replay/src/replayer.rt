@@ -17,27 +17,30 @@ ghost use Rattle.spec_play.specs.Turns.{Turn, TurnOfDma};
 ghost use Rattle.spec_play.specs.Transfers.{DmaGoes, dma_verdict};
 ghost use Rattle.spec_play.specs.Verdicts.{Goes, chunk_verdict, serial_verdict};
 ghost use Rattle.spec_protocol.specs.machine.Spheres.{Replay, Sphere, actor_of, is_over, joins_in, pieces_of, turn_in};
+ghost use Rattle.spec_log.specs.Log.{IsLog};
+ghost use Rattle.spec_strata.specs.Canonical.{canonical};
 ghost use Rattle.spec_strata.specs.Standing.{after_dma, after_thread, place_of, stratum_begun};
 ghost use Rattle.dl_kernel.specs.States.{PlayState, state_in};
 ghost use Rattle.dl_kernel.specs.Calls.{spawned_list};
 ghost use Rattle.spec_protocol.specs.promises.Sound.{IsSoundIf};
-ghost use Rattle.dl_replay.specs.Following.{cursor_of, diverged, end_of, followed, followed_from, joins};
+ghost use Rattle.dl_replay.specs.Following.{cursor_of, diverged, end_of, followed, followed_from};
 ghost use Rattle.dl_replay.specs.Judged.{dma_judged, judged, last_by};
 ghost use Rattle.dl_replay.specs.Judging.{transfer_verdict};
 ghost use Rattle.dl_replay.specs.Left.{SaysSize, served_by, served_left, verdict_left, verdict_stored};
 ghost use Rattle.dl_replay.specs.Limits.{chunk_limit, chunk_limit_in};
 ghost use Rattle.dl_replay.specs.Replays.{Agrees, IsReplaying};
-ghost use Rattle.dl_replay.specs.Standings.{AreFewIf, IsWithinIf};
+ghost use Rattle.dl_mode.specs.Strata.{AreFewIf};
+ghost use Rattle.dl_replay.specs.Standings.{IsWithinIf};
 
 use crate::judging::{Done, Finish, judge_chunk, judge_dma, judge_step, transfer_of};
 use crate::lookup::Lookup;
-use crate::standing::Standing;
+use crate::strata_mode::StrataMode;
 use crate::turn_or_end::TurnOrEnd;
 use crate::turning::now_in;
 use crate::verdict::Verdict;
 use dl_entry::{Actor, End, OutOfMemory, Request, Why};
 use dl_kernel::{State, StepResult, settle};
-use dl_mode::{Mode, Noting};
+use dl_mode::{Mode, Noting, is_head};
 use dl_thread::Thread;
 use dl_wbuf::Buffer;
 use spec_log::Log;
@@ -46,13 +49,12 @@ use spec_strata::Strata;
 use std::alloc::Global;
 use std::marker::Model;
 
-/// Follows a log, or an interval of its commits, by which its sphere's commits are judged; or strata, with their log.
+/// Follows a log, or an interval of its commits, by which its sphere's commits are judged; or strata, which are a mode too.
 #[derive(Drop)]
 pub struct Replayer<M: Mode> {
     alloc: Global,
     log: Lookup<M>,
     interval: Option<Interval>,
-    strata: Option<Standing>,
     turn: TurnOrEnd,
     total: u32,
 }
@@ -63,9 +65,9 @@ impl<M: Mode> Model for Replayer<M> {
 
     ghost Value = { Following };
 
-    ghost view = { λ r. following r.log r.interval r.strata r.turn r.total };
+    ghost view = { λ r. following r.log.log r.interval r.log.strata r.turn r.total };
 
-    ghost invariant = { λ r. IsLog r.log };
+    ghost invariant = { λ r. IsLog r.log.log };
 }
 
 impl<M: Noting> Replayer<M> {
@@ -83,30 +85,51 @@ impl<M: Noting> Replayer<M> {
         ensures at { IfOk result (λ replayer. IsReplaying replayer state.now) }
     {
         let log = Lookup::new(alloc, log)?;
-        let turn = now_in(&log, interval, None, state);
-        Ok(Replayer {
-            alloc,
-            log,
-            interval,
-            strata: None,
-            turn,
-            total: 0,
-        })
+        Ok(begun(alloc, log, interval, state))
+    }
+}
+
+impl Replayer<StrataMode> {
+    /// The replay of strata, of which nothing is done, from a state in which no commit is.
+    pub fn of_strata(
+        alloc: Global,
+        strata: &Strata,
+        state: &State,
+    ) -> Result<Replayer<StrataMode>, OutOfMemory>
+        requires start { state.now.commits ≡ 0 }
+        requires state { IsBounded (canonical strata.now) (state_in state.now) }
+        requires request { IsSoundIf (length state.now.memory) state.now.request }
+        ensures value { let v = strata.now in IfOk result (λ replayer.
+            replayer ≡ record (followed_from (canonical v) None (state_in state.now)) { strata = Some (stratum_begun v.strata 0) }) }
+        ensures at { IfOk result (λ replayer. IsReplaying replayer state.now) }
+    {
+        let log = Lookup::of_strata(alloc, strata)?;
+        Ok(begun(alloc, log, None, state))
+    }
+}
+
+// The replay of a log, or of an interval of its commits, at a state of its play.
+fn begun<M: Mode>(
+    alloc: Global,
+    log: Lookup<M>,
+    interval: Option<Interval>,
+    state: &State,
+) -> Replayer<M>
+    requires log { IsLog log.log }
+    ensures { let s = state.now in (p : Progress) → Agrees s p →
+        result ≡ followed log.log interval log.strata p s.used s.threads }
+{
+    let turn = now_in(&log, interval, state);
+    Replayer {
+        alloc,
+        log,
+        interval,
+        turn,
+        total: 0,
     }
 }
 
 impl<M: Mode> Replayer<M> {
-    /// The replay goes by these strata, of which nothing is done. Its log is the one that has their order.
-    pub fn go_by(&mut self, alloc: Global, strata: &Strata) -> Result<(), OutOfMemory>
-        ensures value { let x = stratum_begun strata.now.strata 0 in
-            OnOk result (self.new ≡ record self.old { strata = Some x }) }
-        ensures at { (s : PlayState) → IsReplaying self.old s → OnOk result (IsReplaying self.new s) }
-        ensures still { OnErr result (self.new ≡ self.old) }
-    {
-        self.strata = Some(Standing::new(alloc, strata)?);
-        Ok(())
-    }
-
     /// Whose commit is next, unless the replay has ended.
     pub fn head(&self) -> Option<Actor>
         ensures { result ≡ actor_of self.now.now }
@@ -148,10 +171,7 @@ impl<M: Mode> Replayer<M> {
     pub fn joins_in(&self, thread: u8) -> bool
         ensures { result ≡ joins_in self.now.strata thread self.now.total }
     {
-        match &self.strata {
-            Some(standing) => self.total == 0 && standing.has_chunks_left(thread),
-            None => false,
-        }
+        self.total == 0 && self.log.takes(None, Actor::Thread(thread))
     }
 
     /// Whether an actor may commit now, if the replay goes on: it has the turn, or in strata it has chunks left in the present
@@ -161,16 +181,11 @@ impl<M: Mode> Replayer<M> {
         ensures { (used : Used) (loads : List Load) (p : Sphere) → let b = cursor_of self.now used loads in
             IsTrue result ↔ (turn_in (Replay b) p actor ≡ None) }
     {
-        self.joins(actor) || is_of(self.head(), actor)
-    }
-
-    // Whether an actor may commit although it isn't its turn. A DMA never does.
-    fn joins(&self, actor: Actor) -> bool
-        ensures { result ≡ joins self.now actor }
-    {
-        match actor {
-            Actor::Thread(thread) => self.joins_in(thread),
-            Actor::Dma => false,
+        let head = self.head();
+        if self.total == 0 {
+            self.log.takes(head, actor)
+        } else {
+            is_head(head, actor)
         }
     }
 
@@ -179,10 +194,7 @@ impl<M: Mode> Replayer<M> {
         ensures value { result ≡ option_map (place_of thread) self.now.strata }
         ensures within { (s : PlayState) → IsReplaying self.now s → IfSome result (λ place. place ≤ s.commits) }
     {
-        match &self.strata {
-            Some(standing) => Some(standing.place(thread)),
-            None => None,
-        }
+        self.log.place(thread)
     }
 
     /// The instructions of the present commit's pieces.
@@ -398,14 +410,9 @@ impl<M: Mode> Replayer<M> {
         ensures within { IsWithinIf self.new.strata (state.old.commits + 1) }
         ensures state { state.new ≡ record state.old { last = last_by self.old.strata number state.old.last } }
     {
-        let Some(standing) = &mut self.strata else {
-            state.last = Some(number);
-            return;
-        };
-        if standing.is_last(number) {
+        if self.log.advance(Actor::Thread(number)) {
             state.last = Some(number);
         }
-        standing.after_thread(number);
     }
 
     // A DMA went, which moves no turn of threads.
@@ -428,9 +435,7 @@ impl<M: Mode> Replayer<M> {
         requires { AreFewIf self.old.strata }
         ensures { self.new ≡ record self.old { strata = option_map after_dma self.old.strata } }
     {
-        if let Some(standing) = &mut self.strata {
-            standing.after_dma();
-        }
+        self.log.advance(Actor::Dma);
     }
 
     // One commit more is done, after which the end is looked at.
@@ -442,18 +447,7 @@ impl<M: Mode> Replayer<M> {
     {
         state.commits += 1;
         self.total = 0;
-        self.turn = now_in(&self.log, self.interval, self.strata.as_ref(), state);
-    }
-}
-
-// Whether the turn is this actor's.
-fn is_of(head: Option<Actor>, actor: Actor) -> bool
-    ensures { IsTrue result ↔ (head ≡ Some actor) }
-{
-    match (head, actor) {
-        (Some(Actor::Thread(head)), Actor::Thread(thread)) => head == thread,
-        (Some(Actor::Dma), Actor::Dma) => true,
-        (Some(_) | None, _) => false,
+        self.turn = now_in(&self.log, self.interval, state);
     }
 }
 

@@ -1,6 +1,5 @@
 //! Whose turn it is, or how the replay ends: looked at before the first commit and after each whole one.
-ghost use Rattle.std.specs.Prelude.{◌≡◌, map, option_map};
-ghost use Rattle.spec_log.specs.Head.{head};
+ghost use Rattle.std.specs.Prelude.{◌≡◌, map};
 ghost use Rattle.spec_kernel.specs.Interrupts.{is_live};
 ghost use Rattle.spec_play.specs.Progress.{Progress};
 ghost use Rattle.spec_play.specs.Turns.{turn_of, at_end, has_left_over};
@@ -8,11 +7,10 @@ ghost use Rattle.spec_play.specs.Intervals.{at_end_of_log, now_in};
 ghost use Rattle.spec_protocol.specs.machine.Commits.{now_by};
 ghost use Rattle.dl_replay.specs.Following.{turn_seen};
 ghost use Rattle.dl_replay.specs.Replays.{Agrees};
-ghost use Rattle.dl_replay.specs.Standings.{actor_next};
+ghost use Rattle.dl_replay.specs.Lists.{head_of};
 
 use crate::counting::commits_of;
 use crate::lookup::Lookup;
-use crate::standing::Standing;
 use crate::turn_or_end::TurnOrEnd;
 use dl_entry::{Actor, End, Why};
 use dl_kernel::{State, live_of, lives};
@@ -21,22 +19,17 @@ use dl_thread::Threads;
 use spec_play::{Interval, Used};
 
 /// Whose turn it is at a state of the log's play, or of its strata, if all commits are replayed or those of an interval.
-pub fn now_in<M: Mode>(
-    log: &Lookup<M>,
-    interval: Option<Interval>,
-    strata: Option<&Standing>,
-    state: &State,
-) -> TurnOrEnd
-    ensures { (p : Progress) → Agrees state.now p → let s = state.now in let x = option_map (λ x. x.now) strata.entry in
-        turn_seen result ≡ now_in interval log.now.count s.commits (now_by x log.now p s.used s.threads) }
+pub fn now_in<M: Mode>(log: &Lookup<M>, interval: Option<Interval>, state: &State) -> TurnOrEnd
+    ensures { (p : Progress) → Agrees state.now p → let s = state.now in let l = log.now in
+        turn_seen result ≡ now_in interval l.log.count s.commits (now_by l.strata l.log p s.used s.threads) }
 {
     match interval {
-        None => now_by(log, strata, state),
+        None => now_by(log, state),
         // the next turn isn't looked at if the log has more
         Some(interval) if interval.last <= state.commits && state.commits < log.count() => {
             TurnOrEnd::Ended(End::At(state.commits))
         }
-        Some(_) => at_end_of_log(now_by(log, strata, state)),
+        Some(_) => at_end_of_log(now_by(log, state)),
     }
 }
 
@@ -51,12 +44,12 @@ fn at_end_of_log(turn: TurnOrEnd) -> TurnOrEnd
 }
 
 // In the log's own play, or in strata.
-fn now_by<M: Mode>(log: &Lookup<M>, strata: Option<&Standing>, state: &State) -> TurnOrEnd
-    ensures { (p : Progress) → Agrees state.now p → let s = state.now in let x = option_map (λ x. x.now) strata.entry in
-        turn_seen result ≡ now_by x log.now p s.used s.threads }
+fn now_by<M: Mode>(log: &Lookup<M>, state: &State) -> TurnOrEnd
+    ensures { (p : Progress) → Agrees state.now p → let s = state.now in let l = log.now in
+        turn_seen result ≡ now_by l.strata l.log p s.used s.threads }
 {
     if state.commits < log.count() {
-        let actor = next_actor(log, strata, state);
+        let actor = next_actor(log, state);
         turn_of(state.commits, &state.threads, actor)
     } else {
         at_end(
@@ -66,20 +59,9 @@ fn now_by<M: Mode>(log: &Lookup<M>, strata: Option<&Standing>, state: &State) ->
     }
 }
 
-// The actor that comes next: the head of strata, or the one that the log names.
-fn next_actor<M: Mode>(log: &Lookup<M>, strata: Option<&Standing>, state: &State) -> Option<Actor>
-    ensures { let s = state.now in let x = option_map (λ x. x.now) strata.entry in
-        result ≡ actor_next x log.now s.commits s.last s.threads }
-{
-    match strata {
-        Some(standing) => standing.head(),
-        None => named_actor(log, state),
-    }
-}
-
-// The actor that the log names next.
-fn named_actor<M: Mode>(log: &Lookup<M>, state: &State) -> Option<Actor>
-    ensures { let s = state.now in result ≡ head log.now s.commits s.last (map is_live s.threads) }
+// The actor that comes next: the one that the log names, or the head of strata.
+fn next_actor<M: Mode>(log: &Lookup<M>, state: &State) -> Option<Actor>
+    ensures { let s = state.now in result ≡ head_of log.now s.commits s.last (map is_live s.threads) }
 {
     let live = live_of(&state.threads);
     let live = &live[..usize::from(state.threads.len())];
@@ -110,7 +92,7 @@ fn at_end(done: u32, left_over: bool) -> TurnOrEnd
 // Whether a size, an interrupt, an input or a DMA was never used.
 #[tactic(auto, unfolding(spec_play::specs::Turns::has_left_over))]
 fn has_left_over<M: Mode>(log: &Lookup<M>, used: Used, threads: &Threads) -> bool
-    ensures { result ≡ has_left_over log.now used threads.now }
+    ensures { result ≡ has_left_over log.now.log used threads.now }
 {
     if !log.are_sizes_used(&commits_of(threads)) {
         return true;

@@ -1,5 +1,7 @@
 //! The texts of a run that is over.
 ghost use Rattle.std.specs.Prelude.{◌≡◌, ◌<◌, List, None, IfOk, length};
+ghost use Rattle.dl_account.specs.CommitLists.{commits_in};
+ghost use Rattle.dl_kernel.specs.InOrder.{listed};
 ghost use Rattle.spec_protocol.specs.declared.event.Event.{Event};
 ghost use Rattle.spec_protocol.specs.machine.Machine.{RecordSetup, IsRecorded};
 ghost use Rattle.spec_protocol.specs.promises.Sound.{image_at};
@@ -9,8 +11,9 @@ ghost use Rattle.dl_run.specs.Logs.{bytes_of, is_whole};
 ghost use Rattle.dl_run.specs.Ran.{IsOver};
 
 use crate::run::Run;
-use dl_account::{account_text, report_text, summary_text};
+use dl_account::{CommitLists, account_text, report_text, summary_text};
 use dl_entry::OutOfMemory;
+use dl_kernel::InOrder;
 use dl_sphere::Role;
 use dl_tail::Tail;
 use spec_log::Log;
@@ -64,7 +67,7 @@ impl Run {
         let sphere = self.sphere(sphere);
         account_text(
             alloc,
-            sphere.commits(),
+            lists_of(sphere.commits()),
             sphere.threads(),
             &sphere.request(),
             sphere.memory(),
@@ -94,5 +97,15 @@ impl Run {
     {
         let lines = self.lines(alloc)?;
         summary_text(alloc, self.machine.counts(), &lines)
+    }
+}
+
+// A sphere's commits, as its account takes them.
+fn lists_of(commits: &InOrder) -> CommitLists<'_>
+    ensures { commits_in result ≡ listed commits.now }
+{
+    CommitLists {
+        whole: commits.whole(),
+        by_thread: commits.by_thread(),
     }
 }

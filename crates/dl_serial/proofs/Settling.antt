@@ -23,6 +23,7 @@ use Rattle.spec_play.proofs.Positions.{position-more}
 use Rattle.spec_protocol.specs.promises.Sound.{IsSoundIf, IsSoundIf}
 use Rattle.spec_query.specs.Stores.{words_gone, words_transferred}
 use Rattle.dl_kernel.specs.States.{PlayState as State}
+use Rattle.dl_kernel.specs.InOrder.{listed}
 use Rattle.dl_replay.specs.Following.{Following, followed}
 use Rattle.dl_replay.specs.Replays.{IsReplaying}
 use Rattle.dl_replay.proofs.Answered.{HasGone, HasTransferred, HasFailed}
@@ -59,7 +60,7 @@ sized r s m size at =
 -- a commit is noted
 pub record IsNoted (s n : Sphere) (c : Commit) : Type 0 where
   pub first : n.past.first ≡ s.past.first
-  pub commits : n.past.commits.items ≡ s.past.commits.items ++ c ∷ []
+  pub commits : listed n.past.commits ≡ listed s.past.commits ++ c ∷ []
   pub capacity : n.words.capacity ≡ s.words.capacity
 
 -- a sphere plays on with one commit more, after which the turn is looked at, whatever its memory holds
@@ -67,7 +68,7 @@ noted-playing : (r new : Following) (s n : Sphere) (left : State) (m : List ℕ)
     → IsSoundIf (length left.memory) left.request → IsNoted s n c → n.past.state ≡ record left { memory = m } → length m ≡ length left.memory → IsPlaying r s → IsPlaying new n
 noted-playing r new s n left m c p is more at sound noted state size h =
     let count = position-more (progress_in s.past) c in
-    let grown : n.past.first + length n.past.commits.items ≡ s.past.first + length (s.past.commits.items ++ c ∷ []) =
+    let grown : n.past.first + length (listed n.past.commits) ≡ s.past.first + length (listed s.past.commits ++ c ∷ []) =
     λ i. noted.first i + length (noted.commits i)
     in
     let was = h.counted in
@@ -112,7 +113,7 @@ transferred-playing result r new s n left v words c g at noted laid still h =
 -- no commit is noted, and the state is as it was left
 pub record IsLeft (s n : Sphere) (left : State) : Type 0 where
   pub first : n.past.first ≡ s.past.first
-  pub commits : n.past.commits.items ≡ s.past.commits.items
+  pub commits : listed n.past.commits ≡ listed s.past.commits
   pub state : n.past.state ≡ left
   pub capacity : n.words.capacity ≡ s.words.capacity
 
@@ -170,7 +171,7 @@ gone-come r new s n left k v words c g noted laid same_words same_commit stores 
     let state : n.past.state ≡ record s.past.state { memory = lays s.past.state.memory e.words; threads = with_threads k e s.past.state.threads; request = e.request; last = Some k; commits = s.past.state.commits + 1; used = g.used } =
     laid ∙ (λ i. record (g.state i) { memory = lays (g.state i).memory (same_words i) })
     in
-    let commits = noted.commits ∙ ap (λ (x : Commit). s.past.commits.items ++ x ∷ []) same_commit in
+    let commits = noted.commits ∙ ap (λ (x : Commit). listed s.past.commits ++ x ∷ []) same_commit in
     record {
       same_log = ap (λ (x : Following). x.log) g.replay;
       played =
@@ -195,7 +196,7 @@ transferred-come r new s n left v words c g noted laid same_words same_commit st
     let state : n.past.state ≡ record s.past.state { memory = lays s.past.state.memory g.words; request = None; commits = s.past.state.commits + 1; used = with_dma_used s.past.state.used } =
     laid ∙ (λ i. record (g.state i) { memory = lays (g.state i).memory (same_words i) })
     in
-    let commits = noted.commits ∙ ap (λ (x : Commit). s.past.commits.items ++ x ∷ []) same_commit in
+    let commits = noted.commits ∙ ap (λ (x : Commit). listed s.past.commits ++ x ∷ []) same_commit in
     record {
       same_log = ap (λ (x : Following). x.log) g.replay;
       played =

@@ -11,6 +11,7 @@ use Rattle.spec_protocol.specs.promises.Sound.{IsSoundIf}
 use Rattle.spec_query.specs.declared.Store.{Store}
 use Rattle.spec_query.specs.Stores.{next_stores, stores, stores_of}
 use Rattle.dl_kernel.specs.declared.past.Past.{Past}
+use Rattle.dl_kernel.specs.InOrder.{listed}
 use Rattle.dl_replay.specs.Following.{Following}
 use Rattle.dl_replay.specs.Replays.{IsReplaying}
 use Rattle.dl_serial.specs.declared.footprint.Footprint.{Footprint}
@@ -36,7 +37,7 @@ pub record HasLooked (p : Playing) (f : Footprint) : Type 0 where
       → let n = size_or_standard p.log k t.commits in 0 < n → IsFootprint p.played.memory t n f
 
 abbrev pub progress_in : Past → Progress
-progress_in b = record { first = b.first; commits = b.commits.items; last = b.state.last; request = b.state.request }
+progress_in b = record { first = b.first; commits = listed b.commits; last = b.state.last; request = b.state.request }
 
 abbrev pub played_in : Following → Past → Played
 played_in r b =

@@ -1,5 +1,5 @@
 //! Commits of a play, each judged by its log: it goes as it is logged, or the play ends before it.
-ghost use Rattle.std.specs.Prelude.{◌≡◌, ◌+◌, ◌≤◌, ◌++◌, ◌∷◌, [], Some, OnOk, OnErr, length, slice_get, vec_len, vec_capacity};
+ghost use Rattle.std.specs.Prelude.{◌≡◌, ◌+◌, ◌≤◌, ◌++◌, ◌∷◌, [], Some, IsTrue, OnOk, OnErr, length, slice_get};
 ghost use Rattle.spec_isa.specs.declared.thread.Parts.{Parts};
 ghost use Rattle.spec_isa.specs.Runs.{Run};
 ghost use Rattle.spec_isa.specs.Words.{lays};
@@ -10,6 +10,7 @@ ghost use Rattle.spec_play.specs.Verdicts.{chunk_verdict, serial_verdict};
 ghost use Rattle.spec_play.specs.Transfers.{dma_verdict};
 ghost use Rattle.spec_play.specs.Plays.{dma_settled, settled};
 ghost use Rattle.spec_query.specs.Stores.{stores_of, words_gone, words_transferred};
+ghost use Rattle.dl_kernel.specs.InOrder.{listed};
 ghost use Rattle.dl_serial.specs.Chunks.{chunk_of};
 ghost use Rattle.dl_entry.specs.declared.Actor.{Actor};
 ghost use Rattle.dl_serial.specs.Playing.{HaveCome, IsPlaying, played_in, progress_in, with_stores};
@@ -45,7 +46,7 @@ pub fn commit_chunk<M: Mode>(
         let stores = with_stores sphere.old.stores.items y (Actor.Thread number) (words_gone v) in
         OnOk result (HaveCome log (settled log y number v) stores replayer.new sphere.new) }
 {
-    sphere.past.commits.reserve(1)?;
+    sphere.past.commits.reserve()?;
     match replayer.end_chunk(number, &chunk.thread, chunk.n, &mut sphere.past.state) {
         Verdict::Went => {
             let commit = chunk_commit(sphere.past.alloc, number, chunk.n, chunk.loads);
@@ -80,7 +81,7 @@ pub fn serve_step<M: Mode>(
     // a memory has whole words, and a thread its register 0
     let _ = sphere.past.state.memory.size();
     let _ = thread_at(&sphere.past.state.threads, number).parts();
-    sphere.past.commits.reserve(1)?;
+    sphere.past.commits.reserve()?;
     match replayer.serve_step(number, &mut sphere.past.state)? {
         Ok(
             StepResult {
@@ -114,7 +115,7 @@ pub fn serve_dma<M: Mode>(
 {
     // a memory has whole words
     let _ = sphere.past.state.memory.size();
-    sphere.past.commits.reserve(1)?;
+    sphere.past.commits.reserve()?;
     match replayer.serve_dma(&mut sphere.past.state)? {
         Ok(mut words) => {
             let commit = dma_commit(sphere.past.alloc);
@@ -132,11 +133,11 @@ fn note(
     commit: Commit,
     words: &mut Buffer,
 ) -> Result<(), OutOfMemory>
-    requires room { vec_len past.old.commits + 1 ≤ vec_capacity past.old.commits }
+    requires room { IsTrue past.old.commits.room }
     requires number { position (progress_in past.old) + 1 ≡ past.old.state.commits }
     requires inside { AreInside (length past.old.state.memory) words.old.words }
     ensures first { past.new.first ≡ past.old.first }
-    ensures commits { past.new.commits.items ≡ past.old.commits.items ++ commit ∷ [] }
+    ensures commits { listed past.new.commits ≡ listed past.old.commits ++ commit ∷ [] }
     ensures state { let s = past.old.state in
         OnOk result (past.new.state ≡ record s { memory = lays s.memory words.old.words }) }
     ensures stores { let i = position (progress_in past.old) in

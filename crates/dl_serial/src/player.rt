@@ -21,7 +21,7 @@ use crate::sphere::Sphere;
 use crate::walked::Walked;
 use dl_elf::Image;
 use dl_entry::{Actor, OutOfMemory, Sequence};
-use dl_kernel::{Past, Snapshot, State, thread_at};
+use dl_kernel::{InOrder, Past, Snapshot, State, thread_at};
 use dl_mem::Memory;
 use dl_mode::{Mode, Noting};
 use dl_replay::Replayer;
@@ -82,7 +82,7 @@ impl<M: Noting> Player<M> {
         let past = Past {
             alloc,
             first: state.commits,
-            commits: Vec::new(alloc),
+            commits: InOrder::new(alloc),
             state,
         };
         let stores = Vec::new(alloc);
@@ -215,7 +215,7 @@ impl<M: Mode> Player<M> {
         let Sphere { past, stores, .. } = sphere;
         let Past { commits, state, .. } = past;
         Walked {
-            commits: Sequence::from_vec(commits),
+            commits: Sequence::from_vec(commits.into_list()),
             stores: Sequence::from_vec(stores),
             state,
             end,

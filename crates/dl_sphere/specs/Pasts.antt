@@ -5,6 +5,7 @@ use Rattle.dl_entry.specs.declared.Request.{Request}
 use Rattle.spec_isa.specs.declared.thread.Parts.{Parts}
 use Rattle.spec_protocol.specs.machine.Spheres.{Sphere, Role}
 use Rattle.dl_kernel.specs.declared.past.Past.{Past}
+use Rattle.dl_kernel.specs.InOrder.{listed}
 
 -- a sphere of these parts, whose first commit here has this number
 abbrev pub sphere_with : (first : ℕ) → List ℕ → List Parts → List Commit → (last : Option ℕ) → Option Request → Role → Sphere
@@ -19,4 +20,4 @@ sphere_with first m threads commits last request role =
 -- a sphere that has come so far, in this role
 abbrev pub sphere_at : Past → Role → Sphere
 sphere_at past role =
-    sphere_with past.first past.state.memory past.state.threads past.commits.items past.state.last past.state.request role
+    sphere_with past.first past.state.memory past.state.threads (listed past.commits) past.state.last past.state.request role

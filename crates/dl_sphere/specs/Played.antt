@@ -6,3 +6,4 @@ abbrev pub following_of : Players → Following
 following_of (Players.OrderSize r) = r
 following_of (Players.OrderOnly r) = r
 following_of (Players.Picolog r) = r
+following_of (Players.Strata r) = r

@@ -7,6 +7,7 @@ use Rattle.spec_play.specs.Progress.{position}
 use Rattle.spec_play.specs.declared.used.Used.{Used}
 use Rattle.spec_protocol.specs.machine.Spheres as protocol
 use Rattle.spec_protocol.specs.promises.Sound.{AreFresh, IsChunkSize, IsSoundIf, commits_in}
+use Rattle.dl_kernel.specs.InOrder.{listed}
 use Rattle.dl_record.specs.Epochs.{InEpochs, base}
 use Rattle.spec_play.specs.Noted.{as_log}
 use Rattle.spec_log.specs.Versions.{new_threads}
@@ -118,7 +119,7 @@ IsKeepingOf s past (Replaying r loads) = IsReplaying r past.state × HasAllIf r.
 
 -- the state counts the commits before the sphere's first one too
 abbrev pub IsCounted : Past → Type 0
-IsCounted past = past.first + length past.commits.items ≡ past.state.commits
+IsCounted past = past.first + length (listed past.commits) ≡ past.state.commits
 
 -- what is true of every sphere: its standard size is a log's, its commits are counted, and its outstanding request is sound
 pub record IsSphere (s : ℕ) (past : Past) (keeping : Keeping) : Type 0 where

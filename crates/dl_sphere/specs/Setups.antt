@@ -3,6 +3,7 @@ use Rattle.std.specs.Prelude.{◌≡◌, ℕ, ◌<◌, List, Option, Some, None,
 use Rattle.dl_entry.specs.declared.End.{End}
 use Rattle.dl_entry.specs.declared.Why.{Why}
 use Rattle.spec_log.specs.declared.ModeName.{ModeName}
+use Rattle.spec_log.specs.declared.LogParts.{LogParts}
 use Rattle.spec_play.specs.declared.interval.Interval.{Interval}
 use Rattle.spec_play.specs.Intervals.{IsWithin}
 use Rattle.spec_play.specs.Progress.{position}
@@ -15,6 +16,7 @@ use Rattle.spec_protocol.specs.machine.Spheres as machine
 use Rattle.spec_protocol.specs.promises.Sound.{AreReplayableIf, IsRecordable}
 use Rattle.spec_strata.specs.declared.stratum.Stratum.{Stratum}
 use Rattle.spec_strata.specs.declared.strata.StrataParts.{StrataParts}
+use Rattle.spec_strata.specs.Canonical.{canonical}
 use Rattle.dl_kernel.specs.States.{state_in}
 use Rattle.dl_sphere.specs.declared.setup.Begun.{Begun}
 use Rattle.dl_sphere.specs.declared.setup.Epochs.{Epochs}
@@ -31,11 +33,25 @@ abbrev pub diverged_in : Option Begun → Option Why
 diverged_in None = None
 diverged_in (Some b) = b.diverged
 
+-- the log that is replayed, which of strata is the one with their order; where an interval begins, if one is replayed; and the
+-- strata, if some are
+abbrev pub log_of : Replay → LogParts
+log_of (Replay.Log log begun) = log
+log_of (Replay.Strata v) = canonical v
+
+abbrev pub begun_of : Replay → Option Begun
+begun_of (Replay.Log log begun) = begun
+begun_of (Replay.Strata v) = None
+
+abbrev pub strata_of : Replay → Option StrataParts
+strata_of (Replay.Log log begun) = None
+strata_of (Replay.Strata v) = Some v
+
 -- where the role begins, if it replays an interval
 abbrev pub begun_as : Role → Option Begun
 begun_as Role.Plain = None
 begun_as (Role.Record version mode epochs) = None
-begun_as (Role.Replay replay) = replay.begun
+begun_as (Role.Replay replay) = begun_of replay
 
 -- in which runs it may be replayed, if it is in strata
 abbrev pub strata_in : Option StrataParts → Option (List Stratum)
@@ -46,10 +62,10 @@ strata_in (Some v) = Some v.strata
 abbrev pub strata_as : Role → Option StrataParts
 strata_as Role.Plain = None
 strata_as (Role.Record version mode epochs) = None
-strata_as (Role.Replay replay) = replay.strata
+strata_as (Role.Replay replay) = strata_of replay
 
 abbrev pub replay_setup : Replay → protocol.ReplaySetup
-replay_setup r = record { log = r.log; interval = interval_in r.begun; strata = strata_in r.strata }
+replay_setup r = record { log = log_of r; interval = interval_in (begun_of r); strata = strata_in (strata_of r) }
 
 abbrev pub epoch_setup : Epochs → protocol.EpochSetup
 epoch_setup e = record { size = e.size; keep = e.keep }
@@ -91,13 +107,13 @@ IsBegunIf image asked (Some b) = IsBegun image asked b
 
 -- strata, if there are some, are parallel on the image
 abbrev pub AreParallelIf : protocol.SphereSetup → Replay → Type 0
-AreParallelIf image r = AreReplayableIf image.memory image.entry (replay_setup r) (strata_in r.strata)
+AreParallelIf image r = AreReplayableIf image.memory image.entry (replay_setup r) (strata_in (strata_of r))
 
 abbrev pub IsBegunAs : protocol.SphereSetup → Role → Type 0
 IsBegunAs image Role.Plain = Unit {0}
 IsBegunAs image (Role.Record version mode epochs) = Unit {0}
 IsBegunAs image (Role.Replay replay) =
-    IsBegunIf image (replay_setup replay) replay.begun × AreParallelIf image replay
+    IsBegunIf image (replay_setup replay) (begun_of replay) × AreParallelIf image replay
 
 -- if an interval of a log is replayed, it begins where the log's play on the image is; and if strata are, all of them are,
 -- and they are parallel on the image
@@ -122,3 +138,8 @@ abbrev pub standard_in : (s : ℕ) → machine.Role → ℕ
 standard_in s machine.Plain = s
 standard_in s (machine.Record recording) = s
 standard_in s (machine.Replay b) = b.log.s
+
+-- strata begin before the first commit
+abbrev pub IsFirstIf : Replay → (commits : ℕ) → Type 0
+IsFirstIf (Replay.Log log begun) n = Unit {0}
+IsFirstIf (Replay.Strata v) n = n ≡ 0

@@ -1,13 +1,14 @@
 //! A sphere before its first commit.
 ghost use Rattle.std.specs.Prelude.{◌≡◌, ℕ, ◌%◌, IfOk, length};
 ghost use Rattle.spec_isa.specs.Words.{IsBytes};
+ghost use Rattle.spec_log.specs.Log.{IsLog};
 ghost use Rattle.spec_play.specs.Resuming.{IsBounded};
 ghost use Rattle.spec_protocol.specs.machine.Machine.{sphere_of};
 ghost use Rattle.spec_protocol.specs.promises.Sound.{IsChunkSize, IsImage, IsRole, IsSoundIf};
 ghost use Rattle.dl_kernel.specs.States.{state_in};
 ghost use Rattle.dl_replay.specs.Replays.{IsReplaying};
 ghost use Rattle.dl_sphere.specs.Roles.{keeping_of};
-ghost use Rattle.dl_sphere.specs.Setups.{HasBegun, IsRecordableIf, diverged_in, replay_setup, role_setup, setup_of};
+ghost use Rattle.dl_sphere.specs.Setups.{HasBegun, IsFirstIf, IsRecordableIf, begun_of, diverged_in, log_of, replay_setup, role_setup, setup_of};
 ghost use Rattle.dl_sphere.specs.Starting.{IsReplayingIf, diverged_if, keeping_at, start_as, started_from};
 
 use crate::part::{Part, Replayed};
@@ -17,7 +18,7 @@ use crate::setup::{Replay, Role, SphereSetup};
 use crate::sphere::Sphere;
 use dl_elf::Image;
 use dl_entry::OutOfMemory;
-use dl_kernel::{Past, State};
+use dl_kernel::{InOrder, Past, State};
 use dl_mem::Memory;
 use std::alloc::Global;
 
@@ -37,7 +38,7 @@ impl Sphere {
         let past = Past {
             alloc,
             first: state.commits,
-            commits: Vec::new(alloc),
+            commits: InOrder::new(alloc),
             state,
         };
         Ok(Sphere { s, past, part })
@@ -97,8 +98,7 @@ fn part_of(alloc: Global, setup: &SphereSetup, s: u32, state: &State) -> Result<
             Ok(Part::Recorded(recording))
         }
         Role::Replay(replay) => {
-            // the proof sees here that it is a log
-            let _ = replay.log.parts();
+            see_log(replay);
             Ok(Part::Replayed(Replayed {
                 player: player_of(alloc, replay, state)?,
                 loads: Vec::new(alloc),
@@ -107,12 +107,27 @@ fn part_of(alloc: Global, setup: &SphereSetup, s: u32, state: &State) -> Result<
     }
 }
 
+// What is replayed is a log: the proof of the caller sees it here.
+fn see_log(replay: &Replay)
+    ensures { IsLog (log_of replay.now) }
+{
+    match replay {
+        Replay::Log { log, .. } => {
+            let _ = log.parts();
+        }
+        Replay::Strata(strata) => {
+            let _ = strata.parts();
+        }
+    }
+}
+
 // The replay from a state of its log's play on; it has diverged if the play did before the interval.
 fn player_of(alloc: Global, replay: &Replay, state: &State) -> Result<Player, OutOfMemory>
-    requires bounded { IsBounded replay.now.log (state_in state.now) }
+    requires first { IsFirstIf replay.now state.now.commits }
+    requires bounded { IsBounded (log_of replay.now) (state_in state.now) }
     requires request { IsSoundIf (length state.now.memory) state.now.request }
     ensures from { let r = replay.now in IfOk result (λ player.
-        player ≡ diverged_if (diverged_in r.begun) state.now.commits (started_from (replay_setup r) (state_in state.now))) }
+        player ≡ diverged_if (diverged_in (begun_of r)) state.now.commits (started_from (replay_setup r) (state_in state.now))) }
     ensures at { IfOk result (λ player. IsReplaying player state.now) }
 {
     let mut player = started(alloc, replay, state)?;
@@ -122,16 +137,16 @@ fn player_of(alloc: Global, replay: &Replay, state: &State) -> Result<Player, Ou
     Ok(player)
 }
 
-// The replay of a log from a state of its play on, in strata if there are some.
+// The replay of a log, or of strata, from a state of the play on.
 fn started(alloc: Global, replay: &Replay, state: &State) -> Result<Player, OutOfMemory>
-    requires bounded { IsBounded replay.now.log (state_in state.now) }
+    requires first { IsFirstIf replay.now state.now.commits }
+    requires bounded { IsBounded (log_of replay.now) (state_in state.now) }
     requires request { IsSoundIf (length state.now.memory) state.now.request }
     ensures from { IfOk result (λ player. player ≡ started_from (replay_setup replay.now) (state_in state.now)) }
     ensures at { IfOk result (λ player. IsReplaying player state.now) }
 {
-    let mut player = Player::at(alloc, &replay.log, replay.interval(), state)?;
-    if let Some(strata) = &replay.strata {
-        player.go_by(alloc, strata)?;
+    match replay {
+        Replay::Log { log, .. } => Player::at(alloc, log, replay.interval(), state),
+        Replay::Strata(strata) => Player::of_strata(alloc, strata, state),
     }
-    Ok(player)
 }

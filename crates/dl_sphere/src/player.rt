@@ -1,4 +1,4 @@
-//! The replay of a log in any of the three modes.
+//! The replay of a log in any of the three modes, or of strata.
 ghost use Rattle.std.specs.Prelude.{◌≡◌, ◌↔◌, ℕ, List, ◌<◌, ◌≤◌, ◌+◌, IfOk, IfSome, OnOk, OnErr, IsTrue, None, Some, false, length, slice_get, option_map};
 ghost use Rattle.dl_entry.specs.Numbers.{most_threads};
 ghost use Rattle.spec_isa.specs.declared.thread.Parts.{Parts};
@@ -12,6 +12,7 @@ ghost use Rattle.spec_play.specs.Verdicts.{chunk_verdict, serial_verdict};
 ghost use Rattle.spec_play.specs.declared.used.Used.{Used};
 ghost use Rattle.spec_protocol.specs.machine.Spheres.{Replay, Sphere, actor_of, is_over, joins_in, turn_in};
 ghost use Rattle.spec_protocol.specs.promises.Sound.{IsSoundIf};
+ghost use Rattle.spec_strata.specs.Canonical.{canonical};
 ghost use Rattle.spec_strata.specs.Standing.{place_of, stratum_begun};
 ghost use Rattle.dl_kernel.specs.States.{PlayState as At, state_in};
 ghost use Rattle.dl_replay.specs.Following.{cursor_of, diverged, end_of, followed_from};
@@ -24,7 +25,7 @@ ghost use Rattle.dl_replay.specs.Replays.{Agrees, IsReplaying};
 use dl_entry::{Actor, End, OutOfMemory, Why};
 use dl_kernel::{State, StepResult};
 use dl_mode::{OrderAndSize, OrderOnly, PicoLog};
-use dl_replay::{Replayer, Verdict};
+use dl_replay::{Replayer, StrataMode, Verdict};
 use dl_thread::Thread;
 use dl_wbuf::Buffer;
 use spec_log::{Log, ModeName};
@@ -38,6 +39,7 @@ pub(crate) enum Players {
     OrderSize(Replayer<OrderAndSize>),
     OrderOnly(Replayer<OrderOnly>),
     Picolog(Replayer<PicoLog>),
+    Strata(Replayer<StrataMode>),
 }
 
 // Does the same with the replayer of whichever mode.
@@ -47,11 +49,12 @@ macro_rules! in_mode {
             Players::OrderSize($one) => $done,
             Players::OrderOnly($one) => $done,
             Players::Picolog($one) => $done,
+            Players::Strata($one) => $done,
         }
     };
 }
 
-// A replayer of one of the modes.
+// A replayer of one of the modes of logs, or of strata.
 #[derive(Drop)]
 pub(crate) struct Player {
     players: Players,
@@ -87,13 +90,23 @@ impl Player {
         Ok(Player { players })
     }
 
-    // The replay goes by these strata, of which nothing is done.
-    pub(crate) fn go_by(&mut self, alloc: Global, strata: &Strata) -> Result<(), OutOfMemory>
-        ensures value { let x = stratum_begun strata.now.strata 0 in
-            OnOk result (self.new ≡ record self.old { strata = Some x }) }
-        ensures at { (s : At) → IsReplaying self.old s → OnOk result (IsReplaying self.new s) }
+    // The replay of strata, of which nothing is done, from a state in which no commit is.
+    pub(crate) fn of_strata(
+        alloc: Global,
+        strata: &Strata,
+        state: &State,
+    ) -> Result<Player, OutOfMemory>
+        requires start { state.now.commits ≡ 0 }
+        requires bounded { IsBounded (canonical strata.now) (state_in state.now) }
+        requires request { IsSoundIf (length state.now.memory) state.now.request }
+        ensures from { let v = strata.now in IfOk result (λ player.
+            player ≡ record (followed_from (canonical v) None (state_in state.now)) { strata = Some (stratum_begun v.strata 0) }) }
+        ensures at { IfOk result (λ player. IsReplaying player state.now) }
     {
-        in_mode!(&mut self.players, replayer => replayer.go_by(alloc, strata))
+        let replayer = Replayer::of_strata(alloc, strata, state)?;
+        Ok(Player {
+            players: Players::Strata(replayer),
+        })
     }
 
     pub(crate) fn head(&self) -> Option<Actor>

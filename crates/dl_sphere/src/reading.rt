@@ -11,6 +11,7 @@ ghost use Rattle.spec_protocol.specs.promises.Kept.{has_due};
 ghost use Rattle.spec_protocol.specs.promises.Sound.{IsChunkSize};
 ghost use Rattle.spec_protocol.specs.machine.Spheres.{head_of, is_stopped, halves, is_in_pieces, turn_against};
 ghost use Rattle.dl_fly.specs.Slots.{set_slot};
+ghost use Rattle.dl_kernel.specs.InOrder.{listed};
 ghost use Rattle.dl_kernel.specs.States.{state_in};
 ghost use Rattle.dl_record.specs.Epochs.{base_state};
 ghost use Rattle.dl_replay.specs.Limits.{chunk_limit};
@@ -25,8 +26,9 @@ use crate::peeking::{live_size, live_words};
 use crate::sphere::Sphere;
 use crate::turning::turn;
 use dl_dev::Devices;
-use dl_entry::{Actor, Commit, End, OutOfMemory, Request};
+use dl_entry::{Actor, End, OutOfMemory, Request};
 use dl_fly::{Drain, Flights};
+use dl_kernel::InOrder;
 use dl_mem::Memory;
 use dl_record::Base;
 use dl_sig::Sig;
@@ -177,8 +179,8 @@ impl Sphere {
     }
 
     /// The whole commits so far that are kept, the first one first.
-    pub fn commits(&self) -> &[Commit]
-        ensures { result.now ≡ self.now.sphere.progress.commits }
+    pub fn commits(&self) -> &InOrder
+        ensures { listed result.now ≡ self.now.sphere.progress.commits }
     {
         &self.past.commits
     }

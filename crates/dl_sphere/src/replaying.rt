@@ -1,8 +1,9 @@
 //! The commits of a sphere that is replayed, each judged by its log.
-ghost use Rattle.std.specs.Prelude.{◌≡◌, ℕ, Bool, ◌+◌, ◌<◌, ◌≤◌, Some, IfOk, IfSome, OnErr, OnOk, false, length, slice_get, vec_len, vec_capacity};
+ghost use Rattle.std.specs.Prelude.{◌≡◌, ℕ, Bool, ◌+◌, ◌<◌, ◌≤◌, Some, IfOk, IfSome, IsTrue, OnErr, OnOk, false, length, slice_get};
 ghost use Rattle.spec_isa.specs.declared.thread.Parts.{Parts};
 ghost use Rattle.spec_engine.specs.declared.answers.How.{How};
 ghost use Rattle.spec_kernel.specs.Devices.{Devices};
+ghost use Rattle.dl_kernel.specs.InOrder.{listed};
 ghost use Rattle.spec_play.specs.Turns.{TurnOfDma};
 ghost use Rattle.spec_protocol.specs.machine.Commits.{is_piece, chunk_moved, piece_moved, serial_moved, dma_moved};
 ghost use Rattle.spec_protocol.specs.machine.Spheres.{is_over};
@@ -15,7 +16,7 @@ use crate::part::Replayed;
 use crate::words;
 use dl_chunk::Chunk;
 use dl_entry::{Commit, OutOfMemory};
-use dl_kernel::{Past, dma_commit, serial_commit, thread_at};
+use dl_kernel::{InOrder, Past, dma_commit, serial_commit, thread_at};
 use dl_replay::Verdict;
 use dl_sig::Sig;
 
@@ -46,14 +47,14 @@ pub(crate) fn commit_part<G: Sig>(
     }
     let size = replay.player.pieces() + chunk.n();
     let commit = joined_commit(past.alloc, thread, size, &replay.loads, chunk)?;
-    past.commits.reserve(1)?;
     let place = replay.player.place(thread);
+    make_room(&mut past.commits, thread, place)?;
     match replay
         .player
         .end_chunk(thread, chunk.state(), size, &mut past.state)
     {
         Verdict::Went => {
-            put(&mut past.commits, place, commit);
+            put(&mut past.commits, thread, place, commit);
             replay.loads.clear();
             Ok(Moved::Granted(words))
         }
@@ -106,12 +107,12 @@ pub(crate) fn serve_step(
 {
     // the proof sees here that the thread is one of the sphere
     let _ = thread_at(&past.state.threads, thread);
-    past.commits.reserve(1)?;
     let place = replay.player.place(thread);
+    make_room(&mut past.commits, thread, place)?;
     match replay.player.serve_step(thread, &mut past.state)? {
         Ok(left) => {
             let commit = serial_commit(thread, left.loads, left.outputs);
-            put(&mut past.commits, place, commit);
+            put(&mut past.commits, thread, place, commit);
             replay.loads.clear();
             Ok(Moved::Granted(left.words))
         }
@@ -129,7 +130,7 @@ pub(crate) fn serve_dma(replay: &mut Replayed, past: &mut Past) -> Result<Moved,
     ensures log { replay.new.player.log ≡ replay.old.player.log }
     ensures still { OnErr result (replayed_at past.new replay.new ≡ replayed_at past.old replay.old) }
 {
-    past.commits.reserve(1)?;
+    past.commits.reserve()?;
     match replay.player.serve_dma(&mut past.state)? {
         Ok(words) => {
             past.commits.push_reserved(dma_commit(past.alloc));
@@ -140,17 +141,25 @@ pub(crate) fn serve_dma(replay: &mut Replayed, past: &mut Past) -> Result<Moved,
     }
 }
 
-// Puts a whole commit in its place, for which there is room.
-fn put(commits: &mut Vec<Commit>, place: Option<u32>, commit: Commit)
-    requires room { vec_len commits.old < vec_capacity commits.old }
-    requires within { IfSome place (λ place. place ≤ length commits.old.items) }
-    ensures { commits.new.items ≡ put_at place commit commits.old.items }
+// Makes room for a whole commit of a thread, in its place if it has one.
+fn make_room(commits: &mut InOrder, thread: u8, place: Option<u32>) -> Result<(), OutOfMemory>
+    ensures same { listed commits.new ≡ listed commits.old }
+    ensures ok { OnOk result (IsTrue commits.new.room) }
 {
-    let Some(place) = place else {
-        return commits.push_reserved(commit);
-    };
-    match commits.insert(place as usize, commit) {
-        Ok(()) => {}
-        Err(_) => unreachable!(),
+    match place {
+        None => commits.reserve(),
+        Some(_) => commits.reserve_for(thread),
+    }
+}
+
+// Puts a whole commit of a thread in its place, for which there is room.
+fn put(commits: &mut InOrder, thread: u8, place: Option<u32>, commit: Commit)
+    requires room { IsTrue commits.old.room }
+    requires within { IfSome place (λ place. place ≤ length (listed commits.old)) }
+    ensures { listed commits.new ≡ put_at place commit (listed commits.old) }
+{
+    match place {
+        None => commits.push_reserved(commit),
+        Some(place) => commits.put_reserved(thread, place, commit),
     }
 }

@@ -1,6 +1,6 @@
 //! What a plan says of a sphere.
 ghost use Rattle.std.specs.Prelude.{◌≡◌, option_map};
-ghost use Rattle.dl_sphere.specs.Setups.{begun_as, diverged_in, interval_in};
+ghost use Rattle.dl_sphere.specs.Setups.{begun_as, begun_of, diverged_in, interval_in};
 
 use dl_elf::Image;
 use dl_entry::Why;
@@ -29,13 +29,13 @@ pub struct Epochs {
     pub keep: u32,
 }
 
-/// What is replayed: all commits of a log, or those of an interval, where that begins; or those of strata, if there are some,
-/// of which the log has the order.
+/// What is replayed.
 #[derive(Drop)]
-pub struct Replay {
-    pub log: Log,
-    pub begun: Option<Begun>,
-    pub strata: Option<Strata>,
+pub enum Replay {
+    /// All commits of a log, or those of an interval, where that begins.
+    Log { log: Log, begun: Option<Begun> },
+    /// All commits of strata, in any order that they allow.
+    Strata(Strata),
 }
 
 /// Where an interval of a log begins: the state of the log's play on the sphere's image before the interval's first commit.
@@ -61,17 +61,27 @@ impl Role {
     {
         match self {
             Role::Plain | Role::Record { .. } => None,
-            Role::Replay(replay) => replay.begun.as_ref(),
+            Role::Replay(replay) => replay.begun(),
         }
     }
 }
 
 impl Replay {
+    /// Where an interval begins, if one is replayed.
+    pub fn begun(&self) -> Option<&Begun>
+        ensures { option_map (λ b. b.now) result ≡ begun_of self.now }
+    {
+        match self {
+            Replay::Log { begun, .. } => begun.as_ref(),
+            Replay::Strata(_) => None,
+        }
+    }
+
     /// The interval that is replayed, if not all commits are.
     pub fn interval(&self) -> Option<Interval>
-        ensures { result ≡ interval_in self.now.begun }
+        ensures { result ≡ interval_in (begun_of self.now) }
     {
-        match &self.begun {
+        match self.begun() {
             Some(begun) => Some(begun.interval),
             None => None,
         }
@@ -79,9 +89,9 @@ impl Replay {
 
     /// Why the log's play diverges before its interval, if it does.
     pub fn diverged(&self) -> Option<Why>
-        ensures { result ≡ diverged_in self.now.begun }
+        ensures { result ≡ diverged_in (begun_of self.now) }
     {
-        match &self.begun {
+        match self.begun() {
             Some(begun) => begun.diverged,
             None => None,
         }

@@ -80,7 +80,7 @@ impl Sphere {
         let _ = thread_at(&self.past.state.threads, thread);
         let words = words::copied(self.past.alloc, chunk.words())?;
         let commit = chunk_commit(self.past.alloc, thread, chunk)?;
-        self.past.commits.reserve(1)?;
+        self.past.commits.reserve()?;
         note(&mut self.part, &commit, is_short(self.s, chunk), None)?;
         self.past.commits.push_reserved(commit);
         let after = counted(chunk.state());
@@ -112,7 +112,7 @@ impl Sphere {
         if let Part::Replayed(replay) = &mut self.part {
             return serve_step(replay, &mut self.past, thread);
         }
-        self.past.commits.reserve(1)?;
+        self.past.commits.reserve()?;
         let state = &self.past.state;
         let step = Step {
             number: thread,
@@ -151,7 +151,7 @@ impl Sphere {
         let Some(request) = self.past.state.request else {
             unreachable!();
         };
-        self.past.commits.reserve(1)?;
+        self.past.commits.reserve()?;
         let words = live_dma(self.past.alloc, &mut self.part, &request, devices)?;
         self.past.commits.push_reserved(dma_commit(self.past.alloc));
         self.past.state.request = None;
@@ -200,7 +200,7 @@ impl Sphere {
         let state = current_state(past.alloc, &mut past.state, flights, number)?;
         recording.begin_epoch(state)?;
         let first = recording.first();
-        past.commits.drain(..(first - past.first) as usize);
+        past.commits.drop_first((first - past.first) as usize);
         past.first = first;
         Ok(())
     }

@@ -4,7 +4,7 @@ ghost use Rattle.spec_interval.specs.Slices.{slice_end, slice_of};
 ghost use Rattle.dl_serial.specs.Walked.{walked_in};
 ghost use Rattle.dl_trail.specs.Trails.{slice_in};
 
-use dl_account::account_text;
+use dl_account::{CommitLists, account_text};
 use dl_entry::{Commit, End, OutOfMemory};
 use dl_serial::Walked;
 use spec_play::WalkEnd;
@@ -31,7 +31,7 @@ pub(crate) fn text_of(
     let end = slice_end(walked.end);
     let bytes = account_text(
         alloc,
-        without(walked.commits.as_slice(), skipped),
+        CommitLists::of(without(walked.commits.as_slice(), skipped)),
         &state.threads,
         &state.request,
         &state.memory,

@@ -186,7 +186,7 @@ fn has_lived(alloc: Global, sphere: &Sphere, life: &Life) -> Result<bool, OutOfM
         Lived::Recorded { log, .. } => log_of(alloc, sphere)?.as_slice() == log,
         Lived::Replayed { end, .. } | Lived::Cut { end, .. } => sphere.end() == end,
     };
-    Ok(has_ended && has_done(alloc, sphere.commits(), life)?)
+    Ok(has_ended && has_done(alloc, sphere.commits().whole(), life)?)
 }
 
 // The bytes of its log, if it is recorded.
@@ -319,10 +319,9 @@ fn role_of(alloc: Global, lived: Lived) -> Result<Role, Fail>
             mode,
             epochs: None,
         }),
-        Lived::Replayed { log, .. } | Lived::Cut { log, .. } => Ok(Role::Replay(Replay {
+        Lived::Replayed { log, .. } | Lived::Cut { log, .. } => Ok(Role::Replay(Replay::Log {
             log: read_log(alloc, log)?,
             begun: None,
-            strata: None,
         })),
     }
 }
@@ -338,10 +337,9 @@ fn cut(alloc: Global, image: Image, log: Log, to: u32) -> Result<SphereSetup, Fa
         state,
         diverged: None,
     };
-    let role = Role::Replay(Replay {
+    let role = Role::Replay(Replay::Log {
         log,
         begun: Some(begun),
-        strata: None,
     });
     Ok(SphereSetup { image, role })
 }

@@ -6,6 +6,7 @@ use Rattle.spec_play.specs.declared.used.Used.{Used}
 use Rattle.spec_protocol.specs.machine.Epochs as protocol
 use Rattle.spec_protocol.specs.promises.Kept.{is_due_if, has_due}
 use Rattle.dl_kernel.specs.declared.past.Past.{Past}
+use Rattle.dl_kernel.specs.InOrder.{listed}
 use Rattle.dl_record.specs.Epochs.{due_in}
 use Rattle.dl_sphere.specs.Pasts.{sphere_at}
 use Rattle.dl_sphere.specs.Roles.{Keeping, Plain, Recording, Replaying, role_of}
@@ -24,7 +25,7 @@ due_same_if n None = refl
 due_same_if n (Some x) = due_same n x
 
 -- if none is due in the sphere, none is due of what is kept for it
-pub ready : (past : Past) (u : Used) (x : Keeping) → has_due (sphere_at past (role_of u x)) ≡ false → IsReadyAt (past.first + length past.commits.items) x
+pub ready : (past : Past) (u : Used) (x : Keeping) → has_due (sphere_at past (role_of u x)) ≡ false → IsReadyAt (past.first + length (listed past.commits)) x
 ready past u Plain h = tt
-ready past u (Recording r) h = sym (due_same_if (past.first + length past.commits.items) r.epochs) ∙ h
+ready past u (Recording r) h = sym (due_same_if (past.first + length (listed past.commits)) r.epochs) ∙ h
 ready past u (Replaying r loads) h = tt

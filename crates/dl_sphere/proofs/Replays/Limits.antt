@@ -15,6 +15,7 @@ use Rattle.spec_protocol.proofs.Sound.Commits.{set-all}
 use Rattle.spec_protocol.proofs.Sound.Limits.{whole-most}
 use Rattle.dl_kernel.specs.declared.past.Past.{Past}
 use Rattle.dl_kernel.specs.States.{PlayState as State}
+use Rattle.dl_kernel.specs.InOrder.{listed}
 use Rattle.dl_replay.specs.Following.{Following}
 use Rattle.dl_replay.specs.Limits.{chunk_limit_in}
 use Rattle.dl_replay.specs.Replays.{IsReplaying}
@@ -127,7 +128,7 @@ few_live s p (Recording r) h = h.few
 few_live s p (Replays r loads) h = absurd h
 
 -- a live sphere has fewer commits than a log may have, where its caller says so
-pub few_here : (a : Inside) (v : SizedSphere) → sphere_in a ≡ v.sphere → IsLive (keeping_of a.part) → (replays v.sphere.role ≡ false → position v.sphere.progress < 2 ^ 24) → a.past.first + length a.past.commits.items < 2 ^ 24
+pub few_here : (a : Inside) (v : SizedSphere) → sphere_in a ≡ v.sphere → IsLive (keeping_of a.part) → (replays v.sphere.role ≡ false → position v.sphere.progress < 2 ^ 24) → a.past.first + length (listed a.past.commits) < 2 ^ 24
 few_here a v is live few =
     subst (λ (p : Sphere). position p.progress < 2 ^ 24) (sym is)
     (few (sym (ap (λ (p : Sphere). replays p.role) is) ∙ role_live a.past.state.used (keeping_of a.part) live))

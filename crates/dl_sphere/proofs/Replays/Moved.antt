@@ -22,6 +22,7 @@ use Rattle.spec_protocol.specs.machine.Commits.{Diverged, Granted, MovedSphere, 
 use Rattle.spec_protocol.specs.machine.Spheres.{Replay, Role, Sphere}
 use Rattle.dl_kernel.specs.declared.past.Past.{Past}
 use Rattle.dl_kernel.specs.States.{PlayState as State}
+use Rattle.dl_kernel.specs.InOrder.{listed}
 use Rattle.dl_replay.specs.Following.{Following, cursor_of}
 use Rattle.dl_replay.specs.Judged.{Judged, judged, dma_judged}
 use Rattle.dl_replay.specs.Replays.{Agrees}
@@ -37,7 +38,7 @@ not-went why e = cc
 
 -- the sphere's commits with one more of thread k
 abbrev pub put_in : Past → Following → (thread : ℕ) → Commit → List Commit
-put_in past r k c = put_at (option_map (place_of k) r.strata) c past.commits.items
+put_in past r k c = put_at (option_map (place_of k) r.strata) c (listed past.commits)
 
 -- The sphere has come so far; these are the loads of the pieces of its present commit, and the devices.
 module _ (past : Past) (loads : List Load) (d : Devices) where
@@ -46,14 +47,14 @@ module _ (past : Past) (loads : List Load) (d : Devices) where
   in_state s cs r ls = sphere_with past.first s.memory s.threads cs s.last s.request (Replay (cursor_of r s.used ls))
 
   abbrev now_at : Following → Sphere
-  now_at r = in_state past.state past.commits.items r loads
+  now_at r = in_state past.state (listed past.commits) r loads
 
   -- what an answer, with what it leaves, makes of the sphere: if a commit goes, it has these, and stores these words
   abbrev answered : List Commit → List Stored → Verdict → Following → State → MovedSphere
   answered cs words Verdict.Went r s =
       record { outcome = Granted; sphere = in_state s cs r []; words = words; devices = d }
   answered cs words (Verdict.Diverged why) r s =
-      record { outcome = Diverged past.state.commits why; sphere = in_state s past.commits.items r loads; words = []; devices = d }
+      record { outcome = Diverged past.state.commits why; sphere = in_state s (listed past.commits) r loads; words = []; devices = d }
 
   abbrev pub made_of : List Commit → List Stored → Judged → MovedSphere
   made_of cs words j = answered cs words j.verdict j.replay j.state
@@ -85,7 +86,7 @@ module _ (past : Past) (loads : List Load) (d : Devices) where
   IfStores words (DmaFails why) = Unit {0}
 
   pub dma_goes : (r : Following) (v : DmaVerdict) (words : List Stored) → IsCounted past → IfStores words v
-      → made_of (past.commits.items ++ dma_commit ∷ []) words (dma_judged r past.state (now_at r).progress v) ≡ dma_by_verdict (cursor_of r past.state.used loads) v d (now_at r)
+      → made_of ((listed past.commits) ++ dma_commit ∷ []) words (dma_judged r past.state (now_at r).progress v) ≡ dma_by_verdict (cursor_of r past.state.used loads) v d (now_at r)
   dma_goes r (DmaFails why) words counted of =
       (λ i. record {
         outcome = Diverged (sym counted i) why;
@@ -93,7 +94,7 @@ module _ (past : Past) (loads : List Load) (d : Devices) where
         words = [];
         devices = d;
       })
-  dma_goes r (DmaGoes stored) words counted of = (λ i. made_of (past.commits.items ++ dma_commit ∷ []) (sym of i) (dma_judged r past.state (now_at r).progress (DmaGoes stored)))
+  dma_goes r (DmaGoes stored) words counted of = (λ i. made_of ((listed past.commits) ++ dma_commit ∷ []) (sym of i) (dma_judged r past.state (now_at r).progress (DmaGoes stored)))
 
   -- the words that a DMA gives are those of its verdict
   pub dma_stores : (words : List Stored) (v : DmaVerdict) → DmaGoes words ≡ v → IfStores words v
@@ -107,14 +108,14 @@ module _ (past : Past) (loads : List Load) (d : Devices) where
 
   pub commit_left : (r : Following) (k : ℕ) (v : LogVerdict) (why : Why) (new : Following) (t : State) → IsCounted past
       → record { verdict = Verdict.Diverged why; replay = new; state = t } ≡ judged r past.state (now_at r).progress k v
-      → answered past.commits.items [] (Verdict.Diverged why) new t ≡ by_verdict (cursor_of r past.state.used loads) k v d (now_at r)
+      → answered (listed past.commits) [] (Verdict.Diverged why) new t ≡ by_verdict (cursor_of r past.state.used loads) k v d (now_at r)
   commit_left r k (Fails other) why new t counted is = fails why new t _ is (put_in past r k dma_commit) [] ∙ commit_moved r k (Fails other) dma_commit [] counted tt
   commit_left r k (Goes e u) why new t counted is = absurd (not-went why (ap (λ (j : Judged). j.verdict) is))
 
   pub dma_left : (r : Following) (v : DmaVerdict) (why : Why) (new : Following) (t : State) → IsCounted past
       → record { verdict = Verdict.Diverged why; replay = new; state = t } ≡ dma_judged r past.state (now_at r).progress v
-      → answered past.commits.items [] (Verdict.Diverged why) new t ≡ dma_by_verdict (cursor_of r past.state.used loads) v d (now_at r)
-  dma_left r (DmaFails other) why new t counted is = fails why new t _ is (past.commits.items ++ dma_commit ∷ []) [] ∙ dma_goes r (DmaFails other) [] counted tt
+      → answered (listed past.commits) [] (Verdict.Diverged why) new t ≡ dma_by_verdict (cursor_of r past.state.used loads) v d (now_at r)
+  dma_left r (DmaFails other) why new t counted is = fails why new t _ is ((listed past.commits) ++ dma_commit ∷ []) [] ∙ dma_goes r (DmaFails other) [] counted tt
   dma_left r (DmaGoes words) why new t counted is = absurd (not-went why (ap (λ (j : Judged). j.verdict) is))
 
 -- ---- what is counted

@@ -31,7 +31,8 @@ use Rattle.spec_protocol.proofs.Logs.Fresh.{fresh-none}
 use Rattle.spec_protocol.proofs.Logs.Growing.{commits_in}
 use Rattle.spec_protocol.proofs.Sound.Plays.{replay-sound}
 use Rattle.dl_kernel.specs.States.{state_in}
-use Rattle.dl_sphere.specs.Setups.{HasCome, IsBegunAs, IsBegunIf, IsParallelAs, begun_as, diverged_in, interval_in, replay_setup, role_setup, strata_as, strata_in}
+use Rattle.dl_kernel.specs.InOrder.{listed}
+use Rattle.dl_sphere.specs.Setups.{HasCome, IsBegunAs, IsBegunIf, IsFirstIf, IsParallelAs, begun_as, begun_of, diverged_in, interval_in, log_of, replay_setup, role_setup, strata_as, strata_in, strata_of}
 use Rattle.dl_sphere.specs.declared.setup.Begun.{Begun}
 use Rattle.dl_sphere.specs.declared.setup.Replay.{Replay}
 use Rattle.dl_sphere.specs.declared.setup.Role.{Role}
@@ -145,8 +146,8 @@ within-if image asked None h = tt
 within-if image asked (Some b) h = h.within
 
 -- what is replayed is a log, and an interval is within it
-pub role_of_replay : (s : ℕ) (image : SphereSetup) (r : Replay) → IsLog r.log → IsBegunIf image (replay_setup r) r.begun → IsRole s (IsReplayed (replay_setup r))
-role_of_replay s image r good h = (good, within-if image (replay_setup r) r.begun h)
+pub role_of_replay : (s : ℕ) (image : SphereSetup) (r : Replay) → IsLog (log_of r) → IsBegunIf image (replay_setup r) (begun_of r) → IsRole s (IsReplayed (replay_setup r))
+role_of_replay s image r good h = (good, within-if image (replay_setup r) (begun_of r) h)
 
 follows-start : (image : SphereSetup) (log : LogParts) (o : Option Begun) (strata : Option (List Stratum)) (s : State) → let asked : ReplaySetup = record { log = log; interval = interval_in o; strata = strata } in
     IsBegunIf image asked o → s ≡ state_of (first_played image asked)
@@ -158,9 +159,9 @@ follows-start image log (Some b) strata s h is =
     ∙ start_follows image log b.interval strata b.diverged h.within h.come
 
 -- its player is where its log's play is
-pub follows_start : (image : SphereSetup) (r : Replay) (s : State) → IsBegunIf image (replay_setup r) r.begun → s ≡ state_of (first_played image (replay_setup r))
-    → diverged_if (diverged_in r.begun) s.commits (started_from (replay_setup r) s) ≡ following_at (replay_setup r) (first_played image (replay_setup r))
-follows_start image r s h is = follows-start image r.log r.begun (strata_in r.strata) s h is
+pub follows_start : (image : SphereSetup) (r : Replay) (s : State) → IsBegunIf image (replay_setup r) (begun_of r) → s ≡ state_of (first_played image (replay_setup r))
+    → diverged_if (diverged_in (begun_of r)) s.commits (started_from (replay_setup r) s) ≡ following_at (replay_setup r) (first_played image (replay_setup r))
+follows_start image r s h is = follows-start image (log_of r) (begun_of r) (strata_in (strata_of r)) s h is
 
 first-start : (image : SphereSetup) (log : LogParts) (o : Option Begun) (strata : Option (List Stratum)) → o ≡ None → first_state image ≡ start_as image (IsReplayed (record { log = log; interval = interval_in o; strata = strata }))
 first-start image log None strata is = refl
@@ -170,7 +171,7 @@ first-start image log (Some b) strata is = absurd (none-some b (sym is))
 pub starts_first : (image : SphereSetup) (role : Role) → begun_as role ≡ None → first_state image ≡ start_as image (role_setup role)
 starts_first image Role.Plain is = refl
 starts_first image (Role.Record version mode epochs) is = refl
-starts_first image (Role.Replay r) is = first-start image r.log r.begun (strata_in r.strata) is
+starts_first image (Role.Replay r) is = first-start image (log_of r) (begun_of r) (strata_in (strata_of r)) is
 
 begun-start : (image : SphereSetup) (log : LogParts) (o : Option Begun) (strata : Option (List Stratum)) (b : Begun) → o ≡ Some b → IsBegunIf image (record { log = log; interval = interval_in o; strata = strata }) o
     → state_in b.state ≡ start_as image (IsReplayed (record { log = log; interval = interval_in o; strata = strata }))
@@ -190,7 +191,7 @@ pub unless_begun : (image : SphereSetup) (role : Role) → begun_as role ≡ Non
 unless_begun image Role.Plain is none = tt
 unless_begun image (Role.Record version mode epochs) is none = tt
 unless_begun image (Role.Replay r) is none =
-    (unless-begun image (replay_setup r) r.begun is, unless-parallel image (replay_setup r) r.strata none)
+    (unless-begun image (replay_setup r) (begun_of r) is, unless-parallel image (replay_setup r) (strata_of r) none)
 
 -- what a role asks of its sphere's image
 pub parallel_as : (image : SphereSetup) (role : Role) → IsBegunAs image role → IsParallelAs image (role_setup role)
@@ -202,7 +203,14 @@ parallel_as image (Role.Replay r) h = h.1
 pub starts_begun : (image : SphereSetup) (role : Role) (b : Begun) → begun_as role ≡ Some b → IsBegunAs image role → state_in b.state ≡ start_as image (role_setup role)
 starts_begun image Role.Plain b is h = absurd (none-some b is)
 starts_begun image (Role.Record version mode epochs) b is h = absurd (none-some b is)
-starts_begun image (Role.Replay r) b is h = begun-start image r.log r.begun (strata_in r.strata) b is h.0
+starts_begun image (Role.Replay r) b is h = begun-start image (log_of r) (begun_of r) (strata_in (strata_of r)) b is h.0
+
+-- strata begin before the first commit
+pub first_if : (image : SphereSetup) (r : Replay) (s : State) → s ≡ start_as image (role_setup (Role.Replay r)) → IsFirstIf r s.commits
+first_if image (Replay.Log log begun) s is = tt
+first_if image (Replay.Strata v) s is =
+    let none : (state_of (first_played image (in_strata v))).commits ≡ 0 = refl in
+    ap (λ (x : State). x.commits) is ∙ none
 
 -- ---- the whole sphere
 
@@ -240,11 +248,11 @@ start_alone s image (IsRecorded asked) parallel =
     }
 start_alone s image (IsReplayed asked) parallel = all-first image asked asked.strata parallel
 
-kept-from : (s : ℕ) (past : Past) (x : Keeping) → past.state.commits ≡ past.first → AloneOr s (state_in past.state) past.commits.items x → IsReplayingIf x past.state → IsKeepingOf s past x
+kept-from : (s : ℕ) (past : Past) (x : Keeping) → past.state.commits ≡ past.first → AloneOr s (state_in past.state) (listed past.commits) x → IsReplayingIf x past.state → IsKeepingOf s past x
 kept-from s past Plain first h at =
-    subst (λ (n : ℕ). HasFew (sphere_with n past.state.memory past.state.threads past.commits.items past.state.last past.state.request machine.Plain)) first h
+    subst (λ (n : ℕ). HasFew (sphere_with n past.state.memory past.state.threads (listed past.commits) past.state.last past.state.request machine.Plain)) first h
 kept-from s past (Recording r) first h at =
-    subst (λ (n : ℕ). HasRecorded s (sphere_with n past.state.memory past.state.threads past.commits.items past.state.last past.state.request (machine.Record (recording_of r))) r) first h
+    subst (λ (n : ℕ). HasRecorded s (sphere_with n past.state.memory past.state.threads (listed past.commits) past.state.last past.state.request (machine.Record (recording_of r))) r) first h
 kept-from s past (Replaying r loads) first h at = (at, subst (HasAllIf r.strata) first h)
 
 first_asks : (s : ℕ) (image : SphereSetup) (role : RoleSetup) (st : At) → state_in st ≡ start_as image role → IsReplayingIf (keeping_at image s role) st → IsSoundIf (length st.memory) st.request
@@ -260,7 +268,7 @@ request-from s image st x is kept at = first_asks s image image.role st is (subs
 pub record Starts (s : ℕ) (image : SphereSetup) (past : Past) (x : Keeping) : Type 0 where
   pub state : state_in past.state ≡ start_as image image.role
   pub first : past.state.commits ≡ past.first
-  pub commits : past.commits.items ≡ []
+  pub commits : (listed past.commits) ≡ []
   pub kept : x ≡ keeping_at image s image.role
   pub at : IsReplayingIf x past.state
   pub parallel : IsParallelAs image image.role
@@ -268,12 +276,12 @@ pub record Starts (s : ℕ) (image : SphereSetup) (past : Past) (x : Keeping) : 
 -- a sphere that has just been set up stands
 pub start_standing : (s : ℕ) (image : SphereSetup) (past : Past) (x : Keeping) → IsChunkSize s → Starts s image past x → IsSphere s past x
 start_standing s image past x size h =
-    let here : AloneOr s (state_in past.state) past.commits.items x =
-    subst (AloneOr s (state_in past.state) past.commits.items) (sym h.kept)
-    (subst (λ (st : State). AloneOr s st past.commits.items (keeping_at image s image.role)) (sym h.state)
+    let here : AloneOr s (state_in past.state) (listed past.commits) x =
+    subst (AloneOr s (state_in past.state) (listed past.commits)) (sym h.kept)
+    (subst (λ (st : State). AloneOr s st (listed past.commits) (keeping_at image s image.role)) (sym h.state)
     (subst (λ (cs : List Commit). AloneOr s (start_as image image.role) cs (keeping_at image s image.role)) (sym h.commits) (start_alone s image image.role h.parallel)))
     in
-    let none : length past.commits.items ≡ 0 = ap length h.commits in
+    let none : length (listed past.commits) ≡ 0 = ap length h.commits in
     let first = h.first in
     record {
       size = size;

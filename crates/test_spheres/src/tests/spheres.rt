@@ -51,10 +51,9 @@ fn role(alloc: Global, begins: Begins) -> Result<Role, Fail>
             mode,
             epochs: Some(Epochs { size: 2, keep: 1 }),
         }),
-        Begins::Replayed(bytes) => Ok(Role::Replay(Replay {
+        Begins::Replayed(bytes) => Ok(Role::Replay(Replay::Log {
             log: read_log(alloc, bytes)?,
             begun: None,
-            strata: None,
         })),
     }
 }

@@ -2,7 +2,7 @@
 ghost use Rattle.std.specs.Prelude.{◌≡◌, ◌%◌, ◌<◌, length};
 ghost use Rattle.spec_isa.specs.Threads.{IsThread};
 
-use dl_account::{Commit, End, Memory, OutOfMemory, Request, Threads, account_text};
+use dl_account::{Commit, CommitLists, End, Memory, OutOfMemory, Request, Threads, account_text};
 use dl_elf::load;
 use dl_entry::{Actor, Bytes, CommitKind, Load, Loads, Output, Outputs, Why};
 use dl_thread::{Parts, Thread, ThreadStatus};
@@ -21,13 +21,36 @@ fn accounts_are_those_of_the_worked_runs(rt: HostRuntime) -> Result<(), Fail> {
 #[test]
 fn accounts_end_where_their_logs_are_left(rt: HostRuntime) -> Result<(), Fail> {
     let alloc = rt.alloc();
-    let account = diverged(alloc, 0, &[], End::Diverged(0, Why::Short(3, 2)))?;
+    let none = CommitLists::of(&[]);
+    let account = diverged(alloc, 0, none, End::Diverged(0, Why::Short(3, 2)))?;
     assert!(rt; account.as_slice() == b"end diverged 0 2 3 2\n".as_slice());
     let commits = [commit(alloc, Actor::Thread(0), 3)];
-    let account = diverged(alloc, 0, &commits, End::Diverged(1, Why::Input))?;
+    let one = CommitLists::of(&commits);
+    let account = diverged(alloc, 0, one, End::Diverged(1, Why::Input))?;
     assert!(rt; account.as_slice() == b"c 0 0 3\nend diverged 1 4\n".as_slice());
-    let account = diverged(alloc, 2, &commits, End::Diverged(3, Why::Dma))?;
+    let account = diverged(alloc, 2, one, End::Diverged(3, Why::Dma))?;
     assert!(rt; account.as_slice() == b"c 2 0 3\nend diverged 3 6\n".as_slice());
+    Ok(())
+}
+
+#[test]
+fn commits_of_lists_come_after_the_others(rt: HostRuntime) -> Result<(), Fail> {
+    let alloc = rt.alloc();
+    let whole = [commit(alloc, Actor::Thread(2), 5)];
+    let by_thread = [
+        vec![in alloc;
+            commit(alloc, Actor::Thread(0), 6),
+            commit(alloc, Actor::Thread(0), 0),
+        ]?,
+        Vec::new(alloc),
+        vec![in alloc; commit(alloc, Actor::Thread(2), 7)]?,
+    ];
+    let commits = CommitLists {
+        whole: &whole,
+        by_thread: &by_thread,
+    };
+    let account = diverged(alloc, 1, commits, End::Diverged(5, Why::Input))?;
+    assert!(rt; account.as_slice() == IN_LISTS);
     Ok(())
 }
 
@@ -42,7 +65,7 @@ fn three_instructions(alloc: Global) -> Result<Vec<u8>, Fail> {
     let memory = memory(alloc, b"\x93\x08\0\0\x13\x05\x70\0\x73\0\0\0")?;
     Ok(account_text(
         alloc,
-        &commits,
+        CommitLists::of(&commits),
         &alone(&thread),
         &None,
         &memory,
@@ -69,7 +92,7 @@ fn interrupt(alloc: Global) -> Result<Vec<u8>, Fail> {
     )?;
     Ok(account_text(
         alloc,
-        &commits,
+        CommitLists::of(&commits),
         &alone(&thread),
         &None,
         &memory,
@@ -106,7 +129,7 @@ fn device_words(alloc: Global) -> Result<Vec<u8>, Fail> {
     )?;
     Ok(account_text(
         alloc,
-        &commits,
+        CommitLists::of(&commits),
         &alone(&thread),
         &None,
         &memory,
@@ -115,7 +138,12 @@ fn device_words(alloc: Global) -> Result<Vec<u8>, Fail> {
     )?)
 }
 
-fn diverged(alloc: Global, first: u32, commits: &[Commit], end: End) -> Result<Vec<u8>, Fail> {
+fn diverged(
+    alloc: Global,
+    first: u32,
+    commits: CommitLists<'_>,
+    end: End,
+) -> Result<Vec<u8>, Fail> {
     let threads = Threads::start(0);
     Ok(account_text(
         alloc,
@@ -159,7 +187,15 @@ fn interval(rt: &impl Abort, alloc: Global) -> Result<Vec<u8>, Fail> {
     )?;
     assert!(rt; memory.size() == 4096);
     memory.put(0x100, 0b1111, 9);
-    Ok(account_text(alloc, &commits, &threads, &None, &memory, &End::At(4), 2)?)
+    Ok(account_text(
+        alloc,
+        CommitLists::of(&commits),
+        &threads,
+        &None,
+        &memory,
+        &End::At(4),
+        2,
+    )?)
 }
 
 #[test]
@@ -188,7 +224,7 @@ fn made(rt: &impl Abort, alloc: Global) -> Result<Vec<u8>, Fail> {
     });
     Ok(account_text(
         alloc,
-        &commits,
+        CommitLists::of(&commits),
         &ended_and_masked(rt),
         &request,
         &memory_of_two_words(rt, alloc)?,
@@ -292,6 +328,13 @@ fn memory(alloc: Global, code: &[u8]) -> Result<Memory, Fail>
     image.extend_from_slice(code)?;
     Ok(Memory::new(alloc, &load(alloc, &image, 4096)?)?)
 }
+
+const IN_LISTS: &[u8] = b"\
+    c 1 2 5\n\
+    c 2 0 6\n\
+    c 3 0 0\n\
+    c 4 2 7\n\
+    end diverged 5 4\n";
 
 const THREE_INSTRUCTIONS: &[u8] = b"\
     c 0 0 2\n\

@@ -1,4 +1,4 @@
-use Rattle.std.proofs.Common.{None, Some, subst}
+use Rattle.std.proofs.Common.{refl, subst}
 use Rattle.spec_strata.specs.Checking.{IsAnswer}
 use Rattle.spec_strata.specs.Reading.{read_of}
 use Rattle.spec_strata.specs.declared.strata.StrataParts.{StrataParts}
@@ -15,7 +15,7 @@ returns-clause-begun c =
       tt,
       record {
         strata = v;
-        asks = λ k. record { log = c.in_ok-log.ensures k; interval = None; strata = Some v.strata };
+        asks = refl;
         some = strata-some c.args.bytes.now v (not_refused (bad_strata c.args.sphere) (read_of c.args.bytes.now) v c.in_ok-strata.ensures.strata);
         parallel = subst (IsAnswer v image.bytes image.entry) c.in_ok-check.ensures.parallel (answers_are_found v image.bytes image.entry);
       },

@@ -25,7 +25,7 @@ pub returns-in-Some-clause-verdict : goal.returns-in-Some-clause-verdict
 returns-in-Some-clause-verdict g c p t a is =
     let s = c.args.state.now in
     let k = c.args.number in
-    let log = c.args.log.now in
+    let log = c.args.log.now.log in
     let u = c.thread_at-thread.result in
     let why : Some c.in-Some.why ≡ serial_why (size_in log (Actor.Thread k) u.commits) = cc in
     subst (λ (x : Parts). Fails c.in-Some.why ≡ serial_verdict log p s.used k s.threads x s.memory) (some-same (sym c.thread_at-thread.ensures.thread ∙ is))
@@ -35,7 +35,7 @@ pub returns-in_default-given-clause-verdict : goal.returns-in_default-given-clau
 returns-in_default-given-clause-verdict g c p t a is =
     let s = c.args.state.now in
     let k = c.args.number in
-    let log = c.args.log.now in
+    let log = c.args.log.now.log in
     let u = c.thread_at-thread.result in
     let none : Option Why = None in
     let why : none ≡ serial_why (size_in log (Actor.Thread k) u.commits) = cc in
@@ -55,7 +55,7 @@ pub returns-in-Ok-clause-verdict : goal.returns-in-Ok-clause-verdict
 returns-in-Ok-clause-verdict g c p t a is =
     let s = c.args.state.now in
     let k = c.args.number in
-    let log = c.args.log.now in
+    let log = c.args.log.now.log in
     let u = c.thread_at-thread.result in
     let none : Option Why = None in
     let why : none ≡ serial_why (size_in log (Actor.Thread k) u.commits) = cc in
@@ -96,7 +96,7 @@ pub returns-in-Err-clause-verdict : goal.returns-in-Err-clause-verdict
 returns-in-Err-clause-verdict g c p t a is =
     let s = c.args.state.now in
     let k = c.args.number in
-    let log = c.args.log.now in
+    let log = c.args.log.now.log in
     let u = c.thread_at-thread.result in
     let none : Option Why = None in
     let why : none ≡ serial_why (size_in log (Actor.Thread k) u.commits) = cc in

@@ -12,15 +12,15 @@ use Rattle.dl_replay.proofs.judging.transfer_of.Goals.{in_default-2-via-in-Some+
 pub returns-in-Some-clause-verdict : goal.returns-in-Some-clause-verdict
 returns-in-Some-clause-verdict g c p a =
     let s = c.args.state.now in
-    let why : Some c.in-Some.why ≡ serial_why (size_in c.args.log.now Actor.Dma s.commits) = cc in
-    sym (dma-is c.args.log.now p s.used s.commits s.request (Some c.in-Some.why) a.commits a.request why)
+    let why : Some c.in-Some.why ≡ serial_why (size_in c.args.log.now.log Actor.Dma s.commits) = cc in
+    sym (dma-is c.args.log.now.log p s.used s.commits s.request (Some c.in-Some.why) a.commits a.request why)
 
 pub returns-in_default-2-clause-verdict : goal.returns-in_default-2-clause-verdict
 returns-in_default-2-clause-verdict g c p a =
     let s = c.args.state.now in
     let none : Option Why = None in
-    let why : none ≡ serial_why (size_in c.args.log.now Actor.Dma s.commits) = cc in
-    let is = dma-is c.args.log.now p s.used s.commits s.request none a.commits a.request why in
+    let why : none ≡ serial_why (size_in c.args.log.now.log Actor.Dma s.commits) = cc in
+    let is = dma-is c.args.log.now.log p s.used s.commits s.request none a.commits a.request why in
     elim c.in_default-2.branch [
       | in_default-2-via-in-Some+in_default w ↦ sym (is ∙ no-record s.commits s.request _ (sym w.in_default-2.ensures.dma))
       | in_default-2-via-in_default w ↦ sym (is ∙ no-request s.commits s.request _ w.in_default-2.is-0)
@@ -30,15 +30,15 @@ pub returns-then-not-is_for-clause-verdict : goal.returns-then-not-is_for-clause
 returns-then-not-is_for-clause-verdict g c p a =
     let s = c.args.state.now in
     let none : Option Why = None in
-    let why : none ≡ serial_why (size_in c.args.log.now Actor.Dma s.commits) = cc in
-    sym (dma-is c.args.log.now p s.used s.commits s.request none a.commits a.request why
+    let why : none ≡ serial_why (size_in c.args.log.now.log Actor.Dma s.commits) = cc in
+    sym (dma-is c.args.log.now.log p s.used s.commits s.request none a.commits a.request why
     ∙ misfit s.commits s.request _ c.in-Some-Some.request c.in-Some-Some.dma.now c.in-Some-Some.is-0 (sym c.in-Some-Some.ensures.dma) (sym c.if-not-is_for.ensures))
 
 pub returns-clause-verdict : goal.returns-clause-verdict
 returns-clause-verdict g c p a =
     let s = c.args.state.now in
     let none : Option Why = None in
-    let why : none ≡ serial_why (size_in c.args.log.now Actor.Dma s.commits) = cc in
-    sym (dma-is c.args.log.now p s.used s.commits s.request none a.commits a.request why
+    let why : none ≡ serial_why (size_in c.args.log.now.log Actor.Dma s.commits) = cc in
+    sym (dma-is c.args.log.now.log p s.used s.commits s.request none a.commits a.request why
     ∙ fitting s.commits s.request _ c.in-Some-Some.request c.in-Some-Some.dma.now c.in-Some-Some.is-0 (sym c.in-Some-Some.ensures.dma) (sym c.if-not-is_for.ensures)
     ∙ ap (λ bytes. DmaGoes (dma_words c.in-Some-Some.request bytes)) (sym c.as_slice.ensures))

@@ -9,6 +9,7 @@ use Rattle.spec_protocol.specs.machine.Spheres.{Cursor, Replay}
 use Rattle.spec_strata.specs.Standing.{place_of}
 use Rattle.spec_log.proofs.Threads.{log-among}
 use Rattle.dl_kernel.specs.States.{PlayState as State}
+use Rattle.dl_kernel.specs.InOrder.{listed}
 use Rattle.dl_replay.specs.Judged.{Judged}
 use Rattle.dl_sphere.specs.Inside.{cursor_in, replayed_at}
 use Rattle.dl_sphere.specs.Moving.{put_at}
@@ -75,8 +76,8 @@ returns-in-Went-clause-moved g c short d =
     let v = chunk_verdict r.log x.progress s.used k all in
     let said = rw c.in-Went.is at (c.end_chunk.ensures.judged x.progress all agrees (sym c.state.ensures) size) in
     let piece : false ≡ is_piece g.how = sym c.if-is_piece.false ∙ c.is_piece.ensures g.how can.closed in
-    let commits : c.put.new.commits.items ≡ put_in past r k (chunk_commit k all) =
-    c.put.ensures ∙ (λ i. put_at (c.place-place.ensures.value i) (whole i) (c.in_ok-reserve.ensures.items i))
+    let commits : (listed c.put.new.commits) ≡ put_in past r k (chunk_commit k all) =
+    c.put.ensures ∙ (λ i. put_at (c.place-place.ensures.value i) (whole i) (c.in_ok-make_room.ensures.same i))
     in
     (λ i. record {
       outcome = Granted;
@@ -104,9 +105,9 @@ returns-in-Went-clause-at g c =
     let more = subst (HasCounted s) (sym said) (commit_counted r s x.progress k (chunk_verdict r.log x.progress s.used k all)) in
     let commit = c.in_ok-commit.commit in
     let at = c.requires.1.1.1 in
-    let fits = place_fits (place_of k) r.strata c.place-place.result past.first (length past.commits.items) s.commits c.place-place.ensures.value (c.place-place.ensures.within s at.replaying) at.all was in
-    let count : length c.put.new.commits.items ≡ suc (length past.commits.items) =
-    ap length (c.put.ensures ∙ ap (put_at c.place-place.result commit) c.in_ok-reserve.ensures.items) ∙ put_length c.place-place.result commit past.commits.items fits
+    let fits = place_fits (place_of k) r.strata c.place-place.result past.first (length (listed past.commits)) s.commits c.place-place.ensures.value (c.place-place.ensures.within s at.replaying) at.all was in
+    let count : length (listed c.put.new.commits) ≡ suc (length (listed past.commits)) =
+    ap length (c.put.ensures ∙ ap (put_at c.place-place.result commit) c.in_ok-make_room.ensures.same) ∙ put_length c.place-place.result commit (listed past.commits) fits
     in
     record {
       replaying = c.end_chunk.ensures.at;
@@ -119,8 +120,8 @@ put-requires-clause-within g c =
     let past = c.args.past.now in
     let r = c.args.replay.now.player in
     let at = c.requires.1.1.1 in
-    subst (λ (cs : List Commit). IfSome c.place-place.result (λ i. i ≤ length cs)) (sym c.in_ok-reserve.ensures.items)
-    (place_fits (place_of c.args.thread) r.strata c.place-place.result past.first (length past.commits.items) past.state.commits c.place-place.ensures.value (c.place-place.ensures.within past.state at.replaying) at.all at.counted)
+    subst (λ (cs : List Commit). IfSome c.place-place.result (λ i. i ≤ length cs)) (sym c.in_ok-make_room.ensures.same)
+    (place_fits (place_of c.args.thread) r.strata c.place-place.result past.first (length (listed past.commits)) past.state.commits c.place-place.ensures.value (c.place-place.ensures.within past.state at.replaying) at.all at.counted)
 
 pub commit_piece-requires-clause-going : goal.commit_piece-requires-clause-going
 commit_piece-requires-clause-going g c =
@@ -164,7 +165,7 @@ returns-in-Diverged-clause-moved g c short d =
     let piece : false ≡ is_piece g.how = sym c.if-is_piece.false ∙ c.is_piece.ensures g.how can.closed in
     (λ i. record {
       outcome = Diverged (still i).commits c.in-Diverged.why;
-      sphere = in_state past loads d c.end_chunk.new.state (c.in_ok-reserve.ensures.items i) c.end_chunk.new.self loads;
+      sphere = in_state past loads d c.end_chunk.new.state (c.in_ok-make_room.ensures.same i) c.end_chunk.new.self loads;
       words = [];
       devices = d;
     })
@@ -187,7 +188,7 @@ returns-in-Diverged-clause-at g c =
     let said = rw c.in-Diverged.is at (c.end_chunk.ensures.judged x.progress all (agreed past (Replay b) was) (sym c.state.ensures) size) in
     let still : c.end_chunk.new.state ≡ s = subst (HasCounted s) (sym said) (commit_counted r s x.progress k (chunk_verdict r.log x.progress s.used k all)) in
     let same : c.end_chunk.new.state.commits ≡ s.commits = ap (λ (y : State). y.commits) still in
-    let count : length c.reserve.new.self.items ≡ length past.commits.items = ap length c.in_ok-reserve.ensures.items in
+    let count : length (listed c.make_room.new.commits) ≡ length (listed past.commits) = ap length c.in_ok-make_room.ensures.same in
     record {
       replaying = c.end_chunk.ensures.at;
       counted = omega (arith, was, same, count);

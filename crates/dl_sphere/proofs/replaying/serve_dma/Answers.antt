@@ -5,6 +5,7 @@ use Rattle.spec_protocol.specs.machine.Commits.{Diverged, Granted, MovedSphere, 
 use Rattle.spec_protocol.specs.machine.Spheres.{Replay}
 use Rattle.spec_protocol.proofs.Logs.Growing.{pushed_length}
 use Rattle.dl_kernel.specs.States.{PlayState as State}
+use Rattle.dl_kernel.specs.InOrder.{listed}
 use Rattle.dl_replay.specs.Judged.{Judged}
 use Rattle.dl_sphere.specs.Roles.{HasAllIf}
 use Rattle.dl_sphere.specs.Inside.{cursor_in, replayed_at}
@@ -26,8 +27,8 @@ returns-in-Ok-clause-moved c d =
     let v = dma_verdict r.log x.progress s.used in
     let said = rw c.in-Ok.is at (c.in_ok-words.ensures.judged x.progress agrees) in
     let stored = rw c.in-Ok.is at (c.in_ok-words.ensures.stored x.progress agrees) in
-    let commits : c.push_reserved.new.self.items ≡ past.commits.items ++ dma_commit ∷ [] =
-    c.push_reserved.ensures.items ∙ (λ i. c.in_ok-reserve.ensures.items i ++ c.dma_commit.ensures i ∷ [])
+    let commits : (listed c.push_reserved.new.self) ≡ (listed past.commits) ++ dma_commit ∷ [] =
+    c.push_reserved.ensures ∙ (λ i. c.in_ok-reserve.ensures.same i ++ c.dma_commit.ensures i ∷ [])
     in
     ap (λ (m : MovedSphere). Some m)
     ((λ i. record {
@@ -36,7 +37,7 @@ returns-in-Ok-clause-moved c d =
       words = words.words;
       devices = d;
     })
-    ∙ ap (made_of past loads d (past.commits.items ++ dma_commit ∷ []) words.words) said
+    ∙ ap (made_of past loads d ((listed past.commits) ++ dma_commit ∷ []) words.words) said
     ∙ dma_goes past loads d r v words.words counted (dma_stores past loads d words.words v stored))
 
 pub returns-in-Ok-clause-at : goal.returns-in-Ok-clause-at
@@ -50,8 +51,8 @@ returns-in-Ok-clause-at c =
     let agrees = agreed past (Replay (cursor_in past replay)) was in
     let said = rw c.in-Ok.is at (c.in_ok-words.ensures.judged x.progress agrees) in
     let more = subst (HasCounted s) (sym said) (dma_counted r s x.progress (dma_verdict r.log x.progress s.used)) in
-    let count : length c.push_reserved.new.self.items ≡ suc (length past.commits.items) =
-    ap length (c.push_reserved.ensures.items ∙ ap (λ xs. xs ++ c.dma_commit.result ∷ []) c.in_ok-reserve.ensures.items) ∙ pushed_length past.commits.items c.dma_commit.result (length past.commits.items) refl
+    let count : length (listed c.push_reserved.new.self) ≡ suc (length (listed past.commits)) =
+    ap length (c.push_reserved.ensures ∙ ap (λ xs. xs ++ c.dma_commit.result ∷ []) c.in_ok-reserve.ensures.same) ∙ pushed_length (listed past.commits) c.dma_commit.result (length (listed past.commits)) refl
     in
     record {
       replaying = c.serve_dma.ensures.at;
@@ -85,7 +86,7 @@ returns-in-Err-clause-moved c d =
     ap (λ (m : MovedSphere). Some m)
     ((λ i. record {
       outcome = Diverged (still i).commits c.in-Err.why;
-      sphere = in_state past loads d c.serve_dma.new.state (c.in_ok-reserve.ensures.items i) c.serve_dma.new.self loads;
+      sphere = in_state past loads d c.serve_dma.new.state (c.in_ok-reserve.ensures.same i) c.serve_dma.new.self loads;
       words = [];
       devices = d;
     })
@@ -102,7 +103,7 @@ returns-in-Err-clause-at c =
     let said = rw c.in-Err.is at (c.in_ok-words.ensures.judged x.progress (agreed past (Replay (cursor_in past replay)) was)) in
     let still : c.serve_dma.new.state ≡ s = subst (HasCounted s) (sym said) (dma_counted r s x.progress (dma_verdict r.log x.progress s.used)) in
     let same : c.serve_dma.new.state.commits ≡ s.commits = ap (λ (y : State). y.commits) still in
-    let count : length c.reserve.new.self.items ≡ length past.commits.items = ap length c.in_ok-reserve.ensures.items in
+    let count : length (listed c.reserve.new.self) ≡ length (listed past.commits) = ap length c.in_ok-reserve.ensures.same in
     record {
       replaying = c.serve_dma.ensures.at;
       counted = omega (arith, was, same, count);

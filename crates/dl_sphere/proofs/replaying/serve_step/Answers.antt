@@ -6,6 +6,7 @@ use Rattle.spec_protocol.specs.machine.Commits.{Diverged, Granted, serial_moved}
 use Rattle.spec_protocol.specs.machine.Spheres.{Replay}
 use Rattle.spec_strata.specs.Standing.{place_of}
 use Rattle.dl_kernel.specs.States.{PlayState as State}
+use Rattle.dl_kernel.specs.InOrder.{listed}
 use Rattle.dl_replay.specs.Judged.{Judged}
 use Rattle.dl_sphere.specs.Inside.{cursor_in, replayed_at}
 use Rattle.dl_sphere.specs.Moving.{put_at}
@@ -31,8 +32,8 @@ returns-in-Ok-clause-moved c moment t d there =
     let said = rw c.in-Ok.is at (c.in_ok-left.ensures.judged x.progress t agrees there) in
     let served = rw c.in-Ok.is at (c.in_ok-left.ensures.served x.progress t agrees there) in
     let commit = serial_commit k left.loads left.outputs in
-    let commits : c.put.new.commits.items ≡ put_in past r k commit =
-    c.put.ensures ∙ (λ i. put_at (c.place-place.ensures.value i) (c.serial_commit-commit.ensures i) (c.in_ok-reserve.ensures.items i))
+    let commits : (listed c.put.new.commits) ≡ put_in past r k commit =
+    c.put.ensures ∙ (λ i. put_at (c.place-place.ensures.value i) (c.serial_commit-commit.ensures i) (c.in_ok-make_room.ensures.same i))
     in
     (λ i. record {
       outcome = Granted;
@@ -60,9 +61,9 @@ returns-in-Ok-clause-at c =
     let more = subst (HasCounted s) (sym said) (commit_counted r s x.progress k v) in
     let at = c.requires.at in
     let commit = c.serial_commit-commit.result in
-    let fits = place_fits (place_of k) r.strata c.place-place.result past.first (length past.commits.items) s.commits c.place-place.ensures.value (c.place-place.ensures.within s at.replaying) at.all was in
-    let count : length c.put.new.commits.items ≡ suc (length past.commits.items) =
-    ap length (c.put.ensures ∙ ap (put_at c.place-place.result commit) c.in_ok-reserve.ensures.items) ∙ put_length c.place-place.result commit past.commits.items fits
+    let fits = place_fits (place_of k) r.strata c.place-place.result past.first (length (listed past.commits)) s.commits c.place-place.ensures.value (c.place-place.ensures.within s at.replaying) at.all was in
+    let count : length (listed c.put.new.commits) ≡ suc (length (listed past.commits)) =
+    ap length (c.put.ensures ∙ ap (put_at c.place-place.result commit) c.in_ok-make_room.ensures.same) ∙ put_length c.place-place.result commit (listed past.commits) fits
     in
     record {
       replaying = c.serve_step.ensures.at;
@@ -75,8 +76,8 @@ put-requires-clause-within c =
     let past = c.args.past.now in
     let r = c.args.replay.now.player in
     let at = c.requires.at in
-    subst (λ (cs : List Commit). IfSome c.place-place.result (λ i. i ≤ length cs)) (sym c.in_ok-reserve.ensures.items)
-    (place_fits (place_of c.args.thread) r.strata c.place-place.result past.first (length past.commits.items) past.state.commits c.place-place.ensures.value (c.place-place.ensures.within past.state at.replaying) at.all at.counted)
+    subst (λ (cs : List Commit). IfSome c.place-place.result (λ i. i ≤ length cs)) (sym c.in_ok-make_room.ensures.same)
+    (place_fits (place_of c.args.thread) r.strata c.place-place.result past.first (length (listed past.commits)) past.state.commits c.place-place.ensures.value (c.place-place.ensures.within past.state at.replaying) at.all at.counted)
 
 pub returns-in-Ok-clause-log : goal.returns-in-Ok-clause-log
 returns-in-Ok-clause-log c =
@@ -106,7 +107,7 @@ returns-in-Err-clause-moved c moment t d there =
     let still : c.serve_step.new.state ≡ s = subst (HasCounted s) (sym said) (commit_counted r s x.progress k v) in
     (λ i. record {
       outcome = Diverged (still i).commits c.in-Err.why;
-      sphere = in_state past loads d c.serve_step.new.state (c.in_ok-reserve.ensures.items i) c.serve_step.new.self loads;
+      sphere = in_state past loads d c.serve_step.new.state (c.in_ok-make_room.ensures.same i) c.serve_step.new.self loads;
       words = [];
       devices = d;
     })
@@ -125,7 +126,7 @@ returns-in-Err-clause-at c =
     let said = rw c.in-Err.is at (c.in_ok-left.ensures.judged x.progress t (agreed past (Replay (cursor_in past replay)) was) c.thread_at.ensures.thread) in
     let still : c.serve_step.new.state ≡ s = subst (HasCounted s) (sym said) (commit_counted r s x.progress k (serial_verdict r.log x.progress s.used k s.threads t s.memory)) in
     let same : c.serve_step.new.state.commits ≡ s.commits = ap (λ (y : State). y.commits) still in
-    let count : length c.reserve.new.self.items ≡ length past.commits.items = ap length c.in_ok-reserve.ensures.items in
+    let count : length (listed c.make_room.new.commits) ≡ length (listed past.commits) = ap length c.in_ok-make_room.ensures.same in
     record {
       replaying = c.serve_step.ensures.at;
       counted = omega (arith, was, same, count);

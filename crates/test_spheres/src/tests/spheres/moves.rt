@@ -104,8 +104,9 @@ fn written(alloc: Global, log: Log) -> Result<Vec<u8>, OutOfMemory> {
 }
 
 fn are_as_told(rt: &impl Abort, sphere: &Sphere, lines: &[Line]) {
-    assert!(rt; sphere.commits().len() == lines.len());
-    for (commit, line) in sphere.commits().iter().zip(lines) {
+    let commits = sphere.commits().whole();
+    assert!(rt; commits.len() == lines.len());
+    for (commit, line) in commits.iter().zip(lines) {
         assert!(rt; (commit.actor, commit.kind, commit.size) == *line);
     }
 }

@@ -19,14 +19,14 @@ returns-then-after-clause-of_thread g c s used loads t is =
 
 pub returns-clause-most : goal.returns-clause-most
 returns-clause-most g c =
-    let log = c.self.inside.log in
+    let log = c.self.inside.log.log in
     let is = c.self.invariant in
     let few = limit-few log c.args.thread c.args.commits is in
     subst (λ (r : Following). c.max-2.result ≤ r.log.s) c.self.view_is (omega (arith, few, is.s.0, c.limit-whole.ensures, c.saturating_sub.ensures, c.max-2.ensures))
 
 pub returns-then-after-clause-most : goal.returns-then-after-clause-most
 returns-then-after-clause-most g c =
-    let log = c.self.inside.log in
+    let log = c.self.inside.log.log in
     let is = c.self.invariant in
     let few = limit-few log c.args.thread (c.args.commits + 1) is in
     subst (λ (r : Following). c.max.result ≤ r.log.s) c.self.view_is (omega (arith, few, is.s.0, c.limit.ensures, c.max.ensures))

@@ -14,7 +14,7 @@ use Rattle.dl_replay.specs.Replays.{Agrees}
 use Rattle.dl_sphere.specs.Played.{following_of}
 use Rattle.dl_sphere.specs.declared.player.Player.TheInside.{Inside}
 use Rattle.dl_sphere.proofs.player.Player.serve_step.Goals as goal
-use Rattle.dl_sphere.proofs.player.Player.serve_step.Goals.{in-OrderSize, in-OrderOnly, in-Picolog}
+use Rattle.dl_sphere.proofs.player.Player.serve_step.Goals.{in-OrderSize, in-OrderOnly, in-Picolog, in-Strata}
 
 -- the answer of a replayer of any mode
 abbrev Answer : Type 0
@@ -48,6 +48,7 @@ returns-clause-judged c =
       | in-OrderSize w ↦ judges k s _ _ _ _ _ _ _ _ (sym (ap following_of w.in-OrderSize.is) ∙ c.self.view_is) (ap seen w.self-inside-is) w.state-is w.result-is w.serve_step.ensures.judged
       | in-OrderOnly w ↦ judges k s _ _ _ _ _ _ _ _ (sym (ap following_of w.in-OrderOnly.is) ∙ c.self.view_is) (ap seen w.self-inside-is) w.state-is w.result-is w.serve_step-in-OrderOnly.ensures.judged
       | in-Picolog w ↦ judges k s _ _ _ _ _ _ _ _ (sym (ap following_of w.in-Picolog.is) ∙ c.self.view_is) (ap seen w.self-inside-is) w.state-is w.result-is w.serve_step-in-Picolog.ensures.judged
+      | in-Strata w ↦ judges k s _ _ _ _ _ _ _ _ (sym (ap following_of w.in-Strata.is) ∙ c.self.view_is) (ap seen w.self-inside-is) w.state-is w.result-is w.serve_step-in-Strata.ensures.judged
     ]
 
 pub returns-clause-served : goal.returns-clause-served
@@ -58,4 +59,5 @@ returns-clause-served c =
       | in-OrderSize w ↦ serves k s _ _ _ _ (sym (ap following_of w.in-OrderSize.is) ∙ c.self.view_is) w.result-is w.serve_step.ensures.served
       | in-OrderOnly w ↦ serves k s _ _ _ _ (sym (ap following_of w.in-OrderOnly.is) ∙ c.self.view_is) w.result-is w.serve_step-in-OrderOnly.ensures.served
       | in-Picolog w ↦ serves k s _ _ _ _ (sym (ap following_of w.in-Picolog.is) ∙ c.self.view_is) w.result-is w.serve_step-in-Picolog.ensures.served
+      | in-Strata w ↦ serves k s _ _ _ _ (sym (ap following_of w.in-Strata.is) ∙ c.self.view_is) w.result-is w.serve_step-in-Strata.ensures.served
     ]

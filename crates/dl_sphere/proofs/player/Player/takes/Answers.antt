@@ -24,3 +24,7 @@ returns-in-OrderOnly c =
 pub returns-in-Picolog : goal.returns-in-Picolog
 returns-in-Picolog c =
     subst (Says c.takes-in-Picolog.result c.args.actor) (sym (ap following_of c.in-Picolog.is) ∙ c.self.view_is) c.takes-in-Picolog.ensures
+
+pub returns-in-Strata : goal.returns-in-Strata
+returns-in-Strata c =
+    subst (Says c.takes-in-Strata.result c.args.actor) (sym (ap following_of c.in-Strata.is) ∙ c.self.view_is) c.takes-in-Strata.ensures

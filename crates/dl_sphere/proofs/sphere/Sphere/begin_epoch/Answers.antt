@@ -5,6 +5,7 @@ use Rattle.spec_protocol.specs.machine.Epochs.{epoch_begun, state_in}
 use Rattle.spec_protocol.specs.machine.Shown.{flying}
 use Rattle.spec_protocol.specs.machine.Spheres.{Sphere, Record}
 use Rattle.dl_kernel.specs.States.{state_in as seen_in}
+use Rattle.dl_kernel.specs.InOrder.{listed}
 use Rattle.dl_record.specs.Epochs as recorder
 use Rattle.dl_record.specs.Epochs.{InEpochs, base, due_in}
 use Rattle.dl_sphere.specs.Inside.{sphere_in}
@@ -37,7 +38,7 @@ returns-then-not-is_due-clause-ok g c =
     let p : Sphere = sphere_at a.past (Record (recording_of r)) in
     let stands : HasRecorded a.s p r = subst (λ (x : Part). IsKeepingOf a.s a.past (keeping_of x)) c.in-Recorded.is c.self.invariant.kept in
     let none : epoch_begun memory p ≡ p =
-    none_begins a.past.first a.past.state.memory a.past.state.threads a.past.commits.items a.past.state.last a.past.state.request a.s memory r stands (sym c.is_due.ensures ∙ c.if-not-is_due.true)
+    none_begins a.past.first a.past.state.memory a.past.state.threads (listed a.past.commits) a.past.state.last a.past.state.request a.s memory r stands (sym c.is_due.ensures ∙ c.if-not-is_due.true)
     in
     sym (ap (λ (x : Sphere). with_sphere x (record { s = a.s; sphere = p })) none)
     ∙ sym (ap (λ (x : Part). let y : Sphere = sphere_at a.past (role_in a.past.state.used x) in with_sphere (epoch_begun memory y) (record { s = a.s; sphere = y })) c.in-Recorded.is)
@@ -46,7 +47,7 @@ returns-then-not-is_due-clause-ok g c =
 pub invariant_of-self-2 : goal.invariant_of-self-2
 invariant_of-self-2 g c =
     let a = c.self.inside in
-    let cs = a.past.commits.items in
+    let cs = (listed a.past.commits) in
     let memory = lays a.past.state.memory (flying c.args.number c.args.flights.now.slots) in
     let r : InEpochs = c.in-Recorded.recording.in_epochs in
     let p : Sphere = sphere_at a.past (Record (recording_of r)) in
@@ -62,8 +63,8 @@ invariant_of-self-2 g c =
     begins a.past.first a.past.state.memory a.past.state.threads cs a.past.state.last a.past.state.request a.s memory r stands (sym c.is_due.ensures ∙ c.if-not-is_due.false) same
     in
     let first : c.first-first.result ≡ base w.epochs = c.first-first.ensures ∙ ap (λ (x : InEpochs). base x.epochs) begun in
-    let commits : c.drop-drain.new.self.0.items ≡ drop (base w.epochs - a.past.first) cs =
-    c.drop-drain.ensures.items ∙ c.drain.ensures.kept ∙ ap (λ n. drop (n - a.past.first) cs) first
+    let commits : (listed c.drop_first.new.self) ≡ drop (base w.epochs - a.past.first) cs =
+    c.drop_first.ensures ∙ ap (λ n. drop (n - a.past.first) cs) first
     in
     let unchanged = c.in_ok-state.ensures.unchanged in
     record {
@@ -76,7 +77,7 @@ invariant_of-self-2 g c =
 pub returns-clause-ok : goal.returns-clause-ok
 returns-clause-ok g c =
     let a = c.self.inside in
-    let cs = a.past.commits.items in
+    let cs = (listed a.past.commits) in
     let words = flying c.args.number c.args.flights.now.slots in
     let memory = lays a.past.state.memory words in
     let r : InEpochs = c.in-Recorded.recording.in_epochs in
@@ -93,8 +94,8 @@ returns-clause-ok g c =
     begins a.past.first a.past.state.memory a.past.state.threads cs a.past.state.last a.past.state.request a.s memory r stands (sym c.is_due.ensures ∙ c.if-not-is_due.false) same
     in
     let first : c.first-first.result ≡ base w.epochs = c.first-first.ensures ∙ ap (λ (x : InEpochs). base x.epochs) begun in
-    let commits : c.drop-drain.new.self.0.items ≡ drop (base w.epochs - a.past.first) cs =
-    c.drop-drain.ensures.items ∙ c.drain.ensures.kept ∙ ap (λ n. drop (n - a.past.first) cs) first
+    let commits : (listed c.drop_first.new.self) ≡ drop (base w.epochs - a.past.first) cs =
+    c.drop_first.ensures ∙ ap (λ n. drop (n - a.past.first) cs) first
     in
     let s = c.in_ok-state.ensures.unchanged in
     (λ i. record {

@@ -9,6 +9,7 @@ use Rattle.spec_play.specs.Effects.{chunk_commit, counted}
 use Rattle.spec_protocol.specs.machine.Asking.{is_short}
 use Rattle.spec_protocol.specs.machine.Commits.{Granted, MovedSphere, is_piece, chunk_moved}
 use Rattle.spec_protocol.specs.machine.Spheres.{Sphere}
+use Rattle.dl_kernel.specs.InOrder.{listed}
 use Rattle.dl_sphere.specs.declared.part.Part.{Part}
 use Rattle.dl_sphere.specs.Moving.{came, CanCommit}
 use Rattle.spec_protocol.proofs.Logs.Growing.{pushed_length}
@@ -31,7 +32,7 @@ invariant_of-self-2 g c =
     let u = c.counted-after.result in
     let commit = c.in_ok-commit.commit in
     let h = c.self.invariant in
-    let q : Sphere = sphere_with a.past.first a.past.state.memory c.set.new.self c.push_reserved.new.self.items (Some k) a.past.state.request (role_in a.past.state.used c.note.new.part) in
+    let q : Sphere = sphere_with a.past.first a.past.state.memory c.set.new.self (listed c.push_reserved.new.self) (Some k) a.past.state.request (role_in a.past.state.used c.note.new.part) in
     let start : slice_get c.args.self.now.sphere.threads k ≡ Some t =
     sym (ap (λ (v : SizedSphere). slice_get v.sphere.threads k) c.self.view_is) ∙ c.thread_at-after.ensures.thread
     in
@@ -47,7 +48,7 @@ invariant_of-self-2 g c =
       new = tt;
       first = refl;
       position_ =
-          let count : length c.push_reserved.new.self.items ≡ suc (length a.past.commits.items) = ap length (c.push_reserved.ensures.items ∙ ap (λ xs. xs ++ c.in_ok-commit.commit ∷ []) c.in_ok-reserve.ensures.items) ∙ pushed_length a.past.commits.items commit (length a.past.commits.items) refl in
+          let count : length (listed c.push_reserved.new.self) ≡ suc (length (listed a.past.commits)) = ap length (c.push_reserved.ensures ∙ ap (λ xs. xs ++ c.in_ok-commit.commit ∷ []) c.in_ok-reserve.ensures.same) ∙ pushed_length (listed a.past.commits) commit (length (listed a.past.commits)) refl in
           omega arith;
       actor = ap (λ (v : Commit). v.actor) c.in_ok-commit.ensures;
     }
@@ -80,8 +81,8 @@ returns-clause-ok g c d =
     let threads : c.set.new.self ≡ set a.past.state.threads k (counted run.thread) =
     c.set.ensures ∙ ap (set a.past.state.threads k) (c.counted-after.ensures ∙ ap counted c.state.ensures)
     in
-    let commits : c.push_reserved.new.self.items ≡ a.past.commits.items ++ chunk_commit k run ∷ [] =
-    (c.push_reserved.ensures.items ∙ ap (λ xs. xs ++ c.in_ok-commit.commit ∷ []) c.in_ok-reserve.ensures.items) ∙ ap (λ (x : Commit). a.past.commits.items ++ x ∷ []) c.in_ok-commit.ensures
+    let commits : (listed c.push_reserved.new.self) ≡ (listed a.past.commits) ++ chunk_commit k run ∷ [] =
+    (c.push_reserved.ensures ∙ ap (λ xs. xs ++ c.in_ok-commit.commit ∷ []) c.in_ok-reserve.ensures.same) ∙ ap (λ (x : Commit). (listed a.past.commits) ++ x ∷ []) c.in_ok-commit.ensures
     in
     let noted : keeping_of c.note.new.part ≡ with_noted (chunk_commit k run) c.is_short.result None None (keeping_of a.part) =
     c.in_ok-note.ensures.noted ∙ ap (λ (x : Commit). with_noted x c.is_short.result None None (keeping_of a.part)) c.in_ok-commit.ensures
@@ -92,7 +93,7 @@ returns-clause-ok g c d =
       words = (c.in_ok-words.ensures ∙ c.words.ensures.words) i;
       devices = d;
     })
-    ∙ chunk_is_moved a.past.first a.past.state.memory a.past.state.used a.past.state.threads a.past.commits.items a.past.state.last d a.s (keeping_of a.part) a.past.state.request k t (is_piece how) c.is_short.result run
+    ∙ chunk_is_moved a.past.first a.past.state.memory a.past.state.used a.past.state.threads (listed a.past.commits) a.past.state.last d a.s (keeping_of a.part) a.past.state.request k t (is_piece how) c.is_short.result run
     c.thread_at-after.ensures.thread (c.requires.1.1.0.commits t start) (alone a (live_part a.part c.in_default.not-Replayed) c.self.invariant)
     ∙ ap (λ (x : Bool). chunk_moved k (is_piece how) x run d (sphere_in a)) (c.is_short.ensures how c.requires.1.1.0.closed)
     ∙ ap (λ (x : SizedSphere). chunk_moved k (is_piece how) (is_short x.s how ch.limit) run d x.sphere) c.self.view_is

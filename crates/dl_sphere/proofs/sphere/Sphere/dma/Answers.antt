@@ -9,6 +9,7 @@ use Rattle.spec_protocol.specs.machine.Commits.{Granted, MovedSphere, dma_moved}
 use Rattle.spec_protocol.specs.machine.Spheres.{Sphere}
 use Rattle.spec_protocol.specs.promises.Sound.{IsSoundIf}
 use Rattle.spec_protocol.proofs.Logs.Growing.{pushed_length}
+use Rattle.dl_kernel.specs.InOrder.{listed}
 use Rattle.dl_sphere.specs.declared.part.Part.{Part}
 use Rattle.dl_sphere.specs.Inside.{sphere_in}
 use Rattle.dl_sphere.specs.Pasts.{sphere_with}
@@ -29,8 +30,8 @@ unreachable-requires c =
     let live : IsLive (keeping_of a.part) = live_part a.part c.in_default.not-Replayed in
     let some : IsSome (dma_moved d (sphere_in a)) = subst (λ (v : SizedSphere). IsSome (dma_moved d v.sphere)) (sym c.self.view_is) c.requires.some in
     let none : dma_moved d (sphere_in a) ≡ None =
-    ap (λ (q : Option Request). dma_moved d (sphere_with a.past.first a.past.state.memory a.past.state.threads a.past.commits.items a.past.state.last q (role_in a.past.state.used a.part))) c.in_default-request.is
-    ∙ none_moved a.past.first a.past.state.memory a.past.state.used a.past.state.threads a.past.commits.items a.past.state.last d (keeping_of a.part) live
+    ap (λ (q : Option Request). dma_moved d (sphere_with a.past.first a.past.state.memory a.past.state.threads (listed a.past.commits) a.past.state.last q (role_in a.past.state.used a.part))) c.in_default-request.is
+    ∙ none_moved a.past.first a.past.state.memory a.past.state.used a.past.state.threads (listed a.past.commits) a.past.state.last d (keeping_of a.part) live
     in
     absurd (true≢false (sym (subst (λ (x : Option MovedSphere). IsSome x) none some)))
 
@@ -45,9 +46,9 @@ invariant_of-self-2 c =
     let request = c.in-Some.request in
     let live : IsLive (keeping_of a.part) = live_part a.part c.in_default.not-Replayed in
     let e = c.in_ok-words.ensures in
-    let q : Sphere = sphere_with a.past.first a.past.state.memory a.past.state.threads c.push_reserved.new.self.items a.past.state.last None (role_in a.past.state.used c.live_dma.new.part) in
-    let count : length c.push_reserved.new.self.items ≡ suc (length a.past.commits.items) =
-    ap length (c.push_reserved.ensures.items ∙ (λ i. c.in_ok-reserve.ensures.items i ++ c.dma_commit.ensures i ∷ [])) ∙ pushed_length a.past.commits.items dma_commit (length a.past.commits.items) refl
+    let q : Sphere = sphere_with a.past.first a.past.state.memory a.past.state.threads (listed c.push_reserved.new.self) a.past.state.last None (role_in a.past.state.used c.live_dma.new.part) in
+    let count : length (listed c.push_reserved.new.self) ≡ suc (length (listed a.past.commits)) =
+    ap length (c.push_reserved.ensures ∙ (λ i. c.in_ok-reserve.ensures.same i ++ c.dma_commit.ensures i ∷ [])) ∙ pushed_length (listed a.past.commits) dma_commit (length (listed a.past.commits)) refl
     in
     let past = record a.past { commits = c.push_reserved.new.self; state = record a.past.state { request = None; commits = a.past.state.commits + 1 } } in
     let was = c.self.invariant.counted in
@@ -67,17 +68,17 @@ returns c =
     let request = c.in-Some.request in
     let live : IsLive (keeping_of a.part) = live_part a.part c.in_default.not-Replayed in
     let e = c.in_ok-words.ensures in
-    let here : IsLiveOf a.s (sphere_with a.past.first a.past.state.memory a.past.state.threads a.past.commits.items a.past.state.last (Some request) (role_in a.past.state.used a.part)) (keeping_of a.part) =
-    subst (λ (q : Option Request). IsLiveOf a.s (sphere_with a.past.first a.past.state.memory a.past.state.threads a.past.commits.items a.past.state.last q (role_in a.past.state.used a.part)) (keeping_of a.part)) c.in-Some.is (alone a live c.self.invariant)
+    let here : IsLiveOf a.s (sphere_with a.past.first a.past.state.memory a.past.state.threads (listed a.past.commits) a.past.state.last (Some request) (role_in a.past.state.used a.part)) (keeping_of a.part) =
+    subst (λ (q : Option Request). IsLiveOf a.s (sphere_with a.past.first a.past.state.memory a.past.state.threads (listed a.past.commits) a.past.state.last q (role_in a.past.state.used a.part)) (keeping_of a.part)) c.in-Some.is (alone a live c.self.invariant)
     in
     record {
       ok =
           sym (ap (λ (v : SizedSphere). dma_moved d v.sphere) c.self.view_is)
-          ∙ ap (λ (q : Option Request). dma_moved d (sphere_with a.past.first a.past.state.memory a.past.state.threads a.past.commits.items a.past.state.last q (role_in a.past.state.used a.part))) c.in-Some.is
-          ∙ dma_is_moved a.past.first a.past.state.memory a.past.state.used a.past.state.threads a.past.commits.items a.past.state.last d a.s (keeping_of a.part) request here
+          ∙ ap (λ (q : Option Request). dma_moved d (sphere_with a.past.first a.past.state.memory a.past.state.threads (listed a.past.commits) a.past.state.last q (role_in a.past.state.used a.part))) c.in-Some.is
+          ∙ dma_is_moved a.past.first a.past.state.memory a.past.state.used a.past.state.threads (listed a.past.commits) a.past.state.last d a.s (keeping_of a.part) request here
           ∙ (λ i. Some (record {
             outcome = Granted;
-            sphere = sphere_with a.past.first a.past.state.memory a.past.state.threads (sym (c.push_reserved.ensures.items ∙ (λ i. c.in_ok-reserve.ensures.items i ++ c.dma_commit.ensures i ∷ [])) i) a.past.state.last None (role_of a.past.state.used (sym e.noted i));
+            sphere = sphere_with a.past.first a.past.state.memory a.past.state.threads (sym (c.push_reserved.ensures ∙ (λ i. c.in_ok-reserve.ensures.same i ++ c.dma_commit.ensures i ∷ [])) i) a.past.state.last None (role_of a.past.state.used (sym e.noted i));
             words = sym e.words i;
             devices = sym e.devices i;
           }));

@@ -5,6 +5,7 @@ use Rattle.spec_kernel.specs.Interrupts.{interrupted}
 use Rattle.spec_protocol.specs.machine.Spheres.{Sphere, Role}
 use Rattle.spec_protocol.specs.machine.Commits.{raised, role_raised}
 use Rattle.spec_protocol.specs.machine.Placing.{replays}
+use Rattle.dl_kernel.specs.InOrder.{listed}
 use Rattle.dl_sphere.specs.Roles.{Keeping, keeping_of, role_in, role_of, with_raised, CanRaise, IsLive, IsLiveOf}
 use Rattle.dl_sphere.specs.Inside.{sphere_in}
 use Rattle.dl_sphere.specs.Pasts.{sphere_with}
@@ -35,7 +36,7 @@ invariant_of-self-2 c =
     let a = c.self.inside in
     let k = c.args.thread in
     let t = c.thread_at-found.result in
-    let q : Sphere = sphere_with a.past.first a.past.state.memory c.set.new.self a.past.commits.items a.past.state.last a.past.state.request (role_in a.past.state.used c.note_interrupt.new.part) in
+    let q : Sphere = sphere_with a.past.first a.past.state.memory c.set.new.self (listed a.past.commits) a.past.state.last a.past.state.request (role_in a.past.state.used c.note_interrupt.new.part) in
     let start : slice_get c.args.self.now.sphere.threads k ≡ Some t =
     sym (ap (λ (v : SizedSphere). slice_get v.sphere.threads k) c.self.view_is) ∙ c.thread_at-found.ensures.thread
     in
@@ -64,7 +65,7 @@ returns-clause-ok c =
     sym (ap (λ (s : SizedSphere). slice_get s.sphere.threads k) c.self.view_is) ∙ c.thread_at-found.ensures.thread
     in
     let same : x ≡ t = (let e : Some x ≡ Some t = sym start ∙ is in cc) in
-    let made : List Parts → Role → Sphere = λ us role. sphere_with a.past.first a.past.state.memory us a.past.commits.items a.past.state.last a.past.state.request role in
+    let made : List Parts → Role → Sphere = λ us role. sphere_with a.past.first a.past.state.memory us (listed a.past.commits) a.past.state.last a.past.state.request role in
     let threads : c.set.new.self ≡ set a.past.state.threads k (interrupted v t) = c.set.ensures ∙ ap (set a.past.state.threads k) (c.interrupted-after.ensures ∙ ap (interrupted v) same) in
     let role : role_in a.past.state.used c.note_interrupt.new.part ≡ role_raised k t.commits v (role_in a.past.state.used a.part) =
     ap (role_of a.past.state.used) (c.in_ok-note_interrupt.ensures.noted ∙ ap (λ n. with_raised k n v (keeping_of a.part)) (c.commits.ensures ∙ ap (λ (y : Parts). y.commits) same))

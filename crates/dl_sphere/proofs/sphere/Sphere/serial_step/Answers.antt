@@ -12,6 +12,7 @@ use Rattle.spec_kernel.specs.Answers.{taken}
 use Rattle.spec_kernel.specs.Serving.{serve}
 use Rattle.spec_play.specs.Effects.{counted, serial_commit}
 use Rattle.spec_protocol.specs.machine.Spheres.{Sphere, Role}
+use Rattle.dl_kernel.specs.InOrder.{listed}
 use Rattle.dl_sphere.specs.declared.part.Part.{Part}
 use Rattle.spec_protocol.specs.machine.Commits.{Granted, MovedSphere, serial_moved}
 use Rattle.spec_protocol.specs.promises.Sound.{IsSoundIf}
@@ -40,8 +41,8 @@ counted-after-requires c =
     let keeps = serve-keeps (most_of (keeping_of a.part)) k a.past.state.threads a.past.state.request t a.past.state.memory g.input in
     let same : c.in_ok-left.left.thread.commits ≡ t.commits = ap (λ (v : Parts). v.commits) c.in_ok-left.ensures.thread ∙ keeps.commits in
     let here = alone a (live_part a.part c.in_default.not-Replayed) c.self.invariant in
-    let most : t.commits ≤ a.past.first + length a.past.commits.items =
-    subst (λ n. n ≤ a.past.first + length a.past.commits.items) (ap commits_if c.thread_at.ensures.thread) ((few_live a.s (sphere_in a) (keeping_of a.part) here).few k)
+    let most : t.commits ≤ a.past.first + length (listed a.past.commits) =
+    subst (λ n. n ≤ a.past.first + length (listed a.past.commits)) (ap commits_if c.thread_at.ensures.thread) ((few_live a.s (sphere_in a) (keeping_of a.part) here).few k)
     in
     let few = few_here a c.args.self.now (ap (λ (v : SizedSphere). v.sphere) c.self.view_is) (live_part a.part c.in_default.not-Replayed) c.requires.few in
     omega (arith, same, most, few)
@@ -58,9 +59,9 @@ invariant_of-self-2 c =
     let left = c.in_ok-left.left in
     let commit : Commit = serial_commit k v.loads v.outputs in
     let h = c.self.invariant in
-    let q : Sphere = sphere_with a.past.first a.past.state.memory c.settle.new.threads c.push_reserved.new.self.items (Some k) left.request (role_in a.past.state.used c.live_step.new.part) in
+    let q : Sphere = sphere_with a.past.first a.past.state.memory c.settle.new.threads (listed c.push_reserved.new.self) (Some k) left.request (role_in a.past.state.used c.live_step.new.part) in
     let threads : c.settle.new.threads ≡ set a.past.state.threads k u ++ v.spawned = c.settle.ensures ∙ ap (λ spawned. set a.past.state.threads k u ++ spawned) c.in_ok-left.ensures.spawned in
-    let commits : c.push_reserved.new.self.items ≡ a.past.commits.items ++ commit ∷ [] = c.push_reserved.ensures.items ∙ (λ i. c.in_ok-reserve.ensures.items i ++ c.in_ok-left.ensures.commit i ∷ []) in
+    let commits : (listed c.push_reserved.new.self) ≡ (listed a.past.commits) ++ commit ∷ [] = c.push_reserved.ensures ∙ (λ i. c.in_ok-reserve.ensures.same i ++ c.in_ok-left.ensures.commit i ∷ []) in
     let d : Commits (sphere_in a) q k t u v.spawned commit =
     record {
       start = c.thread_at.ensures.thread;
@@ -73,7 +74,7 @@ invariant_of-self-2 c =
       new = keeps.fresh;
       first = refl;
       position_ =
-          let count : length c.push_reserved.new.self.items ≡ suc (length a.past.commits.items) = ap length commits ∙ pushed_length a.past.commits.items commit (length a.past.commits.items) refl in
+          let count : length (listed c.push_reserved.new.self) ≡ suc (length (listed a.past.commits)) = ap length commits ∙ pushed_length (listed a.past.commits) commit (length (listed a.past.commits)) refl in
           omega arith;
       actor = refl;
     }
@@ -118,15 +119,15 @@ returns-clause-ok c =
     let threads : c.settle.new.threads ≡ set a.past.state.threads k (counted v.thread) ++ v.spawned =
     c.settle.ensures ∙ ap (λ u. set a.past.state.threads k u ++ spawned_list left.spawned) (c.counted-after.ensures ∙ ap counted l.thread) ∙ ap (λ xs. set a.past.state.threads k (counted v.thread) ++ xs) l.spawned
     in
-    let commits : c.push_reserved.new.self.items ≡ a.past.commits.items ++ commit ∷ [] = c.push_reserved.ensures.items ∙ (λ i. c.in_ok-reserve.ensures.items i ++ l.commit i ∷ []) in
+    let commits : (listed c.push_reserved.new.self) ≡ (listed a.past.commits) ++ commit ∷ [] = c.push_reserved.ensures ∙ (λ i. c.in_ok-reserve.ensures.same i ++ l.commit i ∷ []) in
     let role : role_in a.past.state.used c.live_step.new.part ≡ role_of a.past.state.used (with_noted commit false g.input None (keeping_of a.part)) = ap (role_of a.past.state.used) l.noted in
-    ap (λ us. made us c.push_reserved.new.self.items left.request (role_in a.past.state.used c.live_step.new.part) left.words.words c.live_step.new.devices) threads
+    ap (λ us. made us (listed c.push_reserved.new.self) left.request (role_in a.past.state.used c.live_step.new.part) left.words.words c.live_step.new.devices) threads
     ∙ ap (λ cs. made (set a.past.state.threads k (counted v.thread) ++ v.spawned) cs left.request (role_in a.past.state.used c.live_step.new.part) left.words.words c.live_step.new.devices) commits
-    ∙ ap (λ rq. made (set a.past.state.threads k (counted v.thread) ++ v.spawned) (a.past.commits.items ++ commit ∷ []) rq (role_in a.past.state.used c.live_step.new.part) left.words.words c.live_step.new.devices) l.request
-    ∙ ap (λ r. made (set a.past.state.threads k (counted v.thread) ++ v.spawned) (a.past.commits.items ++ commit ∷ []) v.request r left.words.words c.live_step.new.devices) role
-    ∙ ap (λ ws. made (set a.past.state.threads k (counted v.thread) ++ v.spawned) (a.past.commits.items ++ commit ∷ []) v.request (role_of a.past.state.used (with_noted commit false g.input None (keeping_of a.part))) ws c.live_step.new.devices) l.words
-    ∙ ap (made (set a.past.state.threads k (counted v.thread) ++ v.spawned) (a.past.commits.items ++ commit ∷ []) v.request (role_of a.past.state.used (with_noted commit false g.input None (keeping_of a.part))) v.words) l.devices
-    ∙ step_is_moved a.past.first a.past.state.memory a.past.state.used a.past.state.threads a.past.commits.items a.past.state.last d a.s (keeping_of a.part) a.past.state.request k moment x c.thread_at.ensures.thread (alone a (live_part a.part c.in_default.not-Replayed) c.self.invariant)
+    ∙ ap (λ rq. made (set a.past.state.threads k (counted v.thread) ++ v.spawned) ((listed a.past.commits) ++ commit ∷ []) rq (role_in a.past.state.used c.live_step.new.part) left.words.words c.live_step.new.devices) l.request
+    ∙ ap (λ r. made (set a.past.state.threads k (counted v.thread) ++ v.spawned) ((listed a.past.commits) ++ commit ∷ []) v.request r left.words.words c.live_step.new.devices) role
+    ∙ ap (λ ws. made (set a.past.state.threads k (counted v.thread) ++ v.spawned) ((listed a.past.commits) ++ commit ∷ []) v.request (role_of a.past.state.used (with_noted commit false g.input None (keeping_of a.part))) ws c.live_step.new.devices) l.words
+    ∙ ap (made (set a.past.state.threads k (counted v.thread) ++ v.spawned) ((listed a.past.commits) ++ commit ∷ []) v.request (role_of a.past.state.used (with_noted commit false g.input None (keeping_of a.part))) v.words) l.devices
+    ∙ step_is_moved a.past.first a.past.state.memory a.past.state.used a.past.state.threads (listed a.past.commits) a.past.state.last d a.s (keeping_of a.part) a.past.state.request k moment x c.thread_at.ensures.thread (alone a (live_part a.part c.in_default.not-Replayed) c.self.invariant)
     ∙ ap (λ (y : Parts). serial_moved k moment y d (sphere_in a)) same
     ∙ ap (λ (s : SizedSphere). serial_moved k moment t d s.sphere) c.self.view_is
 
