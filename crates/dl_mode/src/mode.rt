@@ -16,8 +16,8 @@ use dl_entry::{Actor, Commit, OutOfMemory};
 use spec_log::ModeName;
 use std::alloc::Global;
 
-/// A mode: what a log of it says of the next commit and of its size. Strata stand in place of a log's order, and know how far
-/// they have come.
+/// A mode: what a log of it says of the next commit and of its size. One mode has strata instead of an order, and they know how
+/// far they have come.
 pub trait Mode {
     type Log: Drop;
 

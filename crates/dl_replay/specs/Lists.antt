@@ -7,7 +7,7 @@ use Rattle.dl_mode.specs.Strata.{head_at}
 use Rattle.spec_log.specs.declared.log.LogParts.{LogParts}
 use Rattle.dl_mode.specs.declared.lists.Lists.{Lists}
 
--- a log; and how far strata have come, if they stand in place of its order
+-- a log; and how far its strata have come, if it has strata instead of an order
 pub record Looked : Type 0 where
   pub log : LogParts
   pub strata : Option Standing

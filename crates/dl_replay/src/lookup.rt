@@ -25,7 +25,7 @@ use spec_strata::Strata;
 use std::alloc::Global;
 use std::marker::Model;
 
-/// A log of a mode, seen as its parts, and how far strata have come, if they stand in place of its order.
+/// A log of a mode, seen as its parts; and how far its strata have come, if it has strata instead of an order.
 #[derive(Drop)]
 pub struct Lookup<M: Mode> {
     version: u8,
