@@ -16,7 +16,8 @@ use dl_elf::Image;
 use dl_sphere::{Replay, Role};
 use dl_strata::{CheckError, Strata, StrataError, check_strata, read_strata};
 use spec_program::status::Refusal;
-use std::alloc::Global;
+use std::alloc::{AllocError, Global};
+use std::rc::Rc;
 
 /// The role that replays the strata in these bytes. Their first bad field is refused, and so are strata that aren't parallel on
 /// the image: by the first commit that doesn't fit, or else by the first that conflicts.
@@ -32,7 +33,15 @@ pub fn role_in_strata(
 {
     let strata = good_strata(alloc, sphere, bytes)?;
     check(alloc, sphere, image, &strata)?;
-    Ok(Role::Replay(Replay::Strata(strata)))
+    let shared = shared(alloc, strata)?;
+    Ok(Role::Replay(Replay::Strata(shared)))
+}
+
+// Strata that can have more owners.
+fn shared(alloc: Global, strata: Strata) -> Result<Rc<Strata>, AllocError>
+    ensures { IfOk result (λ shared. shared.value ≡ strata) }
+{
+    Ok(Rc::new(alloc, strata)?)
 }
 
 // The strata in these bytes.

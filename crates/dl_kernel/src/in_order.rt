@@ -1,16 +1,14 @@
 //! Commits in the order of an account.
-ghost use Rattle.std.specs.Prelude.{◌≡◌, ◌+◌, ◌<◌, ◌≤◌, ◌^◌, [], ◌∷◌, ◌++◌, length, map, take, drop, insert, IsTrue, IfErr};
-ghost use Rattle.std.specs.Prelude.{OnErr, OnOk, slice_index_or, vec_len, vec_capacity};
-ghost use Rattle.dl_kernel.specs.InOrder.{joined, listed};
+ghost use Rattle.std.specs.Prelude.{◌≡◌, ℕ, suc, ◌<◌, ◌≤◌, [], ◌∷◌, ◌++◌, length, map, drop, insert, IsTrue, OnOk};
+ghost use Rattle.dl_kernel.specs.InOrder.{AreSame, NoneWaits, end_of, has_room, joined, listed};
 
-use crate::by_thread::{count_up_to, has_room, move_first, push_to, reserve_list};
+use crate::by_thread::{move_all, push_to, reserve_list};
 use dl_entry::{Commit, OutOfMemory};
 use std::alloc::Global;
 use std::marker::Model;
 
-/// Commits in the order of an account. One that is put before others waits in a list of its thread, so those of greater
-/// threads needn't be moved for it. All that wait come after the others, by thread. If a commit fits no list where it is put,
-/// those that wait and come before it are moved after the others, each one once.
+/// Commits in the order of an account. Those of a stratum wait in a list for each thread until it is over, since one of a lesser
+/// thread comes before those of greater threads, which needn't be moved for it. All that wait come after the others, by thread.
 #[derive(Drop)]
 pub struct InOrder {
     alloc: Global,
@@ -21,7 +19,7 @@ pub struct InOrder {
 
 impl Model for InOrder {
     ghost use Rattle.std.specs.Prelude.{◌≡◌, ◌+◌, ◌≤◌, length, map, nat_lt, vec_len, vec_capacity};
-    ghost use Rattle.dl_kernel.specs.InOrder.{Listed, joined};
+    ghost use Rattle.dl_kernel.specs.InOrder.{Listed, joined, rooms_of};
 
     ghost Value = { Listed };
 
@@ -29,6 +27,7 @@ impl Model for InOrder {
       whole = s.whole.items;
       by_thread = map (λ list. list.items) s.by_thread.items;
       room = nat_lt (vec_len s.whole + s.waiting) (vec_capacity s.whole);
+      rooms = rooms_of s.by_thread.items;
     } };
 
     ghost invariant = { λ s.
@@ -39,7 +38,8 @@ impl Model for InOrder {
 impl InOrder {
     /// No commit; this takes no memory yet.
     pub fn new(alloc: Global) -> InOrder
-        ensures { listed result ≡ [] }
+        ensures none { listed result ≡ [] }
+        ensures settled { NoneWaits result }
     {
         InOrder {
             alloc,
@@ -51,7 +51,7 @@ impl InOrder {
 
     /// Makes room for one more commit.
     pub fn reserve(&mut self) -> Result<(), OutOfMemory>
-        ensures same { listed self.new ≡ listed self.old }
+        ensures same { AreSame self.new self.old }
         ensures ok { OnOk result (IsTrue self.new.room) }
         ensures room { IsTrue self.old.room → IsTrue self.new.room }
     {
@@ -61,8 +61,8 @@ impl InOrder {
 
     /// Makes room for one more commit, in the list of its thread too.
     pub fn reserve_for(&mut self, thread: u8) -> Result<(), OutOfMemory>
-        ensures same { listed self.new ≡ listed self.old }
-        ensures ok { OnOk result (IsTrue self.new.room) }
+        ensures same { AreSame self.new self.old }
+        ensures ok { OnOk result (IsTrue self.new.room × IsTrue (has_room self.new.rooms thread)) }
         ensures room { IsTrue self.old.room → IsTrue self.new.room }
     {
         self.reserve()?;
@@ -72,29 +72,35 @@ impl InOrder {
     /// Puts a commit after all others.
     pub fn push_reserved(&mut self, commit: Commit)
         requires { IsTrue self.old.room }
-        ensures { listed self.new ≡ listed self.old ++ commit ∷ [] }
+        ensures all { listed self.new ≡ listed self.old ++ commit ∷ [] }
+        ensures settled { NoneWaits self.new }
     {
         self.settle();
         self.whole.push_reserved(commit);
     }
 
-    /// Puts a commit of a thread before those from a place on.
-    pub fn put_reserved(&mut self, thread: u8, place: u32, commit: Commit)
-        requires room { IsTrue self.old.room }
-        requires within { place ≤ length (listed self.old) }
-        ensures { listed self.new ≡ insert (listed self.old) place commit }
+    /// Puts a commit of a thread at the end of its list, where it waits.
+    pub fn put_reserved(&mut self, thread: u8, commit: Commit)
+        requires all { IsTrue self.old.room }
+        requires list { IsTrue (has_room self.old.rooms thread) }
+        ensures all { listed self.new ≡ insert (listed self.old) (end_of thread self.old) commit }
+        ensures before { (k : ℕ) → k < thread → end_of k self.new ≡ end_of k self.old }
+        ensures after { (k : ℕ) → thread ≤ k → end_of k self.new ≡ suc (end_of k self.old) }
     {
-        let place = place as usize;
-        let Err(commit) = self.wait(thread, place, commit) else {
-            return;
-        };
-        self.settle_before(place);
-        let Err(commit) = self.wait(thread, place, commit) else {
-            return;
-        };
-        match self.whole.insert(place, commit) {
-            Ok(()) => {}
-            Err(_) => unreachable!(),
+        push_to(&mut self.by_thread, thread, commit);
+        self.waiting += 1;
+    }
+
+    /// Moves all that wait after the others. Their lists keep their memory.
+    pub fn settle(&mut self)
+        ensures whole { self.new.whole ≡ listed self.old }
+        ensures all { listed self.new ≡ listed self.old }
+        ensures settled { NoneWaits self.new }
+        ensures room { IsTrue self.old.room → IsTrue self.new.room }
+    {
+        if self.waiting > 0 {
+            move_all(&mut self.whole, &mut self.by_thread);
+            self.waiting = 0;
         }
     }
 
@@ -140,54 +146,5 @@ impl InOrder {
     {
         self.settle();
         self.whole
-    }
-
-    // Moves all that wait after the others. Their lists keep their memory.
-    fn settle(&mut self)
-        ensures whole { self.new.whole ≡ listed self.old }
-        ensures none { joined self.new.by_thread ≡ [] }
-        ensures room { IsTrue self.old.room → IsTrue self.new.room }
-    {
-        self.settle_first(self.waiting);
-    }
-
-    // Moves those that wait and come before a place after the others.
-    fn settle_before(&mut self, place: usize)
-        requires { place ≤ length (listed self.old) }
-        ensures same { listed self.new ≡ listed self.old }
-        ensures within { place ≤ length self.new.whole }
-        ensures room { IsTrue self.old.room → IsTrue self.new.room }
-    {
-        let count = place.saturating_sub(self.whole.len());
-        self.settle_first(count);
-    }
-
-    // Moves the first of those that wait after the others.
-    fn settle_first(&mut self, count: usize)
-        requires { count ≤ length (joined self.old.by_thread) }
-        ensures whole { self.new.whole ≡ self.old.whole ++ take count (joined self.old.by_thread) }
-        ensures rest { joined self.new.by_thread ≡ drop count (joined self.old.by_thread) }
-        ensures room { IsTrue self.old.room → IsTrue self.new.room }
-    {
-        if count > 0 {
-            move_first(&mut self.whole, &mut self.by_thread, count);
-            self.waiting -= count;
-        }
-    }
-
-    // Has a commit wait, if the list of its thread ends at the place and has room. Else it comes back.
-    fn wait(&mut self, thread: u8, place: usize, commit: Commit) -> Result<(), Commit>
-        requires room { IsTrue self.old.room }
-        ensures ok { OnOk result (listed self.new ≡ insert (listed self.old) place commit) }
-        ensures err { OnErr result (self.new ≡ self.old) }
-        ensures same { IfErr result (λ c. c ≡ commit) }
-    {
-        let end = self.whole.len() + count_up_to(&self.by_thread, thread);
-        if end != place || !has_room(&self.by_thread, thread) {
-            return Err(commit);
-        }
-        push_to(&mut self.by_thread, thread, commit);
-        self.waiting += 1;
-        Ok(())
     }
 }

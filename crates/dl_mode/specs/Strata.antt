@@ -38,6 +38,10 @@ comes_last None a = true
 comes_last (Some x) (Actor.Thread k) = is_last k x
 comes_last (Some x) Actor.Dma = true
 
+-- whether none of the present stratum's commits is done
+abbrev pub begins : Standing → Bool
+begins x = nat_eq (sum x.done) 0
+
 -- strata can count one commit more
 abbrev pub AreFewIf : Option Standing → Type 0
 AreFewIf None = Unit {0}

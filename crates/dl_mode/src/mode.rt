@@ -8,8 +8,8 @@ ghost use Rattle.dl_mode.specs.Counts.{counted, done_by};
 ghost use Rattle.dl_mode.specs.Lists.{lists_of, AreLists};
 ghost use Rattle.dl_mode.specs.Since.{kept_since};
 ghost use Rattle.dl_mode.specs.Logged.{Logged, note_of};
-ghost use Rattle.dl_mode.specs.Strata.{AreFewIf, after_commit, comes_last, head_at, is_head, takes_at};
-ghost use Rattle.spec_strata.specs.Standing.{Standing, place_of};
+ghost use Rattle.dl_mode.specs.Strata.{AreFewIf, after_commit, begins, comes_last, head_at, is_head, takes_at};
+ghost use Rattle.spec_strata.specs.Standing.{Standing};
 
 use crate::lists::Lists;
 use dl_entry::{Actor, Commit, OutOfMemory};
@@ -62,10 +62,9 @@ pub trait Mode {
     fn takes(log: &Self::Log, head: Option<Actor>, actor: Actor) -> bool
         ensures { result ≡ takes_at (strata log.now) head actor };
 
-    /// How many of the commits that are done come before a thread's next one in the order of the account; none if all do, as in
-    /// a log.
-    fn place(log: &Self::Log, thread: u8) -> Option<u32>
-        ensures { result ≡ option_map (place_of thread) (strata log.now) };
+    /// Whether none of the present stratum's commits is done; nothing in a log, which has no strata.
+    fn begins(log: &Self::Log) -> Option<bool>
+        ensures { result ≡ option_map begins (strata log.now) };
 
     /// Strata go on after an actor's commit. Whether none of the commits that were done comes after it in the order of the
     /// account; in a log none does.

@@ -78,7 +78,7 @@ impl Mode for OrderOnly {
         is_head(head, actor)
     }
 
-    fn place(_: &OrderOnlyLog, _: u8) -> Option<u32> {
+    fn begins(_: &OrderOnlyLog) -> Option<bool> {
         None
     }
 

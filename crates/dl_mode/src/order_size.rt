@@ -139,7 +139,7 @@ impl Mode for OrderAndSize {
         is_head(head, actor)
     }
 
-    fn place(_: &OrderSizeLog, _: u8) -> Option<u32> {
+    fn begins(_: &OrderSizeLog) -> Option<bool> {
         None
     }
 

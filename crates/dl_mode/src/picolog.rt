@@ -76,7 +76,7 @@ impl Mode for PicoLog {
         is_head(head, actor)
     }
 
-    fn place(_: &TurnLog, _: u8) -> Option<u32> {
+    fn begins(_: &TurnLog) -> Option<bool> {
         None
     }
 

@@ -3,7 +3,7 @@ mod Rising
 mod FirstHeads
 mod Lookups
 pub mod Counts
-mod Takes
+pub mod Takes
 mod Turns
 mod Verdicts
 mod Kept

@@ -1,18 +1,20 @@
 -- How a standing in strata moves: what is left and done of a stratum, the start of one, and a commit more.
-use Rattle.std.proofs.Common.{◌≡◌, ℕ, zero, suc, ◌+◌, ◌^◌, ◌<◌, ◌≤◌, Bool, List, [], ◌∷◌, length, take, drop, map, replicate, get_or, set, min, nat_lt, cond, Option, Some, None, inl, inr, refl, sym, ap, ◌∙◌, subst, arith}
-use Rattle.std.specs.Prelude.{All, IfSome, option_map}
+use Rattle.std.proofs.Common.{◌≡◌, ℕ, zero, suc, ◌+◌, ◌^◌, ◌<◌, ◌≤◌, ◌⊎◌, Bool, false, List, [], ◌∷◌, length, drop, map, replicate, get_or, set, max, nat_le, nat_lt, cond, Option, Some, None, inl, inr, refl, sym, ap, ◌∙◌, subst, arith}
+use Rattle.std.specs.Prelude.{All, IsSome, nat_eq, option_map, slice_get}
 use Rattle.std.specs.List.{sum}
-use Rattle.std.proofs.lemmas.Bool.{cases_Bool, ltb-true, ltb-false}
-use Rattle.std.proofs.lemmas.List.{drop-drop, drop_all, take_all}
+use Rattle.std.proofs.lemmas.Bool.{cases_Bool, cases_eq, eq-eqb, le-ltb, leb-false, leb-true, ltb-true, ltb-false, ne_eqb, true≢false}
+use Rattle.std.proofs.lemmas.List.{drop-drop, drop-set-lt, drop_all, get_or-set_other, get_or-set_same}
+use Rattle.dl_entry.specs.declared.Actor.{Actor}
 use Rattle.std.proofs.lemmas.List.Elements.{All-drop}
 use Rattle.std.proofs.lemmas.List.Sums.{sum_by-cons, sum_by-set}
 use Rattle.std.proofs.lemmas.Simd.{splat_is_map}
 use Rattle.spec_strata.specs.declared.stratum.Stratum.{Stratum}
 use Rattle.spec_strata.specs.declared.stratum.Stratum.TheVariants.{Chunks, Serial, Dma}
-use Rattle.spec_strata.specs.Standing.{Standing, after_dma, after_thread, done_up_to, least_left, nothing_done, place_of, stratum_begun, with_alone, with_one_done, with_thread}
+use Rattle.spec_strata.specs.Standing.{Standing, after_dma, after_thread, done_up_to, head_in, least_left, nothing_done, stratum_begun, with_alone, with_one_done, with_thread}
 use Rattle.spec_strata.specs.Strata.{IsStratumOf}
-use Rattle.dl_mode.specs.Strata.{AreFewIf}
-use Rattle.dl_replay.specs.Standings.{CountsThreads, IsWithin, IsWithinIf, count_in, done_in, standing_from}
+use Rattle.dl_mode.specs.Strata.{AreFewIf, is_head}
+use Rattle.dl_replay.proofs.Takes.{own-head}
+use Rattle.dl_replay.specs.Standings.{CountsThreads, IsGreatest, IsWithin, IsWithinIf, count_if, count_in, done_in, head_if, standing_from}
 
 -- ---- what is left and done
 
@@ -28,33 +30,154 @@ least-at k (c ∷ cs) (d ∷ ds) (suc i) l e = least-at k cs ds i (omega (arith,
 pub least-none : (k : ℕ) (cs ds : List ℕ) (i : ℕ) → length cs ≤ i → least_left k (drop i cs) (drop i ds) ≡ None
 least-none k cs ds i l = ap (λ (xs : List ℕ). least_left k xs (drop i ds)) (drop_all i cs l)
 
--- what is done of the threads up to a number is a sum
-done-first : (k : ℕ) (ds : List ℕ) → done_up_to k ds ≡ sum (take (suc k) ds)
-done-first k [] = refl
-done-first zero (d ∷ ds) = omega (arith, sum_by-cons (λ (x : ℕ). x) d [])
-done-first (suc k) (d ∷ ds) = omega (arith, done-first k ds, sum_by-cons (λ (x : ℕ). x) d (take (suc k) ds))
+-- what is done of the threads up to a number and of the others is all that is done
+done-parts : (k : ℕ) (ds : List ℕ) → done_up_to k ds + sum (drop (suc k) ds) ≡ sum ds
+done-parts k [] = omega arith
+done-parts zero (d ∷ ds) = omega (arith, sum_by-cons (λ (x : ℕ). x) d ds)
+done-parts (suc k) (d ∷ ds) = omega (arith, done-parts k ds, sum_by-cons (λ (x : ℕ). x) d ds)
 
-take-least : (k : ℕ) (ds : List ℕ) → take (suc k) ds ≡ take (min (length ds) (k + 1)) ds
-take-least k ds =
-    elim (cases_Bool (nat_lt k (length ds))) [
-      | inl before ↦
-          let l = ltb-true k (length ds) before in
-          let e : suc k ≡ min (length ds) (k + 1) = omega (arith, l) in
-          ap (λ (n : ℕ). take n ds) e
-      | inr past ↦
-          let l : length ds ≤ k = omega (arith, ltb-false k (length ds) past) in
-          let e : min (length ds) (k + 1) ≡ length ds = omega (arith, l) in
-          take_all (suc k) ds (omega (arith, l)) ∙ sym (ap (λ (n : ℕ). take n ds) e ∙ take_all (length ds) ds (omega arith))
+-- so the last one comes after all if nothing is done of the others
+last-of-all : (k : ℕ) (ds : List ℕ) → nat_eq (sum (drop (suc k) ds)) 0 ≡ nat_eq (done_up_to k ds) (sum ds)
+last-of-all k ds =
+    let parts = done-parts k ds in
+    elim (cases_eq (sum (drop (suc k) ds)) 0) [
+      | inl none ↦ eq-eqb (sum (drop (suc k) ds)) 0 none ∙ sym (eq-eqb (done_up_to k ds) (sum ds) (omega (arith, parts, none)))
+      | inr some ↦
+          ne_eqb (sum (drop (suc k) ds)) 0 some
+          ∙ sym (ne_eqb (done_up_to k ds) (sum ds) (λ e. some (omega (arith, parts, e))))
     ]
 
-pub done-is : (k : ℕ) (ds : List ℕ) → done_up_to k ds ≡ sum (take (min (length ds) (k + 1)) ds)
-done-is k ds = done-first k ds ∙ ap sum (take-least k ds)
+drop-less : (ds : List ℕ) (m n : ℕ) → n ≤ m → sum (drop m ds) ≤ sum (drop n ds)
+drop-less [] zero zero l = omega arith
+drop-less [] zero (suc n) l = omega arith
+drop-less [] (suc m) zero l = omega arith
+drop-less [] (suc m) (suc n) l = omega arith
+drop-less (d ∷ ds) zero zero l = omega arith
+drop-less (d ∷ ds) zero (suc n) l = absurd (omega (arith, l))
+drop-less (d ∷ ds) (suc m) zero l = omega (arith, drop-less ds m zero (omega arith), sum_by-cons (λ (x : ℕ). x) d ds)
+drop-less (d ∷ ds) (suc m) (suc n) l = drop-less ds m n (omega (arith, l))
 
--- it is no more than all that is done
-pub done-within : (k : ℕ) (ds : List ℕ) → done_up_to k ds ≤ sum ds
-done-within k [] = omega arith
-done-within zero (d ∷ ds) = omega (arith, sum_by-cons (λ (x : ℕ). x) d ds)
-done-within (suc k) (d ∷ ds) = omega (arith, done-within k ds, sum_by-cons (λ (x : ℕ). x) d ds)
+one-of-rest : (ds : List ℕ) (n k : ℕ) → n ≤ k → get_or ds k 0 ≤ sum (drop n ds)
+one-of-rest [] n k l = omega arith
+one-of-rest (d ∷ ds) zero zero l = omega (arith, sum_by-cons (λ (x : ℕ). x) d ds)
+one-of-rest (d ∷ ds) zero (suc k) l = omega (arith, one-of-rest ds zero k (omega arith), sum_by-cons (λ (x : ℕ). x) d ds)
+one-of-rest (d ∷ ds) (suc n) zero l = absurd (omega (arith, l))
+one-of-rest (d ∷ ds) (suc n) (suc k) l = one-of-rest ds n k (omega (arith, l))
+
+-- which is so unless a greater one has done something
+pub last-by-greatest : (g k : ℕ) (ds : List ℕ) → IsGreatest g ds → nat_le g k ≡ nat_eq (done_up_to k ds) (sum ds)
+last-by-greatest g k ds h =
+    let others = last-of-all k ds in
+    elim (cases_Bool (nat_le g k)) [
+      | inl late ↦
+          late ∙ sym (eq-eqb (sum (drop (suc k) ds)) 0 (omega (arith, h.0, drop-less ds (suc k) (suc g) (omega (arith, leb-true g k late))))) ∙ others
+      | inr early ↦
+          early
+          ∙ sym (ne_eqb (sum (drop (suc k) ds)) 0 (λ none. elim h.1 [
+            | inl first ↦ absurd (omega (arith, first, leb-false g k early))
+            | inr some ↦ absurd (omega (arith, some, none, one-of-rest ds (suc k) g (omega (arith, leb-false g k early))))
+          ]))
+          ∙ others
+    ]
+
+-- if nothing is done, thread 0 is the greatest
+pub nothing_beyond : (ds : List ℕ) (n : ℕ) → sum ds ≡ 0 → sum (drop n ds) ≡ 0
+nothing_beyond ds n none = omega (arith, none, drop-less ds n 0 (omega arith))
+
+-- with a chunk more of a thread
+greatest-more : (g k n : ℕ) (ds : List ℕ) → k < length ds → n ≡ suc (get_or ds k 0) → IsGreatest g ds → IsGreatest (max g k) (set ds k n)
+greatest-more g k n ds there e h =
+    elim (cases_Bool (nat_le k g)) [
+      | inl within ↦
+          let l = leb-true k g within in
+          let m : max g k ≡ g = omega (arith, l) in
+          let rest : sum (drop (suc g) (set ds k n)) ≡ 0 = ap sum (drop-set-lt (suc g) ds k n (omega (arith, l))) ∙ h.0 in
+          let some : (g ≡ 0) ⊎ (0 < get_or (set ds k n) g 0) =
+          elim (cases_eq g k) [
+            | inl same ↦ inr (omega (arith, e, ap (λ (i : ℕ). get_or (set ds k n) i 0) same, get_or-set_same ds k n 0 there))
+            | inr other ↦ elim h.1 [ inl none ↦ inl none | inr some ↦ inr (omega (arith, some, get_or-set_other ds k g n 0 other)) ]
+          ] in
+          subst (λ (i : ℕ). IsGreatest i (set ds k n)) (sym m) (rest, some)
+      | inr beyond ↦
+          let l = leb-false k g beyond in
+          let m : max g k ≡ k = omega (arith, l) in
+          let rest : sum (drop (suc k) (set ds k n)) ≡ 0 = omega (arith, ap sum (drop-set-lt (suc k) ds k n (omega arith)), h.0, drop-less ds (suc k) (suc g) (omega (arith, l))) in
+          subst (λ (i : ℕ). IsGreatest i (set ds k n)) (sym m) (rest, inr (omega (arith, e, get_or-set_same ds k n 0 there)))
+    ]
+
+pub greatest_counted : (left : List Stratum) (ds : List ℕ) (g k n : ℕ) → IsSome (count_in left) → k < length ds → n ≡ suc (get_or ds k 0) → IsGreatest g (done_in left ds) → IsGreatest (max g k) (done_in left (set ds k n))
+greatest_counted [] ds g k n chunks there e h = absurd (true≢false (sym chunks))
+greatest_counted (Chunks counts ∷ xs) ds g k n chunks there e h = greatest-more g k n ds there e h
+greatest_counted (Serial thread ∷ xs) ds g k n chunks there e h = absurd (true≢false (sym chunks))
+greatest_counted (Dma ∷ xs) ds g k n chunks there e h = absurd (true≢false (sym chunks))
+
+-- with a chunk more of another thread the least one with chunks left is the same
+left-but : (i : ℕ) (cs ds : List ℕ) (k : ℕ) → (least_left i cs ds ≡ Some (i + k) → ⊥) → least_left i cs (with_one_done k ds) ≡ least_left i cs ds
+left-but i [] ds k other = refl
+left-but i (c ∷ cs) [] k other = refl
+left-but i (c ∷ cs) (d ∷ ds) zero other =
+    let from = λ (b : Bool). cond b (Some i) (least_left (suc i) cs ds) in
+    elim (cases_Bool (nat_lt d c)) [
+      | inl left ↦ (let e : i ≡ i + 0 = omega arith in absurd (other (ap from left ∙ ap (λ (n : ℕ). Some n) e)))
+      | inr none ↦ ap from (le-ltb (suc d) c (omega (arith, ltb-false d c none))) ∙ sym (ap from none)
+    ]
+left-but i (c ∷ cs) (d ∷ ds) (suc k) other =
+    let from = λ (b : Bool). cond b (Some i) (least_left (suc i) cs ds) in
+    let after = λ (b : Bool). cond b (Some i) (least_left (suc i) cs (with_one_done k ds)) in
+    let e : suc i + k ≡ i + suc k = omega arith in
+    elim (cases_Bool (nat_lt d c)) [
+      | inl left ↦ ap after left ∙ sym (ap from left)
+      | inr none ↦
+          ap after none
+          ∙ left-but (suc i) cs ds k (λ h. other (ap from none ∙ h ∙ ap (λ (n : ℕ). Some n) e))
+          ∙ sym (ap from none)
+    ]
+
+some-thread : (o : Option ℕ) (k : ℕ) → o ≡ Some k → option_map Actor.Thread o ≡ Some (Actor.Thread k)
+some-thread o k e = ap (option_map Actor.Thread) e
+
+-- and so the head is
+pub head-but : (xs : List Stratum) (ds : List ℕ) (k : ℕ) → (head_in xs ds ≡ Some (Actor.Thread k) → ⊥) → head_in xs (with_one_done k ds) ≡ head_in xs ds
+head-but [] ds k other = refl
+head-but (Chunks counts ∷ xs) ds k other =
+    let e : k ≡ 0 + k = omega arith in
+    ap (option_map Actor.Thread) (left-but 0 counts ds k (λ h. other (some-thread (least_left 0 counts ds) k (h ∙ ap (λ (n : ℕ). Some n) (sym e)))))
+head-but (Serial thread ∷ xs) ds k other = refl
+head-but (Dma ∷ xs) ds k other = refl
+
+-- a chunk more of a thread that is counted is one more of all
+pub one-more-counted : (left : List Stratum) (ds : List ℕ) (k n : ℕ) → IsSome (count_in left) → k < length ds → n ≡ suc (get_or ds k 0)
+    → sum (done_in left (set ds k n)) ≡ sum (done_in left ds) + 1
+one-more-counted [] ds k n chunks there e = absurd (true≢false (sym chunks))
+one-more-counted (Chunks counts ∷ xs) ds k n chunks there e = omega (arith, sum_by-set (λ (x : ℕ). x) ds k n 0 there, e)
+one-more-counted (Serial thread ∷ xs) ds k n chunks there e = absurd (true≢false (sym chunks))
+one-more-counted (Dma ∷ xs) ds k n chunks there e = absurd (true≢false (sym chunks))
+
+-- so the head stays unless it is of that thread
+pub head-stays : (left : List Stratum) (ds : List ℕ) (k n : ℕ) (head : Option Actor) → n ≡ suc (get_or ds k 0) → head ≡ head_in left (done_in left ds) → is_head head (Actor.Thread k) ≡ false
+    → head ≡ head_in left (done_in left (set ds k n))
+head-stays [] ds k n head e is other = is
+head-stays (Chunks counts ∷ xs) ds k n head e is other =
+    let same = head-but (Chunks counts ∷ xs) ds k (λ h. true≢false (sym (ap (λ (o : Option Actor). is_head o (Actor.Thread k)) (is ∙ h) ∙ own-head (Actor.Thread k)) ∙ other)) in
+    is ∙ sym same ∙ ap (λ (m : ℕ). head_in (Chunks counts ∷ xs) (set ds k m)) (sym e)
+head-stays (Serial thread ∷ xs) ds k n head e is other = is
+head-stays (Dma ∷ xs) ds k n head e is other = is
+
+-- the head of what is left, by the present stratum
+pub head-of-left : (strata : List Stratum) (place : ℕ) (ds : List ℕ) → head_if (slice_get strata place) ds ≡ head_in (drop place strata) (done_in (drop place strata) ds)
+head-of-left [] zero ds = refl
+head-of-left [] (suc place) ds = refl
+head-of-left (Chunks counts ∷ xs) zero ds = refl
+head-of-left (Serial thread ∷ xs) zero ds = refl
+head-of-left (Dma ∷ xs) zero ds = refl
+head-of-left (x ∷ xs) (suc place) ds = head-of-left xs place ds
+
+-- and how many chunks it has
+pub count-of-left : (strata : List Stratum) (place : ℕ) → count_if (slice_get strata place) ≡ count_in (drop place strata)
+count-of-left [] zero = refl
+count-of-left [] (suc place) = refl
+count-of-left (x ∷ xs) zero = refl
+count-of-left (x ∷ xs) (suc place) = count-of-left xs place
 
 -- ---- the start of a stratum
 
@@ -193,14 +316,6 @@ dma-in x (s ∷ xs) n within = begun-within xs (suc x.before) (n + 1) (omega (ar
 pub dma-within : (o : Option Standing) (n : ℕ) → IsWithinIf o n → IsWithinIf (option_map after_dma o) (n + 1)
 dma-within None n within = tt
 dma-within (Some x) n within = dma-in x x.strata n within
-
--- a place is among the commits that are done
-place-within : (k : ℕ) (x : Standing) (n : ℕ) → IsWithin x n → place_of k x ≤ n
-place-within k x n within = omega (arith, within, done-within k x.done)
-
-pub place-within-if : (k : ℕ) (o : Option Standing) (n : ℕ) → IsWithinIf o n → IfSome (option_map (place_of k) o) (λ place. place ≤ n)
-place-within-if k None n within = tt
-place-within-if k (Some x) n within = place-within k x n within
 
 -- there is room for one more
 pub few-within : (o : Option Standing) (n : ℕ) → n + 1 < 2 ^ 32 → IsWithinIf o n → AreFewIf o

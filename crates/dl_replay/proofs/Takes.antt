@@ -55,14 +55,14 @@ free-head r used loads p actor going out free = has-turn r.now actor going (sym 
 
 -- ---- told the head
 
-is-head : (o : Option Actor) (a : Actor) → is_head o a ≡ true → o ≡ Some a
+pub is-head : (o : Option Actor) (a : Actor) → is_head o a ≡ true → o ≡ Some a
 is-head None a e = absurd (true≢false (sym e))
 is-head (Some (Actor.Thread j)) (Actor.Thread k) e = ap (λ (n : ℕ). Some (Actor.Thread n)) (eqb-true j k e)
 is-head (Some (Actor.Thread j)) Actor.Dma e = absurd (true≢false (sym e))
 is-head (Some Actor.Dma) (Actor.Thread k) e = absurd (true≢false (sym e))
 is-head (Some Actor.Dma) Actor.Dma e = refl
 
-own-head : (a : Actor) → is_head (Some a) a ≡ true
+pub own-head : (a : Actor) → is_head (Some a) a ≡ true
 own-head (Actor.Thread k) = eq-eqb k k refl
 own-head Actor.Dma = refl
 
@@ -98,7 +98,7 @@ or-false : (b : Bool) → b || false ≡ b
 or-false true = refl
 or-false false = refl
 
-or-right : (b c : Bool) → c ≡ true → b || c ≡ true
+pub or-right : (b c : Bool) → c ≡ true → b || c ≡ true
 or-right true c e = refl
 or-right false c e = e
 

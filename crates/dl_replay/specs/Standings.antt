@@ -1,9 +1,10 @@
 -- How the code keeps how far a replay has come in strata.
-use Rattle.std.specs.Prelude.{◌≡◌, ℕ, ◌+◌, ◌≤◌, List, [], ◌∷◌, length, drop, Option, Some, None}
+use Rattle.std.specs.Prelude.{◌≡◌, ℕ, suc, ◌+◌, ◌<◌, ◌≤◌, ◌⊎◌, slice_index_or, List, [], ◌∷◌, length, drop, Option, Some, None}
 use Rattle.std.specs.List.{sum}
+use Rattle.dl_entry.specs.declared.Actor.{Actor}
 use Rattle.spec_strata.specs.declared.stratum.Stratum.{Stratum}
 use Rattle.spec_strata.specs.declared.stratum.Stratum.TheVariants.{Chunks, Serial, Dma}
-use Rattle.spec_strata.specs.Standing.{Standing, stratum_begun}
+use Rattle.spec_strata.specs.Standing.{Standing, head_of, stratum_begun}
 
 -- how many chunks of each thread are done in the present stratum, if it has chunks
 abbrev pub done_in : List Stratum → (done : List ℕ) → List ℕ
@@ -33,6 +34,11 @@ abbrev pub count_in : List Stratum → Option ℕ
 count_in [] = None
 count_in (x ∷ xs) = count_of x
 
+-- whose commit is next in a stratum
+abbrev pub head_if : Option Stratum → (done : List ℕ) → Option Actor
+head_if None done = None
+head_if (Some x) done = head_of x done
+
 -- a stratum counts the chunks of so many threads, if it has chunks
 abbrev pub CountsThreads : (threads : ℕ) → Stratum → Type 0
 CountsThreads n (Chunks counts) = length counts ≡ n
@@ -52,6 +58,10 @@ IsWithin x n = x.before + sum x.done ≤ n
 abbrev pub IsWithinIf : Option Standing → (commits : ℕ) → Type 0
 IsWithinIf None n = Unit {0}
 IsWithinIf (Some x) n = IsWithin x n
+
+-- the greatest thread that has done something, or 0 if none has
+abbrev pub IsGreatest : (thread : ℕ) → (done : List ℕ) → Type 0
+IsGreatest k done = (sum (drop (suc k) done) ≡ 0) × ((k ≡ 0) ⊎ (0 < slice_index_or done k 0))
 
 -- all strata, and how far they have come
 pub record Stood : Type 0 where

@@ -1,9 +1,9 @@
 //! How many chunks of a stratum are counted and done, by thread; and how many commits strata have.
-ghost use Rattle.std.specs.Prelude.{◌≡◌, ◌<◌, ◌≤◌, ◌^◌, All, length};
+ghost use Rattle.std.specs.Prelude.{◌≡◌, ◌≤◌, ◌^◌, All, length};
 ghost use Rattle.std.specs.List.{sum};
 ghost use Rattle.spec_strata.specs.Strata.{commits_in, commits_in_all};
 ghost use Rattle.dl_replay.specs.Standings.{CountsFew};
-ghost use Rattle.spec_strata.specs.Standing.{done_up_to, least_left};
+ghost use Rattle.spec_strata.specs.Standing.{least_left};
 
 use spec_strata::Stratum;
 
@@ -19,28 +19,6 @@ pub fn least_left(counts: &[u8], done: &[u32]) -> Option<u8>
         }
     }
     None
-}
-
-/// How many are done of the threads up to a number.
-pub fn done_up_to(thread: u8, done: &[u32]) -> u32
-    requires { sum done.now < 2 ^ 32 }
-    ensures value { result ≡ done_up_to thread done.now }
-    ensures most { result ≤ sum done.now }
-{
-    let end = done.len().min(usize::from(thread) + 1);
-    total_of(&done[..end])
-}
-
-/// How many are done of all threads.
-fn total_of(done: &[u32]) -> u32
-    requires { sum done.now < 2 ^ 32 }
-    ensures { result ≡ sum done.now }
-{
-    let mut total = 0;
-    for count in done {
-        total += *count;
-    }
-    total
 }
 
 /// How many are counted of at most 63 threads.

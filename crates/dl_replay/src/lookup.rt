@@ -1,17 +1,18 @@
 //! A log as a replay looks things up in it.
-ghost use Rattle.std.specs.Prelude.{◌≡◌, ℕ, ◌≤◌, ◌+◌, ◌<◌, ◌^◌, nat_lt, List, length, None, Some, IfOk, IfSome, OnSome, is_some, slice_get};
+ghost use Rattle.std.specs.Prelude.{◌≡◌, ℕ, Bool, Option, ◌≤◌, ◌+◌, ◌<◌, ◌^◌, nat_lt, List, length, None, Some, IfOk, IfSome, OnSome, is_some, slice_get};
 ghost use Rattle.std.specs.Prelude.{option_copied, option_map};
 ghost use Rattle.dl_entry.specs.Numbers.{most_bytes, most_threads};
 ghost use Rattle.spec_isa.specs.declared.thread.Parts.{Parts};
 ghost use Rattle.spec_log.specs.Log.{IsLog};
+ghost use Rattle.spec_log.specs.declared.mode_name.ModeName.TheVariants.{Picolog};
 ghost use Rattle.spec_log.specs.Size.{size_in};
 ghost use Rattle.spec_play.specs.Turns.{are_sizes_used};
 ghost use Rattle.spec_play.specs.Verdicts.{interrupt_at};
 ghost use Rattle.spec_protocol.specs.machine.Spheres.{whole_limit};
 ghost use Rattle.spec_strata.specs.Canonical.{canonical};
-ghost use Rattle.spec_strata.specs.Standing.{place_of, stratum_begun};
+ghost use Rattle.spec_strata.specs.Standing.{stratum_begun};
 ghost use Rattle.spec_strata.specs.Strata.{AreStrata};
-ghost use Rattle.dl_mode.specs.Strata.{AreFewIf, after_commit, comes_last, takes_at};
+ghost use Rattle.dl_mode.specs.Strata.{AreFewIf, after_commit, begins, comes_last, takes_at};
 ghost use Rattle.dl_replay.specs.Counts.{commits_of};
 ghost use Rattle.dl_replay.specs.Lists.{head_of};
 
@@ -24,6 +25,7 @@ use spec_log::{DmaRecord, Log, ModeName};
 use spec_strata::Strata;
 use std::alloc::Global;
 use std::marker::Model;
+use std::rc::Rc;
 
 /// A log of a mode, seen as its parts; and how far its strata have come, if it has strata instead of an order.
 #[derive(Drop)]
@@ -79,10 +81,10 @@ impl<M: Noting> Lookup<M> {
 
 impl Lookup<StrataMode> {
     /// Strata, of which nothing is done, with their log.
-    pub fn of_strata(alloc: Global, strata: &Strata) -> Result<Lookup<StrataMode>, OutOfMemory>
-        ensures value { let v = strata.now in
+    pub fn of_strata(alloc: Global, strata: &Rc<Strata>) -> Result<Lookup<StrataMode>, OutOfMemory>
+        ensures value { let v = strata.now.value in
             IfOk result (λ lookup. lookup ≡ record { log = canonical v; strata = Some (stratum_begun v.strata 0) }) }
-        ensures good { AreStrata strata.now }
+        ensures good { AreStrata strata.now.value }
     {
         let parts = strata.parts();
         let log = StrataLog::new(alloc, strata)?;
@@ -148,6 +150,14 @@ impl<M: Mode> Lookup<M> {
         M::head(&self.log, position, dma, last, live)
     }
 
+    /// The same in a mode that has an order, or strata: it looks neither at threads nor at DMAs.
+    pub fn head_in_order(&self, position: u32) -> Option<Actor>
+        requires { M.mode ≡ Picolog → ⊥ }
+        ensures { (last : Option ℕ) (live : List Bool) → result ≡ head_of self.now position last live }
+    {
+        M::head(&self.log, position, false, None, &[])
+    }
+
     /// Whether an actor may commit, told who the head is.
     pub fn takes(&self, head: Option<Actor>, actor: Actor) -> bool
         ensures { result ≡ takes_at self.now.strata head actor }
@@ -155,11 +165,11 @@ impl<M: Mode> Lookup<M> {
         M::takes(&self.log, head, actor)
     }
 
-    /// How many of the commits that are done come before a thread's next one, if not all of them do.
-    pub fn place(&self, thread: u8) -> Option<u32>
-        ensures { result ≡ option_map (place_of thread) self.now.strata }
+    /// Whether none of the present stratum's commits is done, if there are strata.
+    pub fn begins(&self) -> Option<bool>
+        ensures { result ≡ option_map begins self.now.strata }
     {
-        M::place(&self.log, thread)
+        M::begins(&self.log)
     }
 
     /// Strata go on after an actor's commit. Whether none of those that were done comes after it.

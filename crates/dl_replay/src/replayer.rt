@@ -19,7 +19,7 @@ ghost use Rattle.spec_play.specs.Verdicts.{Goes, chunk_verdict, serial_verdict};
 ghost use Rattle.spec_protocol.specs.machine.Spheres.{Replay, Sphere, actor_of, is_over, joins_in, pieces_of, turn_in};
 ghost use Rattle.spec_log.specs.Log.{IsLog};
 ghost use Rattle.spec_strata.specs.Canonical.{canonical};
-ghost use Rattle.spec_strata.specs.Standing.{after_dma, after_thread, place_of, stratum_begun};
+ghost use Rattle.spec_strata.specs.Standing.{after_dma, after_thread, stratum_begun};
 ghost use Rattle.dl_kernel.specs.States.{PlayState, state_in};
 ghost use Rattle.dl_kernel.specs.Calls.{spawned_list};
 ghost use Rattle.spec_protocol.specs.promises.Sound.{IsSoundIf};
@@ -29,7 +29,7 @@ ghost use Rattle.dl_replay.specs.Judging.{transfer_verdict};
 ghost use Rattle.dl_replay.specs.Left.{SaysSize, served_by, served_left, verdict_left, verdict_stored};
 ghost use Rattle.dl_replay.specs.Limits.{chunk_limit, chunk_limit_in};
 ghost use Rattle.dl_replay.specs.Replays.{Agrees, IsReplaying};
-ghost use Rattle.dl_mode.specs.Strata.{AreFewIf};
+ghost use Rattle.dl_mode.specs.Strata.{AreFewIf, begins};
 ghost use Rattle.dl_replay.specs.Standings.{IsWithinIf};
 
 use crate::judging::{Done, Finish, judge_chunk, judge_dma, judge_step, transfer_of};
@@ -48,6 +48,7 @@ use spec_play::Interval;
 use spec_strata::Strata;
 use std::alloc::Global;
 use std::marker::Model;
+use std::rc::Rc;
 
 /// Follows a log, or an interval of its commits, by which its sphere's commits are judged; or strata, which are a mode too.
 #[derive(Drop)]
@@ -93,13 +94,13 @@ impl Replayer<StrataMode> {
     /// The replay of strata, of which nothing is done, from a state in which no commit is.
     pub fn of_strata(
         alloc: Global,
-        strata: &Strata,
+        strata: &Rc<Strata>,
         state: &State,
     ) -> Result<Replayer<StrataMode>, OutOfMemory>
         requires start { state.now.commits ≡ 0 }
-        requires state { IsBounded (canonical strata.now) (state_in state.now) }
+        requires state { IsBounded (canonical strata.now.value) (state_in state.now) }
         requires request { IsSoundIf (length state.now.memory) state.now.request }
-        ensures value { let v = strata.now in IfOk result (λ replayer.
+        ensures value { let v = strata.now.value in IfOk result (λ replayer.
             replayer ≡ record (followed_from (canonical v) None (state_in state.now)) { strata = Some (stratum_begun v.strata 0) }) }
         ensures at { IfOk result (λ replayer. IsReplaying replayer state.now) }
     {
@@ -189,12 +190,11 @@ impl<M: Mode> Replayer<M> {
         }
     }
 
-    /// How many commits come before a thread's next one, in strata; else all come before it.
-    pub fn place(&self, thread: u8) -> Option<u32>
-        ensures value { result ≡ option_map (place_of thread) self.now.strata }
-        ensures within { (s : PlayState) → IsReplaying self.now s → IfSome result (λ place. place ≤ s.commits) }
+    /// Whether none of the present stratum's commits is done, in strata.
+    pub fn begins(&self) -> Option<bool>
+        ensures { result ≡ option_map begins self.now.strata }
     {
-        self.log.place(thread)
+        self.log.begins()
     }
 
     /// The instructions of the present commit's pieces.

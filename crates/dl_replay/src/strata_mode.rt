@@ -13,6 +13,7 @@ use spec_log::ModeName;
 use spec_strata::Strata;
 use std::alloc::Global;
 use std::marker::Model;
+use std::rc::Rc;
 
 /// Strata, how far they have come, and the sizes of their short chunks.
 #[derive(Drop)]
@@ -33,9 +34,9 @@ impl Model for StrataLog {
 
 impl StrataLog {
     /// Strata of which nothing is done.
-    pub fn new(alloc: Global, strata: &Strata) -> Result<StrataLog, OutOfMemory>
-        ensures kept { IfOk result (λ log. log.logged.kept ≡ kept_begun strata.now log.logged.kept.done) }
-        ensures strata { IfOk result (λ log. log.strata ≡ stratum_begun strata.now.strata 0) }
+    pub fn new(alloc: Global, strata: &Rc<Strata>) -> Result<StrataLog, OutOfMemory>
+        ensures kept { IfOk result (λ log. log.logged.kept ≡ kept_begun strata.now.value log.logged.kept.done) }
+        ensures strata { IfOk result (λ log. log.strata ≡ stratum_begun strata.now.value.strata 0) }
     {
         let parts = strata.parts();
         Ok(StrataLog {
@@ -90,20 +91,16 @@ impl Mode for StrataMode {
     }
 
     fn takes(log: &StrataLog, head: Option<Actor>, actor: Actor) -> bool {
-        is_head(head, actor) || has_left(&log.standing, actor)
+        has_left(&log.standing, actor) || is_head(head, actor)
     }
 
-    fn place(log: &StrataLog, thread: u8) -> Option<u32> {
-        Some(log.standing.place(thread))
+    fn begins(log: &StrataLog) -> Option<bool> {
+        Some(log.standing.begins())
     }
 
     fn advance(log: &mut StrataLog, actor: Actor) -> bool {
         match actor {
-            Actor::Thread(thread) => {
-                let last = log.standing.is_last(thread);
-                log.standing.after_thread(thread);
-                last
-            }
+            Actor::Thread(thread) => log.standing.after_thread(thread),
             Actor::Dma => {
                 log.standing.after_dma();
                 true

@@ -16,6 +16,7 @@ use dl_entry::{Actor, End, Why};
 use dl_kernel::{State, live_of, lives};
 use dl_mode::Mode;
 use dl_thread::Threads;
+use spec_log::ModeName;
 use spec_play::{Interval, Used};
 
 /// Whose turn it is at a state of the log's play, or of its strata, if all commits are replayed or those of an interval.
@@ -63,9 +64,14 @@ fn now_by<M: Mode>(log: &Lookup<M>, state: &State) -> TurnOrEnd
 fn next_actor<M: Mode>(log: &Lookup<M>, state: &State) -> Option<Actor>
     ensures { let s = state.now in result ≡ head_of log.now s.commits s.last (map is_live s.threads) }
 {
-    let live = live_of(&state.threads);
-    let live = &live[..usize::from(state.threads.len())];
-    log.head(state.commits, state.last, live)
+    match M::name() {
+        ModeName::OrderSize | ModeName::OrderOnly => log.head_in_order(state.commits),
+        ModeName::Picolog => {
+            let live = live_of(&state.threads);
+            let live = &live[..usize::from(state.threads.len())];
+            log.head(state.commits, state.last, live)
+        }
+    }
 }
 
 // A thread whose turn it is must live.

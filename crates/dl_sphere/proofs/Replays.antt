@@ -2,3 +2,4 @@
 pub mod Judging
 pub mod Moved
 pub mod Limits
+pub mod InStrata

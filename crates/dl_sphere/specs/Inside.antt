@@ -5,7 +5,8 @@ use Rattle.dl_kernel.specs.declared.past.Past.{Past}
 use Rattle.dl_replay.specs.Following.{cursor_of}
 use Rattle.dl_replay.specs.Replays.{IsReplaying}
 use Rattle.dl_sphere.specs.Pasts.{sphere_at}
-use Rattle.dl_sphere.specs.Roles.{role_in, HasAllIf, IsCounted}
+use Rattle.dl_sphere.specs.InStrata.{AreInStrataIf}
+use Rattle.dl_sphere.specs.Roles.{role_in, IsCounted}
 use Rattle.dl_sphere.specs.declared.part.Replayed.{Replayed}
 use Rattle.dl_sphere.specs.declared.sphere.Sphere.TheInside.{Inside}
 
@@ -25,4 +26,4 @@ replayed_at past r = sphere_at past (protocol.Replay (cursor_in past r))
 pub record IsAt (past : Past) (r : Replayed) : Type 0 where
   pub replaying : IsReplaying r.player past.state
   pub counted : IsCounted past
-  pub all : HasAllIf r.player.strata past.first
+  pub listed : AreInStrataIf r.player.strata r.player.now past.first past.commits

@@ -1,6 +1,7 @@
 pub mod SizedSpheres
 pub mod Pasts
 pub mod Recorded
+pub mod InStrata
 pub mod Roles
 pub mod Setups
 pub mod Moving

@@ -12,10 +12,10 @@ use Rattle.dl_record.specs.Epochs.{InEpochs, base}
 use Rattle.spec_play.specs.Noted.{as_log}
 use Rattle.spec_log.specs.Versions.{new_threads}
 use Rattle.spec_isa.specs.declared.thread.Load.{Load}
-use Rattle.spec_strata.specs.Standing.{Standing}
 use Rattle.dl_kernel.specs.declared.past.Past.{Past}
 use Rattle.dl_replay.specs.Following.{Following, cursor_of}
 use Rattle.dl_replay.specs.Replays.{IsReplaying}
+use Rattle.dl_sphere.specs.InStrata.{AreInStrataIf}
 use Rattle.dl_sphere.specs.Pasts.{sphere_at}
 use Rattle.dl_sphere.specs.Recorded.{with_commit, with_interrupt, CanRecord, CanInterrupt}
 use Rattle.dl_sphere.specs.declared.part.Part.{Part}
@@ -106,16 +106,11 @@ IsLiveOf s p Plain = HasFew p
 IsLiveOf s p (Recording r) = HasRecorded s p r
 IsLiveOf s p (Replaying r loads) = ⊥
 
--- in strata the sphere has all commits
-abbrev pub HasAllIf : Option Standing → (first : ℕ) → Type 0
-HasAllIf None first = Unit {0}
-HasAllIf (Some x) first = first ≡ 0
-
 -- and for any: a replay is as far in its log as its sphere's state is
 abbrev pub IsKeepingOf : (s : ℕ) → Past → Keeping → Type 0
 IsKeepingOf s past Plain = HasFew (sphere_at past protocol.Plain)
 IsKeepingOf s past (Recording r) = HasRecorded s (sphere_at past (protocol.Record (recording_of r))) r
-IsKeepingOf s past (Replaying r loads) = IsReplaying r past.state × HasAllIf r.strata past.first
+IsKeepingOf s past (Replaying r loads) = IsReplaying r past.state × AreInStrataIf r.strata r.now past.first past.commits
 
 -- the state counts the commits before the sphere's first one too
 abbrev pub IsCounted : Past → Type 0

@@ -37,7 +37,7 @@ diverged_in (Some b) = b.diverged
 -- strata, if some are
 abbrev pub log_of : Replay → LogParts
 log_of (Replay.Log log begun) = log
-log_of (Replay.Strata v) = canonical v
+log_of (Replay.Strata v) = canonical v.value
 
 abbrev pub begun_of : Replay → Option Begun
 begun_of (Replay.Log log begun) = begun
@@ -45,7 +45,7 @@ begun_of (Replay.Strata v) = None
 
 abbrev pub strata_of : Replay → Option StrataParts
 strata_of (Replay.Log log begun) = None
-strata_of (Replay.Strata v) = Some v
+strata_of (Replay.Strata v) = Some v.value
 
 -- where the role begins, if it replays an interval
 abbrev pub begun_as : Role → Option Begun

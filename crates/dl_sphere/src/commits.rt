@@ -37,27 +37,31 @@ pub(crate) fn joined_commit<G: Sig>(
     ensures { IfOk result (λ c. (b : Cursor) → b.loads ≡ earlier.now → size ≡ b.total + last.now.chunk.done.n →
         c ≡ chunk_commit thread (joined b last.now.chunk.done)) }
 {
-    let mut loads = entries(alloc, earlier)?;
+    let mut loads = Vec::new(alloc);
+    add_entries(&mut loads, earlier)?;
     add_entries(&mut loads, last.loads())?;
+    let loads = Loads::from_vec(loads);
     Ok(dl_kernel::chunk_commit(alloc, thread, size, loads))
 }
 
 fn entries(alloc: Global, loads: &[dl_thread::Load]) -> Result<Loads, OutOfMemory>
     ensures { IfOk result (λ entries. entries ≡ map entry_of loads.now) }
 {
-    let mut entries = Loads::new(alloc);
+    let mut entries = Vec::new(alloc);
     add_entries(&mut entries, loads)?;
-    Ok(entries)
+    Ok(Loads::from_vec(entries))
 }
 
-fn add_entries(entries: &mut Loads, loads: &[dl_thread::Load]) -> Result<(), OutOfMemory>
-    ensures { OnOk result (entries.new ≡ entries.old ++ map entry_of loads.now) }
+// Adds entries, for which room is made at once.
+fn add_entries(entries: &mut Vec<Load>, loads: &[dl_thread::Load]) -> Result<(), OutOfMemory>
+    ensures { OnOk result (entries.new.items ≡ entries.old.items ++ map entry_of loads.now) }
 {
+    entries.reserve(loads.len())?;
     for load in loads {
-        entries.push(Load {
+        entries.push_reserved(Load {
             address: load.addr,
             value: load.value,
-        })?;
+        });
     }
     Ok(())
 }

@@ -13,8 +13,9 @@ ghost use Rattle.spec_play.specs.declared.used.Used.{Used};
 ghost use Rattle.spec_protocol.specs.machine.Spheres.{Replay, Sphere, actor_of, is_over, joins_in, turn_in};
 ghost use Rattle.spec_protocol.specs.promises.Sound.{IsSoundIf};
 ghost use Rattle.spec_strata.specs.Canonical.{canonical};
-ghost use Rattle.spec_strata.specs.Standing.{place_of, stratum_begun};
+ghost use Rattle.spec_strata.specs.Standing.{stratum_begun};
 ghost use Rattle.dl_kernel.specs.States.{PlayState as At, state_in};
+ghost use Rattle.dl_mode.specs.Strata.{begins};
 ghost use Rattle.dl_replay.specs.Following.{cursor_of, diverged, end_of, followed_from};
 ghost use Rattle.dl_replay.specs.Judged.{dma_judged, judged};
 ghost use Rattle.dl_replay.specs.Judging.{transfer_verdict};
@@ -33,6 +34,7 @@ use spec_play::Interval;
 use spec_strata::Strata;
 use std::alloc::Global;
 use std::marker::Model;
+use std::rc::Rc;
 
 #[derive(Drop)]
 pub(crate) enum Players {
@@ -93,13 +95,13 @@ impl Player {
     // The replay of strata, of which nothing is done, from a state in which no commit is.
     pub(crate) fn of_strata(
         alloc: Global,
-        strata: &Strata,
+        strata: &Rc<Strata>,
         state: &State,
     ) -> Result<Player, OutOfMemory>
         requires start { state.now.commits ≡ 0 }
-        requires bounded { IsBounded (canonical strata.now) (state_in state.now) }
+        requires bounded { IsBounded (canonical strata.now.value) (state_in state.now) }
         requires request { IsSoundIf (length state.now.memory) state.now.request }
-        ensures from { let v = strata.now in IfOk result (λ player.
+        ensures from { let v = strata.now.value in IfOk result (λ player.
             player ≡ record (followed_from (canonical v) None (state_in state.now)) { strata = Some (stratum_begun v.strata 0) }) }
         ensures at { IfOk result (λ player. IsReplaying player state.now) }
     {
@@ -137,12 +139,11 @@ impl Player {
         in_mode!(&self.players, replayer => replayer.joins_in(thread))
     }
 
-    // How many commits come before a thread's next one, in strata.
-    pub(crate) fn place(&self, thread: u8) -> Option<u32>
-        ensures value { result ≡ option_map (place_of thread) self.now.strata }
-        ensures within { (s : At) → IsReplaying self.now s → IfSome result (λ place. place ≤ s.commits) }
+    // Whether none of the present stratum's commits is done, in strata.
+    pub(crate) fn begins(&self) -> Option<bool>
+        ensures { result ≡ option_map begins self.now.strata }
     {
-        in_mode!(&self.players, replayer => replayer.place(thread))
+        in_mode!(&self.players, replayer => replayer.begins())
     }
 
     pub(crate) fn pieces(&self) -> u32

@@ -1,14 +1,15 @@
 //! The commits of a sphere that is replayed, each judged by its log.
-ghost use Rattle.std.specs.Prelude.{◌≡◌, ℕ, Bool, ◌+◌, ◌<◌, ◌≤◌, Some, IfOk, IfSome, IsTrue, OnErr, OnOk, false, length, slice_get};
+ghost use Rattle.std.specs.Prelude.{◌≡◌, ℕ, Bool, ◌+◌, ◌<◌, ◌≤◌, Some, IfOk, OnErr, OnOk, length, option_map, slice_get};
 ghost use Rattle.spec_isa.specs.declared.thread.Parts.{Parts};
 ghost use Rattle.spec_engine.specs.declared.answers.How.{How};
 ghost use Rattle.spec_kernel.specs.Devices.{Devices};
-ghost use Rattle.dl_kernel.specs.InOrder.{listed};
+ghost use Rattle.dl_kernel.specs.InOrder.{AreSame};
+ghost use Rattle.dl_mode.specs.Strata.{begins};
 ghost use Rattle.spec_play.specs.Turns.{TurnOfDma};
 ghost use Rattle.spec_protocol.specs.machine.Commits.{is_piece, chunk_moved, piece_moved, serial_moved, dma_moved};
-ghost use Rattle.spec_protocol.specs.machine.Spheres.{is_over};
 ghost use Rattle.dl_sphere.specs.Inside.{cursor_in, replayed_at, IsAt};
-ghost use Rattle.dl_sphere.specs.Moving.{came, put_at, CanCommit};
+ghost use Rattle.dl_sphere.specs.InStrata.{HasRoomIn, IsPutIn};
+ghost use Rattle.dl_sphere.specs.Moving.{CanCommit, MayCommit, came};
 
 use crate::commits::{is_piece, joined_commit};
 use crate::moved::Moved;
@@ -47,14 +48,13 @@ pub(crate) fn commit_part<G: Sig>(
     }
     let size = replay.player.pieces() + chunk.n();
     let commit = joined_commit(past.alloc, thread, size, &replay.loads, chunk)?;
-    let place = replay.player.place(thread);
-    make_room(&mut past.commits, thread, place)?;
+    make_room(&mut past.commits, thread, replay)?;
     match replay
         .player
         .end_chunk(thread, chunk.state(), size, &mut past.state)
     {
         Verdict::Went => {
-            put(&mut past.commits, thread, place, commit);
+            put(&mut past.commits, thread, replay.player.begins(), commit);
             replay.loads.clear();
             Ok(Moved::Granted(words))
         }
@@ -70,7 +70,7 @@ fn commit_piece<G: Sig>(
     chunk: &Chunk<G>,
 ) -> Result<(), OutOfMemory>
     requires thread { thread < length past.old.state.threads }
-    requires going { is_over replay.old.player.now ≡ false }
+    requires may { MayCommit (cursor_in past.old replay.old) thread }
     requires fits { replay.old.player.total + chunk.now.chunk.done.n ≤ replay.old.player.log.s }
     requires same { (t : Parts) → slice_get past.old.state.threads thread ≡ Some t →
         chunk.now.chunk.done.thread.commits ≡ t.commits }
@@ -95,7 +95,7 @@ pub(crate) fn serve_step(
     past: &mut Past,
     thread: u8,
 ) -> Result<Moved, OutOfMemory>
-    requires going { is_over replay.old.player.now ≡ false }
+    requires may { MayCommit (cursor_in past.old replay.old) thread }
     requires thread { thread < length past.old.state.threads }
     requires at { IsAt past.old replay.old }
     ensures moved { IfOk result (λ m. (moment : ℕ) (t : Parts) (d : Devices) →
@@ -107,12 +107,11 @@ pub(crate) fn serve_step(
 {
     // the proof sees here that the thread is one of the sphere
     let _ = thread_at(&past.state.threads, thread);
-    let place = replay.player.place(thread);
-    make_room(&mut past.commits, thread, place)?;
+    make_room(&mut past.commits, thread, replay)?;
     match replay.player.serve_step(thread, &mut past.state)? {
         Ok(left) => {
             let commit = serial_commit(thread, left.loads, left.outputs);
-            put(&mut past.commits, thread, place, commit);
+            put(&mut past.commits, thread, replay.player.begins(), commit);
             replay.loads.clear();
             Ok(Moved::Granted(left.words))
         }
@@ -141,25 +140,29 @@ pub(crate) fn serve_dma(replay: &mut Replayed, past: &mut Past) -> Result<Moved,
     }
 }
 
-// Makes room for a whole commit of a thread, in its place if it has one.
-fn make_room(commits: &mut InOrder, thread: u8, place: Option<u32>) -> Result<(), OutOfMemory>
-    ensures same { listed commits.new ≡ listed commits.old }
-    ensures ok { OnOk result (IsTrue commits.new.room) }
+// Makes room for a whole commit of a thread, in strata in the thread's list too.
+fn make_room(commits: &mut InOrder, thread: u8, replay: &Replayed) -> Result<(), OutOfMemory>
+    ensures same { AreSame commits.new commits.old }
+    ensures ok { OnOk result (HasRoomIn thread (option_map begins replay.now.player.strata) commits.new) }
 {
-    match place {
+    match replay.player.begins() {
         None => commits.reserve(),
         Some(_) => commits.reserve_for(thread),
     }
 }
 
-// Puts a whole commit of a thread in its place, for which there is room.
-fn put(commits: &mut InOrder, thread: u8, place: Option<u32>, commit: Commit)
-    requires room { IsTrue commits.old.room }
-    requires within { IfSome place (λ place. place ≤ length (listed commits.old)) }
-    ensures { listed commits.new ≡ put_at place commit (listed commits.old) }
+// Puts a whole commit of a thread, for which there is room, after all others, or in strata at the end of the thread's list.
+// Once a stratum is over, none of its commits waits.
+fn put(commits: &mut InOrder, thread: u8, begins: Option<bool>, commit: Commit)
+    requires { HasRoomIn thread begins commits.old }
+    ensures { IsPutIn thread begins commit commits.old commits.new }
 {
-    match place {
+    match begins {
         None => commits.push_reserved(commit),
-        Some(place) => commits.put_reserved(thread, place, commit),
+        Some(false) => commits.put_reserved(thread, commit),
+        Some(true) => {
+            commits.put_reserved(thread, commit);
+            commits.settle();
+        }
     }
 }

@@ -34,11 +34,11 @@ use Rattle.dl_sphere.specs.declared.sphere.Sphere.TheInside.{Inside}
 pub replayed : (a : Inside) (r : Replayed) → a.part ≡ Part.Replayed r → IsSphere a.s a.past (keeping_of a.part) → IsAt a.past r
 replayed a r is h =
     let kept = subst (λ (part : Part). IsKeepingOf a.s a.past (keeping_of part)) is h.kept in
-    record { replaying = kept.0; counted = h.counted; all = kept.1 }
+    record { replaying = kept.0; counted = h.counted; listed = kept.1 }
 
 -- and the other way round
 pub stands_replayed : (s : ℕ) (before after : Past) (x : Keeping) (r : Replayed) → IsSphere s before x → IsAt after r → IsSphere s after (Replays r.player r.loads.items)
-stands_replayed s before after x r h at = record { size = h.size; counted = at.counted; request = at.replaying.request; kept = (at.replaying, at.all) }
+stands_replayed s before after x r h at = record { size = h.size; counted = at.counted; request = at.replaying.request; kept = (at.replaying, at.listed) }
 
 -- a piece of a commit leaves the number of its thread's commits
 pub moved_on : (r : Following) (s : State) (k : ℕ) (t u : Parts) → slice_get s.threads k ≡ Some t → u.commits ≡ t.commits → IsReplaying r s → IsReplaying r (record s { threads = set s.threads k u })

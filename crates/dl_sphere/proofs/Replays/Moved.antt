@@ -28,7 +28,7 @@ use Rattle.dl_replay.specs.Judged.{Judged, judged, dma_judged}
 use Rattle.dl_replay.specs.Replays.{Agrees}
 use Rattle.dl_replay.specs.declared.verdict.Verdict.{Verdict}
 use Rattle.dl_sphere.specs.Pasts.{sphere_at, sphere_with}
-use Rattle.dl_sphere.specs.Roles.{HasAllIf, IsCounted}
+use Rattle.dl_sphere.specs.Roles.{IsCounted}
 use Rattle.dl_sphere.specs.Moving.{put_at}
 use Rattle.spec_protocol.proofs.Logs.Growing.{pushed_length}
 use Rattle.dl_sphere.proofs.Replays.Judging.{IfGoes}
@@ -146,32 +146,6 @@ commit_log r s p k (Goes e u) = refl
 pub dma_log : (r : Following) (s : State) (p : Progress) (v : DmaVerdict) → (dma_judged r s p v).replay.log ≡ r.log
 dma_log r s p (DmaFails why) = refl
 dma_log r s p (DmaGoes words) = refl
-
--- in strata, that the sphere has all commits
-all-after : (f : Standing → Standing) (o : Option Standing) (first : ℕ) → HasAllIf o first → HasAllIf (option_map f o) first
-all-after f None first all = all
-all-after f (Some x) first all = all
-
-pub commit_all : (r : Following) (s : State) (p : Progress) (k : ℕ) (v : LogVerdict) (first : ℕ) → HasAllIf r.strata first → HasAllIf (judged r s p k v).replay.strata first
-commit_all r s p k (Fails why) first all = all
-commit_all r s p k (Goes e u) first all = all-after (after_thread k) r.strata first all
-
-pub dma_all : (r : Following) (s : State) (p : Progress) (v : DmaVerdict) (first : ℕ) → HasAllIf r.strata first → HasAllIf (dma_judged r s p v).replay.strata first
-dma_all r s p (DmaFails why) first all = all
-dma_all r s p (DmaGoes words) first all = all-after after_dma r.strata first all
-
--- ---- the place of a commit
-
--- it is among the sphere's commits
-pub place_fits : (f : Standing → ℕ) (o : Option Standing) (place : Option ℕ) (first n all : ℕ) → place ≡ option_map f o → IfSome place (λ i. i ≤ all) → HasAllIf o first → first + n ≡ all → IfSome place (λ i. i ≤ n)
-place_fits f o None first n all is within has counted = tt
-place_fits f None (Some i) first n all is within has counted = absurd (none-some i (sym is))
-place_fits f (Some x) (Some i) first n all is within has counted = omega (arith, within, has, counted)
-
--- with one more there
-pub put_length : (place : Option ℕ) (c : Commit) (cs : List Commit) → IfSome place (λ i. i ≤ length cs) → length (put_at place c cs) ≡ suc (length cs)
-put_length None c cs within = pushed_length cs c (length cs) refl
-put_length (Some i) c cs within = omega (arith, length-insert cs i c within)
 
 -- a sphere has come as far as its state says
 pub agreed : (past : Past) (role : Role) → IsCounted past → Agrees past.state (sphere_at past role).progress

@@ -31,7 +31,7 @@ use Rattle.spec_protocol.proofs.Logs.Fresh.{fresh-none}
 use Rattle.spec_protocol.proofs.Logs.Growing.{commits_in}
 use Rattle.spec_protocol.proofs.Sound.Plays.{replay-sound}
 use Rattle.dl_kernel.specs.States.{state_in}
-use Rattle.dl_kernel.specs.InOrder.{listed}
+use Rattle.dl_kernel.specs.InOrder.{NoneWaits, listed}
 use Rattle.dl_sphere.specs.Setups.{HasCome, IsBegunAs, IsBegunIf, IsFirstIf, IsParallelAs, begun_as, begun_of, diverged_in, interval_in, log_of, replay_setup, role_setup, strata_as, strata_in, strata_of}
 use Rattle.dl_sphere.specs.declared.setup.Begun.{Begun}
 use Rattle.dl_sphere.specs.declared.setup.Replay.{Replay}
@@ -39,8 +39,10 @@ use Rattle.dl_sphere.specs.declared.setup.Role.{Role}
 use Rattle.dl_record.specs.Epochs.{base}
 use Rattle.dl_kernel.specs.declared.past.Past.{Past}
 use Rattle.dl_kernel.specs.States.{PlayState as At}
+use Rattle.dl_sphere.specs.InStrata.{AreInStrataIf}
 use Rattle.dl_sphere.specs.Pasts.{sphere_at, sphere_with}
-use Rattle.dl_sphere.specs.Roles.{Keeping, Plain, Recording, Replaying, recording_of, role_of, HasAllIf, HasFew, HasRecorded, IsKeepingOf, IsSphere}
+use Rattle.dl_sphere.specs.Roles.{Keeping, Plain, Recording, Replaying, recording_of, role_of, HasFew, HasRecorded, IsKeepingOf, IsSphere}
+use Rattle.dl_sphere.proofs.Replays.InStrata.{BeginsIf, begins-in}
 use Rattle.dl_sphere.specs.Starting.{IsReplayingIf, diverged_if, first_state, following_at, keeping_at, start_as, started_from}
 
 -- ---- a live sphere
@@ -209,7 +211,7 @@ starts_begun image (Role.Replay r) b is h = begun-start image (log_of r) (begun_
 pub first_if : (image : SphereSetup) (r : Replay) (s : State) → s ≡ start_as image (role_setup (Role.Replay r)) → IsFirstIf r s.commits
 first_if image (Replay.Log log begun) s is = tt
 first_if image (Replay.Strata v) s is =
-    let none : (state_of (first_played image (in_strata v))).commits ≡ 0 = refl in
+    let none : (state_of (first_played image (in_strata v.value))).commits ≡ 0 = refl in
     ap (λ (x : State). x.commits) is ∙ none
 
 -- ---- the whole sphere
@@ -218,20 +220,24 @@ first_if image (Replay.Strata v) s is =
 abbrev pub AloneOr : (s : ℕ) → State → List Commit → Keeping → Type 0
 AloneOr s st cs Plain = HasFew (sphere_with st.commits st.memory st.threads cs st.last st.request machine.Plain)
 AloneOr s st cs (Recording r) = HasRecorded s (sphere_with st.commits st.memory st.threads cs st.last st.request (machine.Record (recording_of r))) r
-AloneOr s st cs (Replaying r loads) = HasAllIf r.strata st.commits
+AloneOr s st cs (Replaying r loads) = BeginsIf r.strata r.now st.commits
 
 -- no epoch has begun
 first_base : (o : Option EpochSetup) → 0 ≡ base (new_epochs o)
 first_base None = refl
 first_base (Some asked) = refl
 
--- a replay in strata is of all commits
-all-first : (image : SphereSetup) (asked : ReplaySetup) (o : Option (List Stratum)) → AreReplayableIf image.memory image.entry asked o
-    → HasAllIf (option_map (λ xs. stratum_begun xs 0) o) (state_of (first_played image asked)).commits
-all-first image asked None h = tt
-all-first image asked (Some xs) h =
-    let none : (state_of (first_played image (in_strata h.strata))).commits ≡ 0 = refl in
-    subst (λ (a : ReplaySetup). (state_of (first_played image a)).commits ≡ 0) (sym h.asks) none
+-- a replay in strata begins with all commits left
+all-first : (image : SphereSetup) (asked : ReplaySetup) (o : Option (List Stratum)) → asked.strata ≡ o → AreReplayableIf image.memory image.entry asked o
+    → (let f = following_at asked (first_played image asked) in BeginsIf (option_map (λ xs. stratum_begun xs 0) o) f.now (state_of (first_played image asked)).commits)
+all-first image asked None e h = λ commits empty none. tt
+all-first image asked (Some xs) e h =
+    let y = first_played image (in_strata h.strata) in
+    let none : position y.progress ≡ 0 = refl in
+    let strata : h.strata.strata ≡ xs = (let i : Some h.strata.strata ≡ Some xs = ap (λ (a : ReplaySetup). a.strata) (sym h.asks) ∙ e in cc) in
+    subst (λ (zs : List Stratum). (let f = following_at asked (first_played image asked) in BeginsIf (Some (stratum_begun zs 0)) f.now (state_of (first_played image asked)).commits)) strata
+    (subst (λ (a : ReplaySetup). (let f = following_at a (first_played image a) in BeginsIf (Some (stratum_begun h.strata.strata 0)) f.now (state_of (first_played image a)).commits)) (sym h.asks)
+    (begins-in h.strata y.progress y.used y.threads h.some none))
 
 start_alone : (s : ℕ) (image : SphereSetup) (role : RoleSetup) → IsParallelAs image role → AloneOr s (start_as image role) [] (keeping_at image s role)
 start_alone s image IsPlain parallel = record { few = no-more image.entry }
@@ -246,14 +252,15 @@ start_alone s image (IsRecorded asked) parallel =
       count = refl;
       fresh = fresh-none (first_threads image);
     }
-start_alone s image (IsReplayed asked) parallel = all-first image asked asked.strata parallel
+start_alone s image (IsReplayed asked) parallel = all-first image asked asked.strata refl parallel
 
-kept-from : (s : ℕ) (past : Past) (x : Keeping) → past.state.commits ≡ past.first → AloneOr s (state_in past.state) (listed past.commits) x → IsReplayingIf x past.state → IsKeepingOf s past x
-kept-from s past Plain first h at =
+kept-from : (s : ℕ) (past : Past) (x : Keeping) → past.state.commits ≡ past.first → listed past.commits ≡ [] → NoneWaits past.commits → AloneOr s (state_in past.state) (listed past.commits) x → IsReplayingIf x past.state → IsKeepingOf s past x
+kept-from s past Plain first empty none h at =
     subst (λ (n : ℕ). HasFew (sphere_with n past.state.memory past.state.threads (listed past.commits) past.state.last past.state.request machine.Plain)) first h
-kept-from s past (Recording r) first h at =
+kept-from s past (Recording r) first empty none h at =
     subst (λ (n : ℕ). HasRecorded s (sphere_with n past.state.memory past.state.threads (listed past.commits) past.state.last past.state.request (machine.Record (recording_of r))) r) first h
-kept-from s past (Replaying r loads) first h at = (at, subst (HasAllIf r.strata) first h)
+kept-from s past (Replaying r loads) first empty none h at =
+    (at, subst (λ (n : ℕ). AreInStrataIf r.strata r.now n past.commits) first (h past.commits empty none))
 
 first_asks : (s : ℕ) (image : SphereSetup) (role : RoleSetup) (st : At) → state_in st ≡ start_as image role → IsReplayingIf (keeping_at image s role) st → IsSoundIf (length st.memory) st.request
 first_asks s image IsPlain st is at = subst (λ (x : State). IsSoundIf (length x.memory) x.request) (sym is) tt
@@ -269,6 +276,7 @@ pub record Starts (s : ℕ) (image : SphereSetup) (past : Past) (x : Keeping) : 
   pub state : state_in past.state ≡ start_as image image.role
   pub first : past.state.commits ≡ past.first
   pub commits : (listed past.commits) ≡ []
+  pub none : NoneWaits past.commits
   pub kept : x ≡ keeping_at image s image.role
   pub at : IsReplayingIf x past.state
   pub parallel : IsParallelAs image image.role
@@ -287,7 +295,7 @@ start_standing s image past x size h =
       size = size;
       counted = omega (arith, none, first);
       request = request-from s image past.state x h.state h.kept h.at;
-      kept = kept-from s past x h.first here h.at;
+      kept = kept-from s past x h.first h.commits h.none here h.at;
     }
 
 abbrev seen_at : State → (first : ℕ) → List Commit → Keeping → Sphere

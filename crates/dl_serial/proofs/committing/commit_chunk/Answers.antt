@@ -34,7 +34,7 @@ note-requires-clause-number g c =
     let ran = looked_at c.args.chunk in
     let v = chunk_verdict r.log p s.past.state.used k ran in
     let went = gone r s.past.state p new left k v c.requires.playing.order (rw c.in-Went.is at (c.end_chunk.ensures.judged p ran agrees refl refl)) in
-    omega (arith, c.requires.playing.counted, ap length c.in_ok-reserve.ensures.same, ap (λ (x : State). x.commits) went.state)
+    omega (arith, c.requires.playing.counted, ap length c.in_ok-reserve.ensures.same.all, ap (λ (x : State). x.commits) went.state)
 
 pub note-requires-clause-inside : goal.note-requires-clause-inside
 note-requires-clause-inside g c =
@@ -80,7 +80,7 @@ returns-in-Went-clause-playing g c =
     let noted : IsNoted s n c.chunk_commit-commit.result =
     record {
       first = c.note.ensures.first;
-      commits = c.note.ensures.commits ∙ ap (λ (cs : List Commit). cs ++ c.chunk_commit-commit.result ∷ []) c.in_ok-reserve.ensures.same;
+      commits = c.note.ensures.commits ∙ ap (λ (cs : List Commit). cs ++ c.chunk_commit-commit.result ∷ []) c.in_ok-reserve.ensures.same.all;
       capacity = c.note.ensures.capacity;
     }
     in
@@ -108,11 +108,11 @@ returns-in-Went-clause-came g c ran e w =
     let noted : IsNoted s n c.chunk_commit-commit.result =
     record {
       first = c.note.ensures.first;
-      commits = c.note.ensures.commits ∙ ap (λ (cs : List Commit). cs ++ c.chunk_commit-commit.result ∷ []) c.in_ok-reserve.ensures.same;
+      commits = c.note.ensures.commits ∙ ap (λ (cs : List Commit). cs ++ c.chunk_commit-commit.result ∷ []) c.in_ok-reserve.ensures.same.all;
       capacity = c.note.ensures.capacity;
     }
     in
-    let number = ap (λ (cs : List Commit). s.past.first + length cs) c.in_ok-reserve.ensures.same in
+    let number = ap (λ (cs : List Commit). s.past.first + length cs) c.in_ok-reserve.ensures.same.all in
     on-two c.note.result _ _ _ c.note.ensures.state c.note.ensures.stores
     (λ laid stores. gone-come r new s n left k v s.words.words c.chunk_commit-commit.result went noted laid (w ∙ sym by.words) (commit ∙ sym by.commit)
     (stores ∙ (λ i. s.stores.items ++ stores_of (number i) (commit i).actor (went.state i).memory s.words.words)) c.requires.playing)
@@ -147,7 +147,7 @@ returns-in-Diverged-clause-playing g c =
     let fell = failed r s.past.state p new left k v why (rw c.in-Diverged.is at (c.end_chunk.ensures.judged p ran agrees refl refl)) in
     let n : Sphere = record s { past = record s.past { commits = c.reserve.new.self; state = left } } in
     failed-playing r new s n left why fell c.end_chunk.ensures.at
-    (record { first = refl; commits = c.in_ok-reserve.ensures.same; state = refl; capacity = refl }) c.requires.playing
+    (record { first = refl; commits = c.in_ok-reserve.ensures.same.all; state = refl; capacity = refl }) c.requires.playing
 
 pub returns-in-Diverged-clause-came : goal.returns-in-Diverged-clause-came
 returns-in-Diverged-clause-came g c ran e w =
@@ -165,4 +165,4 @@ returns-in-Diverged-clause-came g c ran e w =
     let fell = failed r s.past.state p new left k v why judged in
     let n : Sphere = record s { past = record s.past { commits = c.reserve.new.self; state = left } } in
     failed-come r new s n left k v why (fails r s.past.state p new left k v why judged) fell
-    (record { first = refl; commits = c.in_ok-reserve.ensures.same; state = refl; capacity = refl }) refl c.requires.playing
+    (record { first = refl; commits = c.in_ok-reserve.ensures.same.all; state = refl; capacity = refl }) refl c.requires.playing

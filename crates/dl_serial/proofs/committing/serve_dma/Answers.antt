@@ -24,7 +24,7 @@ note-requires-clause-number g c =
     let new = c.serve_dma.new.self in
     let left = c.serve_dma.new.state in
     let went = dma-gone r s.past.state p new left v c.requires.playing.order (rw c.in-Ok.is at (c.in_ok-words.ensures.judged p agrees)) in
-    omega (arith, c.requires.playing.counted, ap length c.in_ok-reserve.ensures.same, ap (λ (x : State). x.commits) went.state)
+    omega (arith, c.requires.playing.counted, ap length c.in_ok-reserve.ensures.same.all, ap (λ (x : State). x.commits) went.state)
 
 pub note-requires-clause-inside : goal.note-requires-clause-inside
 note-requires-clause-inside g c =
@@ -68,7 +68,7 @@ returns-in-Ok-clause-playing g c =
     let noted : IsNoted s n commit =
     record {
       first = c.note.ensures.first;
-      commits = c.note.ensures.commits ∙ ap (λ (cs : List Commit). cs ++ commit ∷ []) c.in_ok-reserve.ensures.same;
+      commits = c.note.ensures.commits ∙ ap (λ (cs : List Commit). cs ++ commit ∷ []) c.in_ok-reserve.ensures.same.all;
       capacity = refl;
     }
     in
@@ -90,12 +90,12 @@ returns-in-Ok-clause-came g c =
     let noted : IsNoted s n commit =
     record {
       first = c.note.ensures.first;
-      commits = c.note.ensures.commits ∙ ap (λ (cs : List Commit). cs ++ commit ∷ []) c.in_ok-reserve.ensures.same;
+      commits = c.note.ensures.commits ∙ ap (λ (cs : List Commit). cs ++ commit ∷ []) c.in_ok-reserve.ensures.same.all;
       capacity = refl;
     }
     in
     let is = c.dma_commit-commit.ensures in
-    let number = ap (λ (cs : List Commit). s.past.first + length cs) c.in_ok-reserve.ensures.same in
+    let number = ap (λ (cs : List Commit). s.past.first + length cs) c.in_ok-reserve.ensures.same.all in
     on-two c.note.result _ _ _ c.note.ensures.state c.note.ensures.stores
     (λ laid stores. transferred-come r new s n left v c.in-Ok.words.words commit went noted laid (words-in (stored ∙ went.verdict)) is
     (stores ∙ (λ i. s.stores.items ++ stores_of (number i) (is i).actor (went.state i).memory c.in-Ok.words.words)) c.requires.playing)
@@ -128,7 +128,7 @@ returns-in-Err-clause-playing g c =
     let fell = dma-failed r s.past.state p new left v why said in
     let n : Sphere = record s { past = record s.past { commits = c.reserve.new.self; state = left } } in
     failed-playing r new s n left why fell c.serve_dma.ensures.at
-    (record { first = refl; commits = c.in_ok-reserve.ensures.same; state = refl; capacity = refl }) c.requires.playing
+    (record { first = refl; commits = c.in_ok-reserve.ensures.same.all; state = refl; capacity = refl }) c.requires.playing
 
 pub returns-in-Err-clause-came : goal.returns-in-Err-clause-came
 returns-in-Err-clause-came g c =
@@ -144,4 +144,4 @@ returns-in-Err-clause-came g c =
     let fell = dma-failed r s.past.state p new left v why said in
     let n : Sphere = record s { past = record s.past { commits = c.reserve.new.self; state = left } } in
     not-transferred-come r new s n left v why (dma-fails r s.past.state p new left v why said) fell
-    (record { first = refl; commits = c.in_ok-reserve.ensures.same; state = refl; capacity = refl }) refl c.requires.playing
+    (record { first = refl; commits = c.in_ok-reserve.ensures.same.all; state = refl; capacity = refl }) refl c.requires.playing

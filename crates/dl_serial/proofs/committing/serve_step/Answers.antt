@@ -31,7 +31,7 @@ note-requires-clause-number g c =
     let new = c.serve_step.new.self in
     let left = c.serve_step.new.state in
     let went = gone r s.past.state p new left k v c.requires.playing.order (rw c.in-Ok.is at (c.in_ok-words.ensures.judged p t agrees there)) in
-    omega (arith, c.requires.playing.counted, ap length c.in_ok-reserve.ensures.same, ap (λ (x : State). x.commits) went.state)
+    omega (arith, c.requires.playing.counted, ap length c.in_ok-reserve.ensures.same.all, ap (λ (x : State). x.commits) went.state)
 
 pub note-requires-clause-inside : goal.note-requires-clause-inside
 note-requires-clause-inside g c =
@@ -94,7 +94,7 @@ returns-in-Ok-clause-playing g c =
     let noted : IsNoted s n commit =
     record {
       first = c.note.ensures.first;
-      commits = c.note.ensures.commits ∙ ap (λ (cs : List Commit). cs ++ commit ∷ []) c.in_ok-reserve.ensures.same;
+      commits = c.note.ensures.commits ∙ ap (λ (cs : List Commit). cs ++ commit ∷ []) c.in_ok-reserve.ensures.same.all;
       capacity = refl;
     }
     in
@@ -123,14 +123,14 @@ returns-in-Ok-clause-came g c t there =
     let noted : IsNoted s n commit =
     record {
       first = c.note.ensures.first;
-      commits = c.note.ensures.commits ∙ ap (λ (cs : List Commit). cs ++ commit ∷ []) c.in_ok-reserve.ensures.same;
+      commits = c.note.ensures.commits ∙ ap (λ (cs : List Commit). cs ++ commit ∷ []) c.in_ok-reserve.ensures.same.all;
       capacity = refl;
     }
     in
     let is : commit ≡ went.effect.commit =
     c.serial_commit-commit.ensures ∙ ap (λ (x : Served). serial_commit k x.loads x.outputs) served ∙ sym by.commit
     in
-    let number = ap (λ (cs : List Commit). s.past.first + length cs) c.in_ok-reserve.ensures.same in
+    let number = ap (λ (cs : List Commit). s.past.first + length cs) c.in_ok-reserve.ensures.same.all in
     on-two c.note.result _ _ _ c.note.ensures.state c.note.ensures.stores
     (λ laid stores. gone-come r new s n left k v c.in-Ok.field-0.words.words commit went noted laid (ap (λ (x : Served). x.words) served) is
     (stores ∙ (λ i. s.stores.items ++ stores_of (number i) ((c.serial_commit-commit.ensures i).actor) (went.state i).memory c.in-Ok.field-0.words.words)) c.requires.playing)
@@ -171,7 +171,7 @@ returns-in-Err-clause-playing g c =
     let fell = failed r s.past.state p new left k v why said in
     let n : Sphere = record s { past = record s.past { commits = c.reserve.new.self; state = left } } in
     failed-playing r new s n left why fell c.serve_step.ensures.at
-    (record { first = refl; commits = c.in_ok-reserve.ensures.same; state = refl; capacity = refl }) c.requires.playing
+    (record { first = refl; commits = c.in_ok-reserve.ensures.same.all; state = refl; capacity = refl }) c.requires.playing
 
 pub returns-in-Err-clause-came : goal.returns-in-Err-clause-came
 returns-in-Err-clause-came g c t there =
@@ -188,4 +188,4 @@ returns-in-Err-clause-came g c t there =
     let fell = failed r s.past.state p new left k v why said in
     let n : Sphere = record s { past = record s.past { commits = c.reserve.new.self; state = left } } in
     failed-come r new s n left k v why (fails r s.past.state p new left k v why said) fell
-    (record { first = refl; commits = c.in_ok-reserve.ensures.same; state = refl; capacity = refl }) refl c.requires.playing
+    (record { first = refl; commits = c.in_ok-reserve.ensures.same.all; state = refl; capacity = refl }) refl c.requires.playing

@@ -1,5 +1,5 @@
-use Rattle.std.proofs.Common.{◌≡◌, ◌+◌, ◌≤◌, Bool, true, false, List, [], length, suc, IfSome, sym, ap, subst, ◌∙◌, arith}
-use Rattle.dl_entry.specs.declared.Commit.{Commit}
+use Rattle.std.proofs.Common.{◌≡◌, ◌+◌, ◌≤◌, Bool, true, false, List, [], Option, length, refl, sym, ap, subst, ◌∙◌, arith}
+use Rattle.std.specs.Prelude.{option_map}
 use Rattle.spec_isa.specs.declared.thread.Parts.{Parts}
 use Rattle.spec_isa.specs.Runs.{Run}
 use Rattle.spec_play.specs.Effects.{chunk_commit}
@@ -10,13 +10,16 @@ use Rattle.spec_strata.specs.Standing.{place_of}
 use Rattle.spec_log.proofs.Threads.{log-among}
 use Rattle.dl_kernel.specs.States.{PlayState as State}
 use Rattle.dl_kernel.specs.InOrder.{listed}
+use Rattle.dl_mode.specs.Strata.{begins}
 use Rattle.dl_replay.specs.Judged.{Judged}
+use Rattle.dl_replay.specs.declared.verdict.Verdict.{Verdict}
 use Rattle.dl_sphere.specs.Inside.{cursor_in, replayed_at}
 use Rattle.dl_sphere.specs.Moving.{put_at}
-use Rattle.dl_sphere.specs.Roles.{HasAllIf}
+use Rattle.dl_sphere.specs.InStrata.{HasRoomIn, IsPutIn}
 use Rattle.dl_sphere.proofs.Replays.Judging.{chunk_is}
 use Rattle.dl_sphere.proofs.Replays.Limits.{may_going, part_fits}
-use Rattle.dl_sphere.proofs.Replays.Moved.{HasCounted, agreed, commit_all, commit_counted, commit_log, commit_moved, in_state, made_of, place_fits, put_in, put_length}
+use Rattle.dl_sphere.proofs.Replays.InStrata.{commit-in, failed-in, one-more-in, put-in-place, room-in, same-in}
+use Rattle.dl_sphere.proofs.Replays.Moved.{HasCounted, agreed, commit_counted, commit_log, commit_moved, in_state, made_of, put_in}
 use Rattle.dl_sphere.proofs.replaying.commit_part.Goals as goal
 
 pub commit_piece-requires-clause-fits : goal.commit_piece-requires-clause-fits
@@ -76,8 +79,13 @@ returns-in-Went-clause-moved g c short d =
     let v = chunk_verdict r.log x.progress s.used k all in
     let said = rw c.in-Went.is at (c.end_chunk.ensures.judged x.progress all agrees (sym c.state.ensures) size) in
     let piece : false ≡ is_piece g.how = sym c.if-is_piece.false ∙ c.is_piece.ensures g.how can.closed in
+    let same = c.in_ok-make_room.ensures.same in
+    let old = c.make_room.new.commits in
+    let h = same-in r.strata r.now past.first past.commits old same c.requires.1.1.1.listed in
+    let put = subst (λ (o : Option Bool). IsPutIn k o commit old c.put.new.commits) c.begins.ensures c.put.ensures in
     let commits : (listed c.put.new.commits) ≡ put_in past r k (chunk_commit k all) =
-    c.put.ensures ∙ (λ i. put_at (c.place-place.ensures.value i) (whole i) (c.in_ok-make_room.ensures.same i))
+    put-in-place r s x.progress k v (record { verdict = Verdict.Went; replay = c.end_chunk.new.self; state = c.end_chunk.new.state }) commit past.first old c.put.new.commits said h put
+    ∙ (λ i. put_at (option_map (place_of k) r.strata) (whole i) (same.all i))
     in
     (λ i. record {
       outcome = Granted;
@@ -105,27 +113,38 @@ returns-in-Went-clause-at g c =
     let more = subst (HasCounted s) (sym said) (commit_counted r s x.progress k (chunk_verdict r.log x.progress s.used k all)) in
     let commit = c.in_ok-commit.commit in
     let at = c.requires.1.1.1 in
-    let fits = place_fits (place_of k) r.strata c.place-place.result past.first (length (listed past.commits)) s.commits c.place-place.ensures.value (c.place-place.ensures.within s at.replaying) at.all was in
-    let count : length (listed c.put.new.commits) ≡ suc (length (listed past.commits)) =
-    ap length (c.put.ensures ∙ ap (put_at c.place-place.result commit) c.in_ok-make_room.ensures.same) ∙ put_length c.place-place.result commit (listed past.commits) fits
-    in
+    let same = c.in_ok-make_room.ensures.same in
+    let old = c.make_room.new.commits in
+    let h = same-in r.strata r.now past.first past.commits old same at.listed in
+    let put = subst (λ (o : Option Bool). IsPutIn k o commit old c.put.new.commits) c.begins.ensures c.put.ensures in
+    let j : Judged = record { verdict = Verdict.Went; replay = c.end_chunk.new.self; state = c.end_chunk.new.state } in
+    let count = one-more-in (option_map begins j.replay.strata) k commit old c.put.new.commits put in
     record {
       replaying = c.end_chunk.ensures.at;
-      counted = omega (arith, was, more, count);
-      all = subst (λ (j : Judged). HasAllIf j.replay.strata past.first) (sym said) (commit_all r s x.progress k (chunk_verdict r.log x.progress s.used k all) past.first at.all);
+      counted = omega (arith, was, more, count, ap length same.all);
+      listed =
+          commit-in r s x.progress k (chunk_verdict r.log x.progress s.used k all) j b commit past.first old c.put.new.commits said refl refl refl h
+          c.requires.1.1.0.1.part.may put;
     }
 
-pub put-requires-clause-within : goal.put-requires-clause-within
-put-requires-clause-within g c =
+pub put-requires : goal.put-requires
+put-requires g c =
     let past = c.args.past.now in
-    let r = c.args.replay.now.player in
-    let at = c.requires.1.1.1 in
-    subst (λ (cs : List Commit). IfSome c.place-place.result (λ i. i ≤ length cs)) (sym c.in_ok-make_room.ensures.same)
-    (place_fits (place_of c.args.thread) r.strata c.place-place.result past.first (length (listed past.commits)) past.state.commits c.place-place.ensures.value (c.place-place.ensures.within past.state at.replaying) at.all at.counted)
+    let replay = c.args.replay.now in
+    let r = replay.player in
+    let k = c.args.thread in
+    let s = past.state in
+    let b : Cursor = cursor_in past replay in
+    let x = replayed_at past replay in
+    let all : Run = joined b c.args.chunk.now.chunk.done in
+    let size : all.n ≡ c.pieces.result + c.n.result = (λ i. sym c.pieces.ensures i + sym c.n.ensures.value i) in
+    let said = rw c.in-Went.is at (c.end_chunk.ensures.judged x.progress all (agreed past (Replay b) c.requires.1.1.1.counted) (sym c.state.ensures) size) in
+    let j : Judged = record { verdict = Verdict.Went; replay = c.end_chunk.new.self; state = c.end_chunk.new.state } in
+    subst (λ (o : Option Bool). HasRoomIn k o c.make_room.new.commits) (sym c.begins.ensures)
+    (room-in r s x.progress k (chunk_verdict r.log x.progress s.used k all) j c.make_room.new.commits said c.in_ok-make_room.ensures.ok)
 
-pub commit_piece-requires-clause-going : goal.commit_piece-requires-clause-going
-commit_piece-requires-clause-going g c =
-    may_going (cursor_in c.args.past.now c.args.replay.now) c.args.thread c.requires.1.1.0.1.part.may
+pub commit_piece-requires-clause-may : goal.commit_piece-requires-clause-may
+commit_piece-requires-clause-may g c = c.requires.1.1.0.1.part.may
 
 pub end_chunk-requires-clause-going : goal.end_chunk-requires-clause-going
 end_chunk-requires-clause-going g c =
@@ -165,7 +184,7 @@ returns-in-Diverged-clause-moved g c short d =
     let piece : false ≡ is_piece g.how = sym c.if-is_piece.false ∙ c.is_piece.ensures g.how can.closed in
     (λ i. record {
       outcome = Diverged (still i).commits c.in-Diverged.why;
-      sphere = in_state past loads d c.end_chunk.new.state (c.in_ok-make_room.ensures.same i) c.end_chunk.new.self loads;
+      sphere = in_state past loads d c.end_chunk.new.state (c.in_ok-make_room.ensures.same.all i) c.end_chunk.new.self loads;
       words = [];
       devices = d;
     })
@@ -188,11 +207,14 @@ returns-in-Diverged-clause-at g c =
     let said = rw c.in-Diverged.is at (c.end_chunk.ensures.judged x.progress all (agreed past (Replay b) was) (sym c.state.ensures) size) in
     let still : c.end_chunk.new.state ≡ s = subst (HasCounted s) (sym said) (commit_counted r s x.progress k (chunk_verdict r.log x.progress s.used k all)) in
     let same : c.end_chunk.new.state.commits ≡ s.commits = ap (λ (y : State). y.commits) still in
-    let count : length (listed c.make_room.new.commits) ≡ length (listed past.commits) = ap length c.in_ok-make_room.ensures.same in
+    let room = c.in_ok-make_room.ensures.same in
+    let j : Judged = record { verdict = Verdict.Diverged c.in-Diverged.why; replay = c.end_chunk.new.self; state = c.end_chunk.new.state } in
     record {
       replaying = c.end_chunk.ensures.at;
-      counted = omega (arith, was, same, count);
-      all = subst (λ (j : Judged). HasAllIf j.replay.strata past.first) (sym said) (commit_all r s x.progress k (chunk_verdict r.log x.progress s.used k all) past.first c.requires.1.1.1.all);
+      counted = omega (arith, was, same, ap length room.all);
+      listed =
+          failed-in r s x.progress k (chunk_verdict r.log x.progress s.used k all) c.in-Diverged.why j past.first past.commits c.make_room.new.commits said refl
+          room c.requires.1.1.1.listed;
     }
 
 pub returns-in-Diverged-clause-log : goal.returns-in-Diverged-clause-log

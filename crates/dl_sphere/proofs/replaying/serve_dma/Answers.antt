@@ -7,9 +7,10 @@ use Rattle.spec_protocol.proofs.Logs.Growing.{pushed_length}
 use Rattle.dl_kernel.specs.States.{PlayState as State}
 use Rattle.dl_kernel.specs.InOrder.{listed}
 use Rattle.dl_replay.specs.Judged.{Judged}
-use Rattle.dl_sphere.specs.Roles.{HasAllIf}
+use Rattle.dl_replay.specs.declared.verdict.Verdict.{Verdict}
 use Rattle.dl_sphere.specs.Inside.{cursor_in, replayed_at}
-use Rattle.dl_sphere.proofs.Replays.Moved.{HasCounted, agreed, dma_all, dma_counted, dma_goes, dma_left, dma_log, dma_stores, in_state, made_of}
+use Rattle.dl_sphere.proofs.Replays.InStrata.{dma-commit-in, dma-failed-in, same-in}
+use Rattle.dl_sphere.proofs.Replays.Moved.{HasCounted, agreed, dma_counted, dma_goes, dma_left, dma_log, dma_stores, in_state, made_of}
 use Rattle.dl_sphere.proofs.replaying.serve_dma.Goals as goal
 
 pub returns-in-Ok-clause-moved : goal.returns-in-Ok-clause-moved
@@ -28,7 +29,7 @@ returns-in-Ok-clause-moved c d =
     let said = rw c.in-Ok.is at (c.in_ok-words.ensures.judged x.progress agrees) in
     let stored = rw c.in-Ok.is at (c.in_ok-words.ensures.stored x.progress agrees) in
     let commits : (listed c.push_reserved.new.self) ≡ (listed past.commits) ++ dma_commit ∷ [] =
-    c.push_reserved.ensures ∙ (λ i. c.in_ok-reserve.ensures.same i ++ c.dma_commit.ensures i ∷ [])
+    c.push_reserved.ensures.all ∙ (λ i. c.in_ok-reserve.ensures.same.all i ++ c.dma_commit.ensures i ∷ [])
     in
     ap (λ (m : MovedSphere). Some m)
     ((λ i. record {
@@ -51,13 +52,18 @@ returns-in-Ok-clause-at c =
     let agrees = agreed past (Replay (cursor_in past replay)) was in
     let said = rw c.in-Ok.is at (c.in_ok-words.ensures.judged x.progress agrees) in
     let more = subst (HasCounted s) (sym said) (dma_counted r s x.progress (dma_verdict r.log x.progress s.used)) in
+    let same = c.in_ok-reserve.ensures.same in
+    let old = c.reserve.new.self in
     let count : length (listed c.push_reserved.new.self) ≡ suc (length (listed past.commits)) =
-    ap length (c.push_reserved.ensures ∙ ap (λ xs. xs ++ c.dma_commit.result ∷ []) c.in_ok-reserve.ensures.same) ∙ pushed_length (listed past.commits) c.dma_commit.result (length (listed past.commits)) refl
+    ap length (c.push_reserved.ensures.all ∙ ap (λ xs. xs ++ c.dma_commit.result ∷ []) same.all) ∙ pushed_length (listed past.commits) c.dma_commit.result (length (listed past.commits)) refl
     in
+    let j : Judged = record { verdict = Verdict.Went; replay = c.serve_dma.new.self; state = c.serve_dma.new.state } in
     record {
       replaying = c.serve_dma.ensures.at;
       counted = omega (arith, was, more, count);
-      all = subst (λ (j : Judged). HasAllIf j.replay.strata past.first) (sym said) (dma_all r s x.progress (dma_verdict r.log x.progress s.used) past.first c.requires.at.all);
+      listed =
+          dma-commit-in r s x.progress (dma_verdict r.log x.progress s.used) j c.dma_commit.result past.first old c.push_reserved.new.self said refl c.requires.turn
+          (same-in r.strata r.now past.first past.commits old same c.requires.at.listed) c.push_reserved.ensures.all c.push_reserved.ensures.settled;
     }
 
 pub returns-in-Ok-clause-log : goal.returns-in-Ok-clause-log
@@ -86,7 +92,7 @@ returns-in-Err-clause-moved c d =
     ap (λ (m : MovedSphere). Some m)
     ((λ i. record {
       outcome = Diverged (still i).commits c.in-Err.why;
-      sphere = in_state past loads d c.serve_dma.new.state (c.in_ok-reserve.ensures.same i) c.serve_dma.new.self loads;
+      sphere = in_state past loads d c.serve_dma.new.state (c.in_ok-reserve.ensures.same.all i) c.serve_dma.new.self loads;
       words = [];
       devices = d;
     })
@@ -103,11 +109,14 @@ returns-in-Err-clause-at c =
     let said = rw c.in-Err.is at (c.in_ok-words.ensures.judged x.progress (agreed past (Replay (cursor_in past replay)) was)) in
     let still : c.serve_dma.new.state ≡ s = subst (HasCounted s) (sym said) (dma_counted r s x.progress (dma_verdict r.log x.progress s.used)) in
     let same : c.serve_dma.new.state.commits ≡ s.commits = ap (λ (y : State). y.commits) still in
-    let count : length (listed c.reserve.new.self) ≡ length (listed past.commits) = ap length c.in_ok-reserve.ensures.same in
+    let room = c.in_ok-reserve.ensures.same in
+    let j : Judged = record { verdict = Verdict.Diverged c.in-Err.why; replay = c.serve_dma.new.self; state = c.serve_dma.new.state } in
     record {
       replaying = c.serve_dma.ensures.at;
-      counted = omega (arith, was, same, count);
-      all = subst (λ (j : Judged). HasAllIf j.replay.strata past.first) (sym said) (dma_all r s x.progress (dma_verdict r.log x.progress s.used) past.first c.requires.at.all);
+      counted = omega (arith, was, same, ap length room.all);
+      listed =
+          dma-failed-in r s x.progress (dma_verdict r.log x.progress s.used) c.in-Err.why j past.first past.commits c.reserve.new.self said refl room
+          c.requires.at.listed;
     }
 
 pub returns-in-Err-clause-log : goal.returns-in-Err-clause-log

@@ -5,14 +5,17 @@ use Rattle.spec_log.specs.Log.{IsLog}
 use Rattle.spec_log.specs.Noting.{Kept, log_of}
 use Rattle.spec_strata.specs.declared.strata.StrataParts.{StrataParts}
 use Rattle.spec_strata.specs.Canonical.{canonical}
+use Rattle.spec_strata.specs.Strata.{AreStrata}
 use Rattle.spec_strata.proofs.Images.Canonical.{canonical_is_log}
 use Rattle.dl_input.specs.Tracked.{interrupt_of}
 use Rattle.dl_replay.proofs.lookup.Lookup+StrataMode.of_strata.Goals as goal
 
 pub invariant_of-result : goal.invariant_of-result
 invariant_of-result c =
-    let v = c.args.strata.now in
-    let parts = c.parts-parts.ensures.parts in
+    let v = c.args.strata.now.value in
+    let here : c.deref.result.now ≡ v = grind arith in
+    let parts = c.parts-parts.ensures.parts ∙ here in
+    let good = subst AreStrata here c.parts-parts.ensures.good in
     let kept = c.in_ok-log.ensures.kept in
     let interrupts : map interrupt_of c.in_ok-interrupts_of.field-0.entries ≡ v.interrupts = grind arith in
     let inputs : c.in_ok-inputs_of.field-0.inputs ≡ v.inputs = grind arith in
@@ -21,7 +24,7 @@ invariant_of-result c =
     c.in_ok-inputs_of.field-0.inputs c.in_ok-dmas_of.field-0.dmas ≡ canonical v =
     λ i. log_of 2 (parts i).threads OrderOnly (kept i) (interrupts i) (inputs i) (dmas i)
     in (
-      subst (λ (l : LogParts). IsLog l) (sym same) (canonical_is_log v c.parts-parts.ensures.good),
+      subst (λ (l : LogParts). IsLog l) (sym same) (canonical_is_log v good),
       ap (λ (x : StrataParts). x.s) parts ∙ sym (ap (λ (k : Kept). k.s) kept),
       c.count.ensures,
     )

@@ -17,7 +17,7 @@ use Rattle.dl_replay.proofs.replayer.Replayer+StrataMode.of_strata.Goals as goal
 
 pub returns-clause-value : goal.returns-clause-value
 returns-clause-value c =
-    let v = c.args.strata.now in
+    let v = c.args.strata.now.value in
     let s = c.args.state.now in
     let p = progress_from (state_in s) in
     let start : position p ≡ 0 = omega (arith, c.requires.start) in
@@ -28,7 +28,7 @@ returns-clause-value c =
 
 pub returns-clause-at : goal.returns-clause-at
 returns-clause-at c =
-    let v = c.args.strata.now in
+    let v = c.args.strata.now.value in
     let s = c.args.state.now in
     let p = progress_from (state_in s) in
     let value = c.begun.ensures p (agrees-self s)
@@ -39,4 +39,4 @@ returns-clause-at c =
 
 pub begun-requires : goal.begun-requires
 begun-requires c =
-    record { log = subst (λ (l : Looked). IsLog l.log) (sym c.in_ok-log.ensures.value) (canonical_is_log c.args.strata.now c.in_ok-log.ensures.good) }
+    record { log = subst (λ (l : Looked). IsLog l.log) (sym c.in_ok-log.ensures.value) (canonical_is_log c.args.strata.now.value c.in_ok-log.ensures.good) }

@@ -1,7 +1,10 @@
-use Rattle.std.proofs.Common.{◌≡◌, ℕ, ◌+◌, List, length, drop, replicate, ap, ◌∙◌}
+use Rattle.std.proofs.Common.{rules, ◌≡◌, ℕ, ◌+◌, ◌<◌, List, length, drop, replicate, inl, refl, sym, ap, subst, ◌∙◌, arith, length-drop}
+use Rattle.std.specs.Prelude.{slice_get}
+use Rattle.std.specs.List.{sum}
+use Rattle.std.proofs.lemmas.List.Elements.{All-drop}
 use Rattle.spec_strata.specs.Standing.{Standing, stratum_begun}
-use Rattle.dl_replay.specs.Standings.{Stood, standing_from}
-use Rattle.dl_replay.proofs.Standings.{goes-on-from}
+use Rattle.dl_replay.specs.Standings.{CountsThreads, Stood, count_if, done_in, head_if, standing_from}
+use Rattle.dl_replay.proofs.Standings.{begins, count-of-left, goes-on-from, head-of-left, none-done, nothing_beyond}
 use Rattle.dl_replay.proofs.standing.Standing.go_on.Goals as goal
 
 pub returns : goal.returns
@@ -9,7 +12,31 @@ returns c =
     let a = c.self.inside in
     let n = c.args.commits in
     let none : c.fill.new.self.items ≡ replicate (length a.done.items) 0 = c.fill.ensures.items (λ y is. is) ∙ ap (λ (m : ℕ). replicate m 0) a.done.ok.0 in
-    let here = ap (λ (ds : List ℕ). standing_from a.strata.items (a.place + 1) ds (a.before + n)) none
-    ∙ goes-on-from a.strata.items a.place (length a.done.items) a.before n c.self.invariant.0 in
-    ap (λ (x : Standing). (let y : Stood = record { all = a.strata.items; standing = x } in y)) here
+    let here = ap (λ (ds : List ℕ). standing_from a.strata.value.strata (a.place + 1) ds (a.before + n)) none
+    ∙ goes-on-from a.strata.value.strata a.place (length a.done.items) a.before n c.self.invariant.0 in
+    ap (λ (x : Standing). (let y : Stood = record { all = a.strata.value.strata; standing = x } in y)) here
     ∙ ap (λ (y : Stood). record y { standing = stratum_begun (drop 1 y.standing.strata) (y.standing.before + n) }) c.self.view_is
+
+pub invariant_of-self : goal.invariant_of-self
+invariant_of-self c =
+    let a = c.self.inside in
+    let zeros = c.fill.new.self.items in
+    let none : zeros ≡ replicate (length a.done.items) 0 = c.fill.ensures.items (λ y is. is) ∙ ap (λ (m : ℕ). replicate m 0) a.done.ok.0 in
+    let left = drop (a.place + 1) a.strata.value.strata in
+    let nothing : sum (done_in left zeros) ≡ 0 =
+    ap (λ (ds : List ℕ). sum (done_in left ds)) none
+    ∙ ap sum (begins (length a.done.items) left (All-drop (CountsThreads (length a.done.items)) (a.place + 1) a.strata.value.strata c.self.invariant.0))
+    ∙ none-done left in
+    let some = subst (λ (x : Stood). 0 < length x.standing.strata) (sym c.self.view_is) c.requires.left in
+    let count : c.count_of-self-inside.result ≡ count_if (slice_get a.strata.value.strata (a.place + 1)) = grind arith in
+    let head : c.head_of-self-inside.result ≡ head_if (slice_get a.strata.value.strata (a.place + 1)) zeros = grind arith in (
+      search rules,
+      omega (arith, some, length-drop a.place a.strata.value.strata),
+      c.self.invariant.2,
+      search rules,
+      sym nothing,
+      count ∙ count-of-left a.strata.value.strata (a.place + 1),
+      head ∙ head-of-left a.strata.value.strata (a.place + 1) zeros,
+      (nothing_beyond (done_in left zeros) 1 nothing, inl refl),
+      search rules,
+    )

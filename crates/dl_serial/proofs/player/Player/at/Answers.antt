@@ -26,7 +26,7 @@ invariant_of-result g c =
         order = ap (λ (r : Following). r.strata) begun;
         whole = ap (λ (r : Following). r.total) begun;
         turn = λ k e. named log (progress_from s) s.used s.threads k (sym (ap (λ (r : Following). r.now) begun) ∙ e);
-        counted = omega (arith, ap (λ (cs : List Commit). length cs) c.new-2.ensures);
+        counted = omega (arith, ap (λ (cs : List Commit). length cs) c.new-2.ensures.none);
         request = c.requires.state.request;
         room = ap (λ (w : Words). w.capacity) c.in_ok-words.ensures ∙ ap (λ (l : LogParts). l.s) parts;
       },

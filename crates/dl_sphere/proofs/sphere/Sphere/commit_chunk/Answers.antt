@@ -48,7 +48,7 @@ invariant_of-self-2 g c =
       new = tt;
       first = refl;
       position_ =
-          let count : length (listed c.push_reserved.new.self) ≡ suc (length (listed a.past.commits)) = ap length (c.push_reserved.ensures ∙ ap (λ xs. xs ++ c.in_ok-commit.commit ∷ []) c.in_ok-reserve.ensures.same) ∙ pushed_length (listed a.past.commits) commit (length (listed a.past.commits)) refl in
+          let count : length (listed c.push_reserved.new.self) ≡ suc (length (listed a.past.commits)) = ap length (c.push_reserved.ensures.all ∙ ap (λ xs. xs ++ c.in_ok-commit.commit ∷ []) c.in_ok-reserve.ensures.same.all) ∙ pushed_length (listed a.past.commits) commit (length (listed a.past.commits)) refl in
           omega arith;
       actor = ap (λ (v : Commit). v.actor) c.in_ok-commit.ensures;
     }
@@ -82,7 +82,7 @@ returns-clause-ok g c d =
     c.set.ensures ∙ ap (set a.past.state.threads k) (c.counted-after.ensures ∙ ap counted c.state.ensures)
     in
     let commits : (listed c.push_reserved.new.self) ≡ (listed a.past.commits) ++ chunk_commit k run ∷ [] =
-    (c.push_reserved.ensures ∙ ap (λ xs. xs ++ c.in_ok-commit.commit ∷ []) c.in_ok-reserve.ensures.same) ∙ ap (λ (x : Commit). (listed a.past.commits) ++ x ∷ []) c.in_ok-commit.ensures
+    (c.push_reserved.ensures.all ∙ ap (λ xs. xs ++ c.in_ok-commit.commit ∷ []) c.in_ok-reserve.ensures.same.all) ∙ ap (λ (x : Commit). (listed a.past.commits) ++ x ∷ []) c.in_ok-commit.ensures
     in
     let noted : keeping_of c.note.new.part ≡ with_noted (chunk_commit k run) c.is_short.result None None (keeping_of a.part) =
     c.in_ok-note.ensures.noted ∙ ap (λ (x : Commit). with_noted x c.is_short.result None None (keeping_of a.part)) c.in_ok-commit.ensures

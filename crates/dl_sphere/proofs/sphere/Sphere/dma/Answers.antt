@@ -48,7 +48,7 @@ invariant_of-self-2 c =
     let e = c.in_ok-words.ensures in
     let q : Sphere = sphere_with a.past.first a.past.state.memory a.past.state.threads (listed c.push_reserved.new.self) a.past.state.last None (role_in a.past.state.used c.live_dma.new.part) in
     let count : length (listed c.push_reserved.new.self) ≡ suc (length (listed a.past.commits)) =
-    ap length (c.push_reserved.ensures ∙ (λ i. c.in_ok-reserve.ensures.same i ++ c.dma_commit.ensures i ∷ [])) ∙ pushed_length (listed a.past.commits) dma_commit (length (listed a.past.commits)) refl
+    ap length (c.push_reserved.ensures.all ∙ (λ i. c.in_ok-reserve.ensures.same.all i ++ c.dma_commit.ensures i ∷ [])) ∙ pushed_length (listed a.past.commits) dma_commit (length (listed a.past.commits)) refl
     in
     let past = record a.past { commits = c.push_reserved.new.self; state = record a.past.state { request = None; commits = a.past.state.commits + 1 } } in
     let was = c.self.invariant.counted in
@@ -78,7 +78,7 @@ returns c =
           ∙ dma_is_moved a.past.first a.past.state.memory a.past.state.used a.past.state.threads (listed a.past.commits) a.past.state.last d a.s (keeping_of a.part) request here
           ∙ (λ i. Some (record {
             outcome = Granted;
-            sphere = sphere_with a.past.first a.past.state.memory a.past.state.threads (sym (c.push_reserved.ensures ∙ (λ i. c.in_ok-reserve.ensures.same i ++ c.dma_commit.ensures i ∷ [])) i) a.past.state.last None (role_of a.past.state.used (sym e.noted i));
+            sphere = sphere_with a.past.first a.past.state.memory a.past.state.threads (sym (c.push_reserved.ensures.all ∙ (λ i. c.in_ok-reserve.ensures.same.all i ++ c.dma_commit.ensures i ∷ [])) i) a.past.state.last None (role_of a.past.state.used (sym e.noted i));
             words = sym e.words i;
             devices = sym e.devices i;
           }));

@@ -14,7 +14,8 @@ invariant_of-result c =
     record {
       state = c.in_ok-state.ensures.state;
       first = refl;
-      commits = c.new.ensures;
+      commits = c.new.ensures.none;
+      none = c.new.ensures.settled;
       kept = c.in_ok-part.ensures.kept;
       at = c.in_ok-part.ensures.at;
       parallel = parallel_as image c.args.setup.now.role c.requires.begun;
@@ -31,7 +32,8 @@ returns-clause-made c =
     record {
       state = c.in_ok-state.ensures.state;
       first = refl;
-      commits = c.new.ensures;
+      commits = c.new.ensures.none;
+      none = c.new.ensures.settled;
       kept = c.in_ok-part.ensures.kept;
       at = c.in_ok-part.ensures.at;
       parallel = parallel_as image c.args.setup.now.role c.requires.begun;

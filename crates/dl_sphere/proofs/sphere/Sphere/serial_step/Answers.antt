@@ -21,14 +21,14 @@ use Rattle.spec_protocol.proofs.Moves.Threads.{serve-keeps}
 use Rattle.dl_kernel.specs.Calls.{spawned_list}
 use Rattle.dl_replay.proofs.Requests.{serve-request}
 use Rattle.dl_sphere.specs.Roles.{Keeping, keeping_of, role_in, role_of, most_of, with_noted, IsLiveOf}
-use Rattle.dl_sphere.specs.Inside.{cursor_in, sphere_in}
+use Rattle.dl_sphere.specs.Inside.{sphere_in}
 use Rattle.dl_sphere.specs.Pasts.{sphere_with}
 use Rattle.dl_sphere.specs.Moving.{IsTurnOf}
 use Rattle.dl_sphere.specs.SizedSpheres.{SizedSphere}
 use Rattle.dl_sphere.specs.Setups.{standard_in}
 use Rattle.dl_sphere.proofs.Standing.Sizes.{noted_size}
 use Rattle.dl_sphere.proofs.Standing.Moves.{Commits, commits_stand, threads_few}
-use Rattle.dl_sphere.proofs.Replays.Limits.{alone, few_here, few_live, kept_live, live_part, may_going, replayed, stands_replayed}
+use Rattle.dl_sphere.proofs.Replays.Limits.{alone, few_here, few_live, kept_live, live_part, replayed, stands_replayed}
 use Rattle.dl_sphere.proofs.Live.Moved.{step_is_moved}
 use Rattle.dl_sphere.proofs.sphere.Sphere.serial_step.Goals as goal
 
@@ -61,7 +61,7 @@ invariant_of-self-2 c =
     let h = c.self.invariant in
     let q : Sphere = sphere_with a.past.first a.past.state.memory c.settle.new.threads (listed c.push_reserved.new.self) (Some k) left.request (role_in a.past.state.used c.live_step.new.part) in
     let threads : c.settle.new.threads ≡ set a.past.state.threads k u ++ v.spawned = c.settle.ensures ∙ ap (λ spawned. set a.past.state.threads k u ++ spawned) c.in_ok-left.ensures.spawned in
-    let commits : (listed c.push_reserved.new.self) ≡ (listed a.past.commits) ++ commit ∷ [] = c.push_reserved.ensures ∙ (λ i. c.in_ok-reserve.ensures.same i ++ c.in_ok-left.ensures.commit i ∷ []) in
+    let commits : (listed c.push_reserved.new.self) ≡ (listed a.past.commits) ++ commit ∷ [] = c.push_reserved.ensures.all ∙ (λ i. c.in_ok-reserve.ensures.same.all i ++ c.in_ok-left.ensures.commit i ∷ []) in
     let d : Commits (sphere_in a) q k t u v.spawned commit =
     record {
       start = c.thread_at.ensures.thread;
@@ -119,7 +119,7 @@ returns-clause-ok c =
     let threads : c.settle.new.threads ≡ set a.past.state.threads k (counted v.thread) ++ v.spawned =
     c.settle.ensures ∙ ap (λ u. set a.past.state.threads k u ++ spawned_list left.spawned) (c.counted-after.ensures ∙ ap counted l.thread) ∙ ap (λ xs. set a.past.state.threads k (counted v.thread) ++ xs) l.spawned
     in
-    let commits : (listed c.push_reserved.new.self) ≡ (listed a.past.commits) ++ commit ∷ [] = c.push_reserved.ensures ∙ (λ i. c.in_ok-reserve.ensures.same i ++ l.commit i ∷ []) in
+    let commits : (listed c.push_reserved.new.self) ≡ (listed a.past.commits) ++ commit ∷ [] = c.push_reserved.ensures.all ∙ (λ i. c.in_ok-reserve.ensures.same.all i ++ l.commit i ∷ []) in
     let role : role_in a.past.state.used c.live_step.new.part ≡ role_of a.past.state.used (with_noted commit false g.input None (keeping_of a.part)) = ap (role_of a.past.state.used) l.noted in
     ap (λ us. made us (listed c.push_reserved.new.self) left.request (role_in a.past.state.used c.live_step.new.part) left.words.words c.live_step.new.devices) threads
     ∙ ap (λ cs. made (set a.past.state.threads k (counted v.thread) ++ v.spawned) cs left.request (role_in a.past.state.used c.live_step.new.part) left.words.words c.live_step.new.devices) commits
@@ -133,12 +133,12 @@ returns-clause-ok c =
 
 -- ---- a replayed sphere
 
-pub serve_step-requires-clause-going : goal.serve_step-requires-clause-going
-serve_step-requires-clause-going c =
+pub serve_step-requires-clause-may : goal.serve_step-requires-clause-may
+serve_step-requires-clause-may c =
     let a = c.self.inside in
     let k = c.args.thread in
     let here : IsTurnOf k (role_in a.past.state.used a.part) = subst (λ (v : SizedSphere). IsTurnOf k v.sphere.role) (sym c.self.view_is) c.requires.turn in
-    may_going (cursor_in a.past c.in-Replayed.replay) k (subst (λ (x : Part). IsTurnOf k (role_in a.past.state.used x)) c.in-Replayed.is here)
+    subst (λ (x : Part). IsTurnOf k (role_in a.past.state.used x)) c.in-Replayed.is here
 
 pub serve_step-requires-clause-at : goal.serve_step-requires-clause-at
 serve_step-requires-clause-at c =
