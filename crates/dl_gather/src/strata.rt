@@ -13,10 +13,11 @@ ghost use Rattle.dl_gather.specs.Intervals.{sphere_on};
 use crate::halt::Halt;
 use crate::lines::bad_strata_line;
 use dl_elf::Image;
-use dl_sphere::{Replay, Role};
+use dl_entry::OutOfMemory;
+use dl_sphere::{ReadyStrata, Replay, Role};
 use dl_strata::{CheckError, Strata, StrataError, check_strata, read_strata};
 use spec_program::status::Refusal;
-use std::alloc::{AllocError, Global};
+use std::alloc::Global;
 use std::rc::Rc;
 
 /// The role that replays the strata in these bytes. Their first bad field is refused, and so are strata that aren't parallel on
@@ -37,11 +38,12 @@ pub fn role_in_strata(
     Ok(Role::Replay(Replay::Strata(shared)))
 }
 
-// Strata that can have more owners.
-fn shared(alloc: Global, strata: Strata) -> Result<Rc<Strata>, AllocError>
+// Strata that are ready to be replayed, and can have more owners.
+fn shared(alloc: Global, strata: Strata) -> Result<Rc<ReadyStrata>, OutOfMemory>
     ensures { IfOk result (λ shared. shared.value ≡ strata) }
 {
-    Ok(Rc::new(alloc, strata)?)
+    let ready = ReadyStrata::new(alloc, strata)?;
+    Ok(Rc::new(alloc, ready)?)
 }
 
 // The strata in these bytes.

@@ -129,3 +129,11 @@ front-set lists t new l =
     ∙ (ap all_of (take_more_set (items_of lists) t new.items there)
     ∙ (flat_map-append (λ x. x) (take t (items_of lists)) (new.items ∷ [])
     ∙ ap (λ (x : List _). all_of (take t (items_of lists)) ++ x) (append-nil new.items)))
+
+-- if no list has an entry, each ends after all entries
+pub none-waits : {X : Type 0} (whole : List X) (lists : List (List X)) → all_of lists ≡ [] → (k : ℕ) → length whole + length (all_of (take (suc k) lists)) ≡ length (whole ++ all_of lists)
+none-waits whole lists none k = omega (arith, none-first lists (suc k) none, ap length none, length-append whole (all_of lists))
+
+pub none-left : {X : Type 0} (xs : List X) → length xs ≡ 0 → xs ≡ []
+none-left [] e = refl
+none-left (x ∷ xs) e = absurd (omega (arith, e))

@@ -91,6 +91,21 @@ impl InOrder {
         self.waiting += 1;
     }
 
+    /// Puts the last commit of a stratum at the end of its thread's list, and moves all that wait after the others.
+    pub fn put_last(&mut self, thread: u8, commit: Commit)
+        requires all { IsTrue self.old.room }
+        requires list { IsTrue (has_room self.old.rooms thread) }
+        ensures all { listed self.new ≡ insert (listed self.old) (end_of thread self.old) commit }
+        ensures settled { NoneWaits self.new }
+    {
+        if self.waiting == 0 {
+            self.push_reserved(commit);
+        } else {
+            self.put_reserved(thread, commit);
+            self.settle();
+        }
+    }
+
     /// Moves all that wait after the others. Their lists keep their memory.
     pub fn settle(&mut self)
         ensures whole { self.new.whole ≡ listed self.old }

@@ -20,7 +20,7 @@ use Rattle.spec_protocol.specs.machine.Spheres.{is_over}
 use Rattle.dl_kernel.specs.States.{PlayState as State, state_in}
 use Rattle.dl_kernel.specs.Calls.{spawned_list}
 use Rattle.spec_protocol.specs.promises.Sound.{IsSoundIf}
-use Rattle.dl_replay.specs.Following.{Following, followed, followed_from}
+use Rattle.dl_replay.specs.Following.{Following, followed}
 use Rattle.spec_kernel.specs.Interrupts.{is_live}
 use Rattle.dl_replay.specs.Lists.{head_of}
 use Rattle.dl_replay.specs.Standings.{IsWithinIf}

@@ -1,4 +1,5 @@
 pub mod Standings
+pub mod Starts
 mod Rising
 mod FirstHeads
 mod Lookups

@@ -1,22 +1,34 @@
 -- How a standing in strata moves: what is left and done of a stratum, the start of one, and a commit more.
-use Rattle.std.proofs.Common.{◌≡◌, ℕ, zero, suc, ◌+◌, ◌^◌, ◌<◌, ◌≤◌, ◌⊎◌, Bool, false, List, [], ◌∷◌, length, drop, map, replicate, get_or, set, max, nat_le, nat_lt, cond, Option, Some, None, inl, inr, refl, sym, ap, ◌∙◌, subst, arith}
+use Rattle.std.proofs.Common.{◌≡◌, ℕ, zero, suc, ◌+◌, ◌^◌, ◌<◌, ◌≤◌, ◌⊎◌, Bool, true, false, List, [], ◌∷◌, length, drop, map, replicate, get_or, set, max, nat_le, nat_lt, cond, Option, Some, None, inl, inr, refl, sym, ap, ◌∙◌, subst, arith}
 use Rattle.std.specs.Prelude.{All, IsSome, nat_eq, option_map, slice_get}
 use Rattle.std.specs.List.{sum}
-use Rattle.std.proofs.lemmas.Bool.{cases_Bool, cases_eq, eq-eqb, le-ltb, leb-false, leb-true, ltb-true, ltb-false, ne_eqb, true≢false}
-use Rattle.std.proofs.lemmas.List.{drop-drop, drop-set-lt, drop_all, get_or-set_other, get_or-set_same}
+use Rattle.std.proofs.lemmas.Bool.{cases_Bool, cases_eq, eq-eqb, le-ltb, lt-ltb, leb-false, leb-true, ltb-true, ltb-false, ne_eqb, true≢false}
+use Rattle.std.proofs.lemmas.List.{drop-drop, drop-set-lt, drop_all, get_or-set_other, get_or-set_same, length-set}
 use Rattle.dl_entry.specs.declared.Actor.{Actor}
 use Rattle.std.proofs.lemmas.List.Elements.{All-drop}
 use Rattle.std.proofs.lemmas.List.Sums.{sum_by-cons, sum_by-set}
+use Rattle.std.proofs.lemmas.Option.{none-some, same_Some}
 use Rattle.std.proofs.lemmas.Simd.{splat_is_map}
 use Rattle.spec_strata.specs.declared.stratum.Stratum.{Stratum}
 use Rattle.spec_strata.specs.declared.stratum.Stratum.TheVariants.{Chunks, Serial, Dma}
-use Rattle.spec_strata.specs.Standing.{Standing, after_dma, after_thread, done_up_to, head_in, least_left, nothing_done, stratum_begun, with_alone, with_one_done, with_thread}
+use Rattle.spec_strata.specs.Standing.{Standing, after_dma, after_thread, done_up_to, has_chunks_left, head_in, least_left, nothing_done, stratum_begun, with_alone, with_one_done, with_thread}
 use Rattle.spec_strata.specs.Strata.{IsStratumOf}
 use Rattle.dl_mode.specs.Strata.{AreFewIf, is_head}
-use Rattle.dl_replay.proofs.Takes.{own-head}
-use Rattle.dl_replay.specs.Standings.{CountsThreads, IsGreatest, IsWithin, IsWithinIf, count_if, count_in, done_in, head_if, standing_from}
+use Rattle.dl_replay.proofs.Takes.{is-head, own-head}
+use Rattle.dl_replay.specs.Standings.{CountsThreads, IsGreatest, IsWithin, IsWithinIf, count_in, counts_if, counts_in, done_in, standing_from}
+use Rattle.dl_replay.specs.Starts.{none_done_of, start_if}
 
 -- ---- what is left and done
+
+-- where nothing is counted nothing is left
+none-at : (k n : ℕ) → ◌≡◌ {A = ℕ} (get_or (replicate n 0) k 0) 0
+none-at zero zero = refl
+none-at (suc k) zero = refl
+none-at zero (suc n) = refl
+none-at (suc k) (suc n) = none-at k n
+
+no-more : (k n d : ℕ) → nat_lt d (get_or (replicate n 0) k 0) ≡ false
+no-more k n d = le-ltb d (get_or (replicate n 0) k 0) (omega (arith, none-at k n))
 
 -- the least thread with chunks left is one of a place, or it is after it
 pub least-at : (k : ℕ) (cs ds : List ℕ) (i : ℕ) → i < length cs → length cs ≡ length ds
@@ -25,6 +37,12 @@ least-at k [] ds i l e = absurd (omega (arith, l))
 least-at k (c ∷ cs) [] i l e = absurd (omega (arith, e))
 least-at k (c ∷ cs) (d ∷ ds) zero l e = refl
 least-at k (c ∷ cs) (d ∷ ds) (suc i) l e = least-at k cs ds i (omega (arith, l)) (omega (arith, e))
+
+-- where nothing is done
+pub zeros-at : (counts : List ℕ) (i : ℕ) → ◌≡◌ {A = ℕ} (get_or (none_done_of counts) i 0) 0
+zeros-at [] i = refl
+zeros-at (c ∷ cs) zero = refl
+zeros-at (c ∷ cs) (suc i) = zeros-at cs i
 
 -- none is left after all
 pub least-none : (k : ℕ) (cs ds : List ℕ) (i : ℕ) → length cs ≤ i → least_left k (drop i cs) (drop i ds) ≡ None
@@ -133,6 +151,27 @@ left-but i (c ∷ cs) (d ∷ ds) (suc k) other =
           ∙ sym (ap from none)
     ]
 
+-- if it is of a place, none before it has chunks left, and with a chunk more of it none has either
+first-place : (i k : ℕ) (o : Option ℕ) → o ≡ Some i → o ≡ Some (i + suc k) → ⊥
+first-place i k o here there = omega (arith, same_Some {A = ℕ} i (i + suc k) (sym here ∙ there))
+
+pub left-from : (i : ℕ) (cs ds : List ℕ) (k : ℕ) → least_left i cs ds ≡ Some (i + k) → length cs ≡ length ds
+    → least_left (i + k) (drop k cs) (drop k (with_one_done k ds)) ≡ least_left i cs (with_one_done k ds)
+left-from i [] ds k e l = absurd (none-some (i + k) e)
+left-from i (c ∷ cs) [] k e l = absurd (omega (arith, l))
+left-from i (c ∷ cs) (d ∷ ds) zero e l = ap (λ (n : ℕ). least_left n (c ∷ cs) (suc d ∷ ds)) (omega arith)
+left-from i (c ∷ cs) (d ∷ ds) (suc k) e l =
+    let from = λ (b : Bool). cond b (Some i) (least_left (suc i) cs ds) in
+    let after = λ (b : Bool). cond b (Some i) (least_left (suc i) cs (with_one_done k ds)) in
+    let n : suc i + k ≡ i + suc k = omega arith in
+    elim (cases_Bool (nat_lt d c)) [
+      | inl left ↦ absurd (first-place i k (least_left i (c ∷ cs) (d ∷ ds)) (ap from left) e)
+      | inr none ↦
+          ap (λ (m : ℕ). least_left m (drop k cs) (drop k (with_one_done k ds))) (sym n)
+          ∙ left-from (suc i) cs ds k (sym (ap from none) ∙ e ∙ ap (λ (m : ℕ). Some m) (sym n)) (omega (arith, l))
+          ∙ sym (ap after none)
+    ]
+
 some-thread : (o : Option ℕ) (k : ℕ) → o ≡ Some k → option_map Actor.Thread o ≡ Some (Actor.Thread k)
 some-thread o k e = ap (option_map Actor.Thread) e
 
@@ -163,21 +202,87 @@ head-stays (Chunks counts ∷ xs) ds k n head e is other =
 head-stays (Serial thread ∷ xs) ds k n head e is other = is
 head-stays (Dma ∷ xs) ds k n head e is other = is
 
--- the head of what is left, by the present stratum
-pub head-of-left : (strata : List Stratum) (place : ℕ) (ds : List ℕ) → head_if (slice_get strata place) ds ≡ head_in (drop place strata) (done_in (drop place strata) ds)
-head-of-left [] zero ds = refl
-head-of-left [] (suc place) ds = refl
-head-of-left (Chunks counts ∷ xs) zero ds = refl
-head-of-left (Serial thread ∷ xs) zero ds = refl
-head-of-left (Dma ∷ xs) zero ds = refl
-head-of-left (x ∷ xs) (suc place) ds = head-of-left xs place ds
+-- and else it is looked for from that thread on
+abbrev number-of : Actor → ℕ
+number-of (Actor.Thread k) = k
+number-of Actor.Dma = 0
 
--- and how many chunks it has
-pub count-of-left : (strata : List Stratum) (place : ℕ) → count_if (slice_get strata place) ≡ count_in (drop place strata)
-count-of-left [] zero = refl
-count-of-left [] (suc place) = refl
-count-of-left (x ∷ xs) zero = refl
-count-of-left (x ∷ xs) (suc place) = count-of-left xs place
+own-thread : (o : Option ℕ) (k : ℕ) → option_map Actor.Thread o ≡ Some (Actor.Thread k) → o ≡ Some k
+own-thread None k e = absurd (none-some (Actor.Thread k) e)
+own-thread (Some j) k e = ap (λ (a : Actor). Some (number-of a)) (same_Some {A = Actor} (Actor.Thread j) (Actor.Thread k) e)
+
+pub head-from : (left : List Stratum) (counts ds : List ℕ) (k n : ℕ) (head : Option Actor) → IsSome (count_in left) → counts ≡ counts_in (length ds) left → length counts ≡ length ds
+    → n ≡ suc (get_or ds k 0) → head ≡ head_in left (done_in left ds) → is_head head (Actor.Thread k) ≡ true
+    → option_map Actor.Thread (least_left k (drop k counts) (drop k (set ds k n))) ≡ head_in left (done_in left (set ds k n))
+head-from [] counts ds k n head chunks here long e is own = absurd (true≢false (sym chunks))
+head-from (Chunks cs ∷ xs) counts ds k n head chunks here long e is own =
+    let seen = λ (own : List ℕ) (m : ℕ). option_map Actor.Thread (least_left k (drop k own) (drop k (set ds k m))) in
+    let e0 : k ≡ 0 + k = omega arith in
+    let first = own-thread (least_left 0 cs ds) k (sym is ∙ is-head head (Actor.Thread k) own) ∙ ap (λ (m : ℕ). Some m) e0 in
+    let same : length cs ≡ length ds = ap length (sym here) ∙ long in
+    (λ i. seen (here i) (e i))
+    ∙ ap (λ (m : ℕ). option_map Actor.Thread (least_left m (drop k cs) (drop k (with_one_done k ds)))) e0
+    ∙ ap (option_map Actor.Thread) (left-from 0 cs ds k first same)
+    ∙ ap (λ (m : ℕ). head_in (Chunks cs ∷ xs) (set ds k m)) (sym e)
+head-from (Serial thread ∷ xs) counts ds k n head chunks here long e is own = absurd (true≢false (sym chunks))
+head-from (Dma ∷ xs) counts ds k n head chunks here long e is own = absurd (true≢false (sym chunks))
+
+-- so it is that thread while it has chunks left
+pub head-still : (left : List Stratum) (counts ds : List ℕ) (k n : ℕ) (head : Option Actor) → IsSome (count_in left) → counts ≡ counts_in (length ds) left → length counts ≡ length ds
+    → k < length ds → n ≡ suc (get_or ds k 0) → head ≡ head_in left (done_in left ds) → is_head head (Actor.Thread k) ≡ true → get_or (set ds k n) k 0 < get_or counts k 0
+    → head ≡ head_in left (done_in left (set ds k n))
+head-still left counts ds k n head chunks here long there e is own some =
+    let more = least-at k counts (set ds k n) k (omega (arith, long, there)) (long ∙ sym (length-set ds k n)) in
+    let from = λ (b : Bool). cond b (Some k) (least_left (suc k) (drop (suc k) counts) (drop (suc k) (set ds k n))) in
+    is-head head (Actor.Thread k) own
+    ∙ ap (option_map Actor.Thread) (sym (more ∙ ap from (lt-ltb (get_or (set ds k n) k 0) (get_or counts k 0) some)))
+    ∙ head-from left counts ds k n head chunks here long e is own
+
+-- and else one after it
+pub head-after : (left : List Stratum) (counts ds : List ℕ) (k n : ℕ) (head : Option Actor) → IsSome (count_in left) → counts ≡ counts_in (length ds) left → length counts ≡ length ds
+    → k < length ds → n ≡ suc (get_or ds k 0) → head ≡ head_in left (done_in left ds) → is_head head (Actor.Thread k) ≡ true → get_or counts k 0 ≤ get_or (set ds k n) k 0
+    → option_map Actor.Thread (least_left (suc k) (drop (suc k) counts) (drop (suc k) (set ds k n))) ≡ head_in left (done_in left (set ds k n))
+head-after left counts ds k n head chunks here long there e is own none =
+    let more = least-at k counts (set ds k n) k (omega (arith, long, there)) (long ∙ sym (length-set ds k n)) in
+    let from = λ (b : Bool). cond b (Some k) (least_left (suc k) (drop (suc k) counts) (drop (suc k) (set ds k n))) in
+    ap (option_map Actor.Thread) (sym (more ∙ ap from (le-ltb (get_or (set ds k n) k 0) (get_or counts k 0) none)))
+    ∙ head-from left counts ds k n head chunks here long e is own
+
+-- what is done of a stratum that has chunks
+pub done-counted : (left : List Stratum) (ds : List ℕ) → IsSome (count_in left) → done_in left ds ≡ ds
+done-counted [] ds chunks = absurd (true≢false (sym chunks))
+done-counted (Chunks counts ∷ xs) ds chunks = refl
+done-counted (Serial thread ∷ xs) ds chunks = absurd (true≢false (sym chunks))
+done-counted (Dma ∷ xs) ds chunks = absurd (true≢false (sym chunks))
+
+-- how many chunks of each thread the present stratum has
+pub counts-of-left : (n : ℕ) (strata : List Stratum) (place : ℕ) → counts_if n (slice_get strata place) ≡ counts_in n (drop place strata)
+counts-of-left n [] zero = refl
+counts-of-left n [] (suc place) = refl
+counts-of-left n (x ∷ xs) zero = refl
+counts-of-left n (x ∷ xs) (suc place) = counts-of-left n xs place
+
+-- how many it has in all, and whose commit is first
+pub count-of-start : (strata : List Stratum) (place : ℕ) → (start_if (slice_get strata place)).count ≡ count_in (drop place strata)
+count-of-start [] zero = refl
+count-of-start [] (suc place) = refl
+count-of-start (x ∷ xs) zero = refl
+count-of-start (x ∷ xs) (suc place) = count-of-start xs place
+
+pub head-of-start : (strata : List Stratum) (place : ℕ) → (start_if (slice_get strata place)).head ≡ head_in (drop place strata) (nothing_done (drop place strata))
+head-of-start [] zero = refl
+head-of-start [] (suc place) = refl
+head-of-start (Chunks counts ∷ xs) zero = refl
+head-of-start (Serial thread ∷ xs) zero = refl
+head-of-start (Dma ∷ xs) zero = refl
+head-of-start (x ∷ xs) (suc place) = head-of-start xs place
+
+-- whether a thread has some left
+pub has-left : (n k : ℕ) (left : List Stratum) (counts ds : List ℕ) → counts ≡ counts_in n left → nat_lt (get_or ds k 0) (get_or counts k 0) ≡ has_chunks_left left (done_in left ds) k
+has-left n k [] counts ds here = ap (λ (cs : List ℕ). nat_lt (get_or ds k 0) (get_or cs k 0)) here ∙ no-more k n (get_or ds k 0)
+has-left n k (Chunks own ∷ xs) counts ds here = ap (λ (cs : List ℕ). nat_lt (get_or ds k 0) (get_or cs k 0)) here
+has-left n k (Serial thread ∷ xs) counts ds here = ap (λ (cs : List ℕ). nat_lt (get_or ds k 0) (get_or cs k 0)) here ∙ no-more k n (get_or ds k 0)
+has-left n k (Dma ∷ xs) counts ds here = ap (λ (cs : List ℕ). nat_lt (get_or ds k 0) (get_or cs k 0)) here ∙ no-more k n (get_or ds k 0)
 
 -- ---- the start of a stratum
 
@@ -269,7 +374,7 @@ full k x count e l = full-in k x x.strata count e l
 -- ---- how many commits are counted
 
 -- one more of a thread is at most one more of all
-set-beyond : (ds : List ℕ) (k n : ℕ) → length ds ≤ k → set ds k n ≡ ds
+pub set-beyond : (ds : List ℕ) (k n : ℕ) → length ds ≤ k → set ds k n ≡ ds
 set-beyond [] k n l = refl
 set-beyond (d ∷ ds) zero n l = absurd (omega (arith, l))
 set-beyond (d ∷ ds) (suc k) n l = ap (λ (xs : List ℕ). d ∷ xs) (set-beyond ds k n (omega (arith, l)))

@@ -1,4 +1,5 @@
 pub mod Standings
+pub mod Starts
 pub mod Following
 pub mod Lists
 pub mod Counts

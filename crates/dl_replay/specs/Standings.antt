@@ -1,10 +1,9 @@
 -- How the code keeps how far a replay has come in strata.
-use Rattle.std.specs.Prelude.{◌≡◌, ℕ, suc, ◌+◌, ◌<◌, ◌≤◌, ◌⊎◌, slice_index_or, List, [], ◌∷◌, length, drop, Option, Some, None}
+use Rattle.std.specs.Prelude.{◌≡◌, ℕ, suc, ◌+◌, ◌<◌, ◌≤◌, ◌⊎◌, slice_index_or, List, [], ◌∷◌, length, drop, replicate, Option, Some, None}
 use Rattle.std.specs.List.{sum}
-use Rattle.dl_entry.specs.declared.Actor.{Actor}
 use Rattle.spec_strata.specs.declared.stratum.Stratum.{Stratum}
 use Rattle.spec_strata.specs.declared.stratum.Stratum.TheVariants.{Chunks, Serial, Dma}
-use Rattle.spec_strata.specs.Standing.{Standing, head_of, stratum_begun}
+use Rattle.spec_strata.specs.Standing.{Standing, stratum_begun}
 
 -- how many chunks of each thread are done in the present stratum, if it has chunks
 abbrev pub done_in : List Stratum → (done : List ℕ) → List ℕ
@@ -25,19 +24,25 @@ count_of (Chunks counts) = Some (sum counts)
 count_of (Serial thread) = None
 count_of Dma = None
 
-abbrev pub count_if : Option Stratum → Option ℕ
-count_if None = None
-count_if (Some x) = count_of x
-
 -- and the present one
 abbrev pub count_in : List Stratum → Option ℕ
 count_in [] = None
 count_in (x ∷ xs) = count_of x
 
--- whose commit is next in a stratum
-abbrev pub head_if : Option Stratum → (done : List ℕ) → Option Actor
-head_if None done = None
-head_if (Some x) done = head_of x done
+-- how many chunks of each of so many threads a stratum has
+abbrev pub counts_of : (threads : ℕ) → Stratum → List ℕ
+counts_of n (Chunks counts) = counts
+counts_of n (Serial thread) = replicate n 0
+counts_of n Dma = replicate n 0
+
+abbrev pub counts_if : (threads : ℕ) → Option Stratum → List ℕ
+counts_if n None = replicate n 0
+counts_if n (Some x) = counts_of n x
+
+-- and the present one
+abbrev pub counts_in : (threads : ℕ) → List Stratum → List ℕ
+counts_in n [] = replicate n 0
+counts_in n (x ∷ xs) = counts_of n x
 
 -- a stratum counts the chunks of so many threads, if it has chunks
 abbrev pub CountsThreads : (threads : ℕ) → Stratum → Type 0

@@ -1,7 +1,6 @@
 -- What strata keep, in place of a log in order-only.
 use Rattle.std.specs.Prelude.{ℕ, false, List}
 use Rattle.std.specs.List.{flat_map}
-use Rattle.spec_log.specs.declared.sizes.ShortSize.{ShortSize}
 use Rattle.spec_log.specs.declared.sizes.Sizes.TheVariants.{Short}
 use Rattle.spec_log.specs.Noting.{Kept}
 use Rattle.spec_strata.specs.declared.stratum.Stratum.{Stratum}

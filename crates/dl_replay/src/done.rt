@@ -1,21 +1,22 @@
 //! How many chunks of a stratum are counted and done, by thread; and how many commits strata have.
-ghost use Rattle.std.specs.Prelude.{◌≡◌, ◌≤◌, ◌^◌, All, length};
+ghost use Rattle.std.specs.Prelude.{◌≡◌, ◌≤◌, ◌^◌, All, drop, length, option_map};
 ghost use Rattle.std.specs.List.{sum};
 ghost use Rattle.spec_strata.specs.Strata.{commits_in, commits_in_all};
 ghost use Rattle.dl_replay.specs.Standings.{CountsFew};
 ghost use Rattle.spec_strata.specs.Standing.{least_left};
 
+use dl_entry::Actor;
 use spec_strata::Stratum;
 
-/// The least thread with fewer chunks done than are counted.
-pub fn least_left(counts: &[u8], done: &[u32]) -> Option<u8>
+/// The least thread, from a number on, with fewer chunks done than are counted.
+pub fn least_left(counts: &[u8], done: &[u32], from: usize) -> Option<Actor>
     requires threads { length counts.now ≡ length done.now }
     requires few { length counts.now ≤ 63 }
-    ensures { result ≡ least_left 0 counts.now done.now }
+    ensures { result ≡ option_map Actor.Thread (least_left from (drop from counts.now) (drop from done.now)) }
 {
-    for thread in 0..counts.len() {
+    for thread in from..counts.len() {
         if done[thread] < u32::from(counts[thread]) {
-            return Some(thread as u8);
+            return Some(Actor::Thread(thread as u8));
         }
     }
     None

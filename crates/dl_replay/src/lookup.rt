@@ -17,12 +17,12 @@ ghost use Rattle.dl_replay.specs.Counts.{commits_of};
 ghost use Rattle.dl_replay.specs.Lists.{head_of};
 
 use crate::copying::{dmas_of, inputs_of, interrupts_of, kept_of};
+use crate::ready::ReadyStrata;
 use crate::strata_mode::{StrataLog, StrataMode};
 use dl_entry::{Actor, Input, OutOfMemory};
 use dl_input::{Dmas, Inputs, Interrupts};
 use dl_mode::{Mode, Noting};
 use spec_log::{DmaRecord, Log, ModeName};
-use spec_strata::Strata;
 use std::alloc::Global;
 use std::marker::Model;
 use std::rc::Rc;
@@ -81,7 +81,10 @@ impl<M: Noting> Lookup<M> {
 
 impl Lookup<StrataMode> {
     /// Strata, of which nothing is done, with their log.
-    pub fn of_strata(alloc: Global, strata: &Rc<Strata>) -> Result<Lookup<StrataMode>, OutOfMemory>
+    pub fn of_strata(
+        alloc: Global,
+        strata: &Rc<ReadyStrata>,
+    ) -> Result<Lookup<StrataMode>, OutOfMemory>
         ensures value { let v = strata.now.value in
             IfOk result (λ lookup. lookup ≡ record { log = canonical v; strata = Some (stratum_begun v.strata 0) }) }
         ensures good { AreStrata strata.now.value }

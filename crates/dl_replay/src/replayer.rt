@@ -34,6 +34,7 @@ ghost use Rattle.dl_replay.specs.Standings.{IsWithinIf};
 
 use crate::judging::{Done, Finish, judge_chunk, judge_dma, judge_step, transfer_of};
 use crate::lookup::Lookup;
+use crate::ready::ReadyStrata;
 use crate::strata_mode::StrataMode;
 use crate::turn_or_end::TurnOrEnd;
 use crate::turning::now_in;
@@ -45,7 +46,6 @@ use dl_thread::Thread;
 use dl_wbuf::Buffer;
 use spec_log::Log;
 use spec_play::Interval;
-use spec_strata::Strata;
 use std::alloc::Global;
 use std::marker::Model;
 use std::rc::Rc;
@@ -94,7 +94,7 @@ impl Replayer<StrataMode> {
     /// The replay of strata, of which nothing is done, from a state in which no commit is.
     pub fn of_strata(
         alloc: Global,
-        strata: &Rc<Strata>,
+        strata: &Rc<ReadyStrata>,
         state: &State,
     ) -> Result<Replayer<StrataMode>, OutOfMemory>
         requires start { state.now.commits ≡ 0 }

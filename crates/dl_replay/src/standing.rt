@@ -1,26 +1,27 @@
 //! How far a replay has come in strata.
-ghost use Rattle.std.specs.Prelude.{◌≡◌, ◌+◌, ◌<◌, ◌^◌, IfOk, IfSome, IsSome, drop, length, slice_get, option_map};
+ghost use Rattle.std.specs.Prelude.{◌≡◌, ◌+◌, ◌<◌, ◌^◌, IfOk, IsSome, Some, drop, length, slice_get, option_map};
 ghost use Rattle.std.specs.List.{sum};
-ghost use Rattle.std.specs.Slice.{IsItemAt};
 ghost use Rattle.spec_strata.specs.Standing.{after_dma, after_thread, has_chunks_left, head_standing, is_last, stratum_begun, with_one_done};
 ghost use Rattle.dl_mode.specs.Strata.{begins};
-ghost use Rattle.dl_replay.specs.Standings.{CountsFew, CountsThreads, Stood, count_if, count_in, head_if, nothing_stood};
+ghost use Rattle.dl_replay.specs.Standings.{Stood, count_in, counts_if, nothing_stood};
+ghost use Rattle.dl_replay.specs.Starts.{start_if};
 
-use crate::done::{least_left, sum_of};
+use crate::done::least_left;
+use crate::ready::{ReadyStrata, Start};
 use dl_entry::{Actor, OutOfMemory};
 use dl_mode::is_head;
-use spec_strata::{Strata, Stratum};
 use std::alloc::Global;
 use std::marker::Model;
 use std::rc::Rc;
 
-/// Strata and how far they have come: the place of the present one, how many of its chunks are done by thread and in all, the
-/// greatest thread that has done some, how many it has, if it has chunks, whose commit is next in canonical order, and how many
-/// commits come before it. Its memory is taken at the start.
+/// Strata and how far they have come: the place of the present one, how many chunks of each thread it has, how many of them are
+/// done by thread and in all, the greatest thread that has done some, how many it has in all, if it has chunks, whose commit is
+/// next in canonical order, and how many commits come before it. Its memory is taken at the start.
 #[derive(Drop)]
 pub struct Standing {
-    strata: Rc<Strata>,
+    strata: Rc<ReadyStrata>,
     place: usize,
+    counts: Vec<u8>,
     done: Vec<u32>,
     all_done: u32,
     greatest: u8,
@@ -33,7 +34,7 @@ impl Model for Standing {
     ghost use Rattle.std.specs.Prelude.{◌≡◌, ◌+◌, ◌<◌, ◌≤◌, ◌^◌, All, length};
     ghost use Rattle.std.specs.List.{sum};
     ghost use Rattle.spec_strata.specs.Standing.{head_standing};
-    ghost use Rattle.dl_replay.specs.Standings.{CountsThreads, IsGreatest, Stood, count_in, standing_from, stood};
+    ghost use Rattle.dl_replay.specs.Standings.{CountsThreads, IsGreatest, Stood, count_in, counts_in, standing_from, stood};
 
     ghost Value = { Stood };
 
@@ -44,28 +45,33 @@ impl Model for Standing {
         × (s.place ≤ length strata)
         × (length strata < 2 ^ 64)
         × (length s.done.items ≤ 63)
+        × (length s.counts.items ≡ length s.done.items)
+        × (s.counts.items ≡ counts_in (length s.done.items) x.strata)
         × (s.all_done ≡ sum x.done)
         × (s.count ≡ count_in x.strata)
         × (s.head ≡ head_standing x)
         × IsGreatest s.greatest x.done
-        × (x.before + sum x.done < 2 ^ 32) };
+        × (x.before + sum x.done < 2 ^ 32)
+        × (length s.done.items ≡ s.strata.value.counted) };
 }
 
 impl Standing {
     /// The start of strata, of which it becomes one more owner.
-    pub fn new(alloc: Global, strata: &Rc<Strata>) -> Result<Standing, OutOfMemory>
+    pub fn new(alloc: Global, strata: &Rc<ReadyStrata>) -> Result<Standing, OutOfMemory>
         ensures { IfOk result (λ standing. standing ≡ nothing_stood strata.now.value.strata) }
     {
         let strata = strata.clone()?;
         // the proof sees here that places can be counted
-        let _ = strata.parts().strata.len();
-        let done = vec![in alloc; 0; usize::from(strata.parts().counted)]?;
-        let first = stratum_at(&strata, 0);
-        let count = count_of(first);
-        let head = head_of(first, &done);
+        let _ = strata.len();
+        let threads = usize::from(strata.parts().counted);
+        let mut counts = vec![in alloc; 0; threads]?;
+        let done = vec![in alloc; 0; threads]?;
+        count_by_thread(&mut counts, &strata, 0);
+        let Start { count, head } = start_at(&strata, 0);
         Ok(Standing {
             strata,
             place: 0,
+            counts,
             done,
             all_done: 0,
             greatest: 0,
@@ -86,14 +92,8 @@ impl Standing {
     pub fn has_chunks_left(&self, thread: u8) -> bool
         ensures { let x = self.now.standing in result ≡ has_chunks_left x.strata x.done thread }
     {
-        let Some(Stratum::Chunks(counts)) = self.present() else {
-            return false;
-        };
         let thread = usize::from(thread);
-        match (self.done.get(thread), counts.get(thread)) {
-            (Some(done), Some(count)) => *done < u32::from(*count),
-            (_, _) => false,
-        }
+        thread < self.done.len() && self.done[thread] < u32::from(self.counts[thread])
     }
 
     /// Whether none of the present stratum's commits is done.
@@ -111,12 +111,7 @@ impl Standing {
     {
         let last = thread >= self.greatest;
         match self.count {
-            Some(count) => {
-                self.add_one(thread);
-                if self.all_done >= count {
-                    self.go_on(count);
-                }
-            }
+            Some(count) => self.after_chunk(thread, count),
             None => self.after_dma(),
         }
         last
@@ -127,32 +122,45 @@ impl Standing {
         requires { let x = self.old.standing in x.before + sum x.done + 1 < 2 ^ 32 }
         ensures { self.new ≡ record self.old { standing = after_dma self.old.standing } }
     {
-        if self.place < self.strata.parts().strata.len() {
+        if self.place < self.strata.len() {
             self.go_on(1);
         }
     }
 
-    // The present stratum, if one is left.
-    fn present(&self) -> Option<&Stratum>
-        ensures value { option_map (λ s. s.now) result ≡ slice_get self.now.standing.strata 0 }
-        ensures few { IfSome result (λ s. CountsFew s.now) }
+    // A chunk of a thread is done in the present stratum, which has so many. The next one begins if none is left.
+    fn after_chunk(&mut self, thread: u8, count: u32)
+        requires chunks { count_in self.old.standing.strata ≡ Some count }
+        requires few { let x = self.old.standing in x.before + sum x.done + 1 < 2 ^ 32 }
+        ensures { self.new ≡ record self.old { standing = after_thread thread self.old.standing } }
     {
-        stratum_at(&self.strata, self.place)
+        let counted = usize::from(thread) < self.done.len();
+        let all_done = if counted {
+            self.all_done + 1
+        } else {
+            self.all_done
+        };
+        if all_done >= count {
+            self.go_on(count);
+        } else if counted {
+            self.add_one(thread);
+        }
     }
 
     // One chunk more of a thread is done in the present stratum, which has chunks.
     fn add_one(&mut self, thread: u8)
         requires chunks { IsSome (count_in self.old.standing.strata) }
+        requires thread { thread < length self.old.standing.done }
         requires few { let x = self.old.standing in x.before + sum x.done + 1 < 2 ^ 32 }
         ensures { let x = self.old.standing in self.new ≡ record self.old { standing = record x { done = with_one_done thread x.done } } }
     {
-        if let Some(done) = self.done.get_mut(usize::from(thread)) {
-            *done += 1;
-            self.all_done += 1;
-            self.greatest = self.greatest.max(thread);
-            if is_head(self.head, Actor::Thread(thread)) {
-                self.head = head_of(stratum_at(&self.strata, self.place), &self.done);
-            }
+        let number = usize::from(thread);
+        self.done[number] += 1;
+        self.all_done += 1;
+        self.greatest = self.greatest.max(thread);
+        if is_head(self.head, Actor::Thread(thread))
+            && self.done[number] >= u32::from(self.counts[number])
+        {
+            self.head = least_left(&self.counts, &self.done, number + 1);
         }
     }
 
@@ -167,40 +175,35 @@ impl Standing {
         self.done.fill(0);
         self.all_done = 0;
         self.greatest = 0;
-        let present = stratum_at(&self.strata, self.place);
-        self.count = count_of(present);
-        self.head = head_of(present, &self.done);
+        count_by_thread(&mut self.counts, &self.strata, self.place);
+        let start = start_at(&self.strata, self.place);
+        self.count = start.count;
+        self.head = start.head;
         self.before += commits;
     }
 }
 
-// The stratum at a place, if there is one.
-fn stratum_at(strata: &Strata, place: usize) -> Option<&Stratum>
-    ensures value { option_map (λ s. s.now) result ≡ slice_get strata.now.strata place }
-    ensures item { IsItemAt strata.now.strata place result }
+// How the stratum at a place begins.
+fn start_at(strata: &ReadyStrata, place: usize) -> Start
+    ensures { result ≡ start_if (slice_get strata.now.strata place) }
 {
-    strata.parts().strata.get(place)
-}
-
-// How many chunks a stratum has, if it has chunks.
-fn count_of(stratum: Option<&Stratum>) -> Option<u32>
-    requires { IfSome stratum (λ s. CountsFew s.now) }
-    ensures { result ≡ count_if (option_map (λ s. s.now) stratum.entry) }
-{
-    match stratum? {
-        Stratum::Chunks(counts) => Some(sum_of(counts.as_slice())),
-        Stratum::Serial(_) | Stratum::Dma => None,
+    match strata.start(place) {
+        Some(start) => start,
+        None => Start {
+            count: None,
+            head: None,
+        },
     }
 }
 
-// Whose commit is next in a stratum, of which so many chunks are done by thread.
-fn head_of(stratum: Option<&Stratum>, done: &[u32]) -> Option<Actor>
-    requires { IfSome stratum (λ s. CountsThreads (length done.now) s.now × CountsFew s.now) }
-    ensures { result ≡ head_if (option_map (λ s. s.now) stratum.entry) done.now }
+// Copies how many chunks of each thread the stratum at a place has, or 0 if there is none.
+fn count_by_thread(by_thread: &mut Vec<u8>, strata: &ReadyStrata, place: usize)
+    requires { length by_thread.old.items ≡ strata.now.counted }
+    ensures counts { by_thread.new.items ≡ counts_if strata.now.counted (slice_get strata.now.strata place) }
+    ensures threads { length by_thread.new.items ≡ length by_thread.old.items }
 {
-    match stratum? {
-        Stratum::Chunks(counts) => Some(Actor::Thread(least_left(counts.as_slice(), done)?)),
-        Stratum::Serial(thread) => Some(Actor::Thread(*thread)),
-        Stratum::Dma => Some(Actor::Dma),
+    match strata.counts(place) {
+        Some(counts) => by_thread.copy_from_slice(counts),
+        None => by_thread.fill(0),
     }
 }

@@ -5,12 +5,11 @@ ghost use Rattle.spec_strata.specs.Standing.{stratum_begun};
 ghost use Rattle.dl_mode.specs.Strata.{has_left};
 ghost use Rattle.dl_replay.specs.StrataLogs.{kept_begun};
 
-use crate::done::commits_in;
+use crate::ready::ReadyStrata;
 use crate::standing::Standing;
 use dl_entry::{Actor, OutOfMemory};
 use dl_mode::{Mode, ThreadSizes, is_head, limit_of};
 use spec_log::ModeName;
-use spec_strata::Strata;
 use std::alloc::Global;
 use std::marker::Model;
 use std::rc::Rc;
@@ -34,14 +33,14 @@ impl Model for StrataLog {
 
 impl StrataLog {
     /// Strata of which nothing is done.
-    pub fn new(alloc: Global, strata: &Rc<Strata>) -> Result<StrataLog, OutOfMemory>
+    pub fn new(alloc: Global, strata: &Rc<ReadyStrata>) -> Result<StrataLog, OutOfMemory>
         ensures kept { IfOk result (λ log. log.logged.kept ≡ kept_begun strata.now.value log.logged.kept.done) }
         ensures strata { IfOk result (λ log. log.strata ≡ stratum_begun strata.now.value.strata 0) }
     {
         let parts = strata.parts();
         Ok(StrataLog {
             s: parts.s,
-            count: commits_in(parts.strata.as_slice()),
+            count: strata.commits(),
             sizes: ThreadSizes::from_list(alloc, parts.sizes.as_slice(), parts.s)?,
             standing: Standing::new(alloc, strata)?,
         })

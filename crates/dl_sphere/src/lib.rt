@@ -27,6 +27,7 @@ pub use dl_fly::{Drain, Flights};
 pub use dl_kernel::{Snapshot, State};
 pub use dl_mem::Memory;
 pub use dl_record::Base;
+pub use dl_replay::ReadyStrata;
 pub use dl_sig::Sig;
 pub use dl_thread::Threads;
 pub use dl_wbuf::Buffer;

@@ -22,16 +22,16 @@ ghost use Rattle.dl_replay.specs.Judging.{transfer_verdict};
 ghost use Rattle.dl_replay.specs.Left.{SaysSize, served_by, served_left, verdict_left, verdict_stored};
 ghost use Rattle.dl_replay.specs.Limits.{chunk_limit, chunk_limit_in};
 ghost use Rattle.dl_replay.specs.Replays.{Agrees, IsReplaying};
+ghost use Rattle.dl_sphere.specs.Played.{following_of};
 
 use dl_entry::{Actor, End, OutOfMemory, Why};
 use dl_kernel::{State, StepResult};
 use dl_mode::{OrderAndSize, OrderOnly, PicoLog};
-use dl_replay::{Replayer, StrataMode, Verdict};
+use dl_replay::{ReadyStrata, Replayer, StrataMode, Verdict};
 use dl_thread::Thread;
 use dl_wbuf::Buffer;
 use spec_log::{Log, ModeName};
 use spec_play::Interval;
-use spec_strata::Strata;
 use std::alloc::Global;
 use std::marker::Model;
 use std::rc::Rc;
@@ -56,19 +56,24 @@ macro_rules! in_mode {
     };
 }
 
-// A replayer of one of the modes of logs, or of strata.
+// A replayer of one of the modes of logs, or of strata, and how its replay ended, if it did. The end is kept beside it, since it
+// is asked for at each step of a core.
 #[derive(Drop)]
 pub(crate) struct Player {
     players: Players,
+    ended: Option<End>,
 }
 
 impl Model for Player {
-    ghost use Rattle.dl_replay.specs.Following.{Following};
+    ghost use Rattle.std.specs.Prelude.{◌≡◌};
+    ghost use Rattle.dl_replay.specs.Following.{Following, end_of};
     ghost use Rattle.dl_sphere.specs.Played.{following_of};
 
     ghost Value = { Following };
 
     ghost view = { λ p. following_of p.players };
+
+    ghost invariant = { λ p. p.ended ≡ end_of (following_of p.players).now };
 }
 
 impl Player {
@@ -89,13 +94,14 @@ impl Player {
             ModeName::OrderOnly => Players::OrderOnly(Replayer::at(alloc, log, interval, state)?),
             ModeName::Picolog => Players::Picolog(Replayer::at(alloc, log, interval, state)?),
         };
-        Ok(Player { players })
+        let ended = end_of(&players);
+        Ok(Player { players, ended })
     }
 
     // The replay of strata, of which nothing is done, from a state in which no commit is.
     pub(crate) fn of_strata(
         alloc: Global,
-        strata: &Rc<Strata>,
+        strata: &Rc<ReadyStrata>,
         state: &State,
     ) -> Result<Player, OutOfMemory>
         requires start { state.now.commits ≡ 0 }
@@ -106,9 +112,9 @@ impl Player {
         ensures at { IfOk result (λ player. IsReplaying player state.now) }
     {
         let replayer = Replayer::of_strata(alloc, strata, state)?;
-        Ok(Player {
-            players: Players::Strata(replayer),
-        })
+        let players = Players::Strata(replayer);
+        let ended = end_of(&players);
+        Ok(Player { players, ended })
     }
 
     pub(crate) fn head(&self) -> Option<Actor>
@@ -120,7 +126,7 @@ impl Player {
     pub(crate) fn ended(&self) -> Option<End>
         ensures { result ≡ end_of self.now.now }
     {
-        in_mode!(&self.players, replayer => replayer.ended())
+        self.ended
     }
 
     // Whether an actor may commit now.
@@ -206,7 +212,10 @@ impl Player {
             record { verdict = result; replay = self.new; state = state.new }
             ≡ judged self.old state.old p number (chunk_verdict self.old.log p state.old.used number r) }
     {
-        in_mode!(&mut self.players, replayer => replayer.end_chunk(number, thread, total, state))
+        let verdict =
+            in_mode!(&mut self.players, replayer => replayer.end_chunk(number, thread, total, state));
+        self.ended = end_of(&self.players);
+        verdict
     }
 
     // Judges a serial step, and does it.
@@ -226,7 +235,9 @@ impl Player {
             IfOk result (λ r. served_left r ≡ served_by (serial_verdict self.old.log p s.used number s.threads t s.memory)) }
         ensures still { OnErr result ((self.new ≡ self.old) × (state.new ≡ state.old)) }
     {
-        in_mode!(&mut self.players, replayer => replayer.serve_step(number, state))
+        let left = in_mode!(&mut self.players, replayer => replayer.serve_step(number, state));
+        self.ended = end_of(&self.players);
+        left
     }
 
     // Judges a DMA, and gives the words that it stores.
@@ -243,7 +254,9 @@ impl Player {
             IfOk result (λ r. transfer_verdict r ≡ dma_verdict self.old.log p state.old.used) }
         ensures still { OnErr result ((self.new ≡ self.old) × (state.new ≡ state.old)) }
     {
-        in_mode!(&mut self.players, replayer => replayer.serve_dma(state))
+        let words = in_mode!(&mut self.players, replayer => replayer.serve_dma(state));
+        self.ended = end_of(&self.players);
+        words
     }
 
     // The words that a DMA would store, or why it diverges.
@@ -268,6 +281,15 @@ impl Player {
         ensures replay { self.new ≡ diverged why state.now.commits self.old }
         ensures at { (s : At) → IsReplaying self.old s → IsReplaying self.new s }
     {
-        in_mode!(&mut self.players, replayer => replayer.diverge(why, state))
+        let verdict = in_mode!(&mut self.players, replayer => replayer.diverge(why, state));
+        self.ended = end_of(&self.players);
+        verdict
     }
+}
+
+// How the replay ended, if it did.
+fn end_of(players: &Players) -> Option<End>
+    ensures { result ≡ end_of (following_of players.now).now }
+{
+    in_mode!(players, replayer => replayer.ended())
 }

@@ -160,9 +160,6 @@ fn put(commits: &mut InOrder, thread: u8, begins: Option<bool>, commit: Commit)
     match begins {
         None => commits.push_reserved(commit),
         Some(false) => commits.put_reserved(thread, commit),
-        Some(true) => {
-            commits.put_reserved(thread, commit);
-            commits.settle();
-        }
+        Some(true) => commits.put_last(thread, commit),
     }
 }

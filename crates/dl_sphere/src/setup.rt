@@ -5,9 +5,9 @@ ghost use Rattle.dl_sphere.specs.Setups.{begun_as, begun_of, diverged_in, interv
 use dl_elf::Image;
 use dl_entry::Why;
 use dl_kernel::State;
+use dl_replay::ReadyStrata;
 use spec_log::{Log, ModeName};
 use spec_play::Interval;
-use spec_strata::Strata;
 use std::rc::Rc;
 
 /// A sphere's role: plain, recorded in a version of logs, 1 or 2, and a mode, or replayed. In epochs only the last part of a
@@ -36,7 +36,7 @@ pub enum Replay {
     /// All commits of a log, or those of an interval, where that begins.
     Log { log: Log, begun: Option<Begun> },
     /// All commits of strata, in any order that they allow.
-    Strata(Rc<Strata>),
+    Strata(Rc<ReadyStrata>),
 }
 
 /// Where an interval of a log begins: the state of the log's play on the sphere's image before the interval's first commit.

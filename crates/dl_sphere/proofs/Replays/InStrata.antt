@@ -1,5 +1,5 @@
 -- A sphere that is replayed in strata: with a commit more each thread's next one still belongs at the end of its list.
-use Rattle.std.proofs.Common.{◌≡◌, ℕ, zero, suc, ◌+◌, ◌<◌, ◌≤◌, Bool, true, false, cond, ◌||◌, ◌&&◌, nat_lt, nat_le, ◌⊎◌, List, [], ◌∷◌, ◌++◌, length, map, take, get_or, set, Option, Some, None, inl, inr, refl, sym, ap, ◌∙◌, subst, arith, length-append}
+use Rattle.std.proofs.Common.{◌≡◌, ℕ, zero, suc, ◌+◌, ◌<◌, ◌≤◌, Bool, true, false, cond, ◌||◌, ◌&&◌, nat_lt, nat_le, ◌⊎◌, List, [], ◌∷◌, ◌++◌, length, map, get_or, Option, Some, None, inl, inr, refl, sym, ap, ◌∙◌, subst, arith, length-append}
 use Rattle.std.specs.Prelude.{insert, nat_eq, option_map, slice_get}
 use Rattle.std.specs.List.{flat_map, sum}
 use Rattle.std.proofs.lemmas.Bool.{and_parts, cases_Bool, cases_lt, eq-eqb, ltb-false, ltb-true, ne_eqb, true≢false}
@@ -36,13 +36,13 @@ use Rattle.dl_kernel.specs.InOrder.{AreSame, Listed, NoneWaits, end_of, joined, 
 use Rattle.dl_kernel.specs.States.{PlayState as State}
 use Rattle.dl_kernel.proofs.Joined.{all-within}
 use Rattle.dl_mode.specs.Strata.{begins, has_left, is_head, takes_at}
-use Rattle.dl_replay.specs.Following.{Following, cursor_of}
+use Rattle.dl_replay.specs.Following.{Following}
 use Rattle.dl_replay.specs.Judged.{Judged, dma_judged, judged}
 use Rattle.dl_replay.specs.declared.verdict.Verdict.{Verdict}
 use Rattle.dl_replay.proofs.Standings.{none-done}
 use Rattle.dl_replay.proofs.Takes.{is-head, or-right, own-head}
 use Rattle.dl_sphere.specs.InStrata.{AreInStrata, AreInStrataIf, HasRoomIn, IsGoing, IsPutIn, IsSettled, IsWaiting}
-use Rattle.dl_sphere.specs.Moving.{JoinsIn, MayCommit, put_at}
+use Rattle.dl_sphere.specs.Moving.{MayCommit, put_at}
 
 -- ---- how many commits are listed
 

@@ -1,7 +1,5 @@
 -- What the replayer judges of a commit makes of its sphere what the definitions make of it.
-use Rattle.std.proofs.Common.{◌≡◌, ℕ, ◌+◌, ◌≤◌, suc, List, [], ◌∷◌, ◌++◌, length, Option, Some, None, option_map, IfSome, refl, sym, ap, ◌∙◌, arith}
-use Rattle.std.proofs.lemmas.List.Edits.{length-insert}
-use Rattle.std.proofs.lemmas.Option.{none-some}
+use Rattle.std.proofs.Common.{◌≡◌, ℕ, ◌+◌, List, [], ◌∷◌, ◌++◌, Option, Some, None, option_map, refl, sym, ap, ◌∙◌}
 use Rattle.dl_entry.specs.declared.Commit.{Commit}
 use Rattle.dl_entry.specs.declared.End.{End}
 use Rattle.dl_entry.specs.declared.Why.{Why}
@@ -16,7 +14,7 @@ use Rattle.spec_play.specs.declared.used.Used.{Used}
 use Rattle.spec_play.specs.Effects.{Effect}
 use Rattle.spec_play.specs.Turns.{TurnOrEnd, Ended}
 use Rattle.spec_log.specs.declared.LogParts.{LogParts}
-use Rattle.spec_strata.specs.Standing.{Standing, after_dma, after_thread, place_of}
+use Rattle.spec_strata.specs.Standing.{Standing, place_of}
 use Rattle.spec_play.specs.Verdicts.{LogVerdict, Goes, Fails}
 use Rattle.spec_protocol.specs.machine.Commits.{Diverged, Granted, MovedSphere, by_verdict, dma_by_verdict}
 use Rattle.spec_protocol.specs.machine.Spheres.{Replay, Role, Sphere}
@@ -30,7 +28,6 @@ use Rattle.dl_replay.specs.declared.verdict.Verdict.{Verdict}
 use Rattle.dl_sphere.specs.Pasts.{sphere_at, sphere_with}
 use Rattle.dl_sphere.specs.Roles.{IsCounted}
 use Rattle.dl_sphere.specs.Moving.{put_at}
-use Rattle.spec_protocol.proofs.Logs.Growing.{pushed_length}
 use Rattle.dl_sphere.proofs.Replays.Judging.{IfGoes}
 
 not-went : (why : Why) → Verdict.Diverged why ≡ Verdict.Went → ⊥

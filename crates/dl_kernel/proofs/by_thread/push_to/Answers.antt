@@ -1,4 +1,4 @@
-use Rattle.std.proofs.Common.{◌≡◌, ℕ, ◌<◌, ◌∷◌, [], ◌++◌, List, length, get_or, set, vec_len, vec_capacity, nat_lt, Vec, Global, ◌∙◌, sym, ap, arith}
+use Rattle.std.proofs.Common.{ℕ, ◌<◌, ◌∷◌, [], ◌++◌, length, get_or, set, vec_len, vec_capacity, nat_lt, Vec, Global, ◌∙◌, sym, ap, arith}
 use Rattle.dl_entry.specs.declared.Commit.{Commit}
 use Rattle.dl_kernel.proofs.Joined.{items_of, item-put, room-there}
 use Rattle.dl_kernel.proofs.by_thread.push_to.Goals as goal

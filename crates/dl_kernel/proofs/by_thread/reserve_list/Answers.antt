@@ -1,4 +1,4 @@
-use Rattle.std.proofs.Common.{◌≡◌, ℕ, ◌<◌, nat_lt, Bool, false, List, length, get_or, set, take, vec_len, vec_capacity, ◌∙◌, sym, ap, arith}
+use Rattle.std.proofs.Common.{ℕ, ◌<◌, nat_lt, Bool, false, List, length, get_or, set, take, vec_len, vec_capacity, ◌∙◌, sym, ap, arith}
 use Rattle.std.proofs.lemmas.Bool.{lt-ltb}
 use Rattle.std.proofs.lemmas.List.{get_or-set_same, length-map, map-set}
 use Rattle.dl_entry.specs.declared.Commit.{Commit}

@@ -4,7 +4,7 @@ use Rattle.spec_protocol.specs.promises.Sound.{IsImage, IsRole}
 use Rattle.dl_kernel.specs.States.{state_in}
 use Rattle.dl_replay.specs.Following.{Following}
 use Rattle.dl_sphere.specs.Roles.{Replaying}
-use Rattle.dl_sphere.specs.Setups.{IsBegunAs, IsBegunIf, IsFirstIf, begun_of, replay_setup, role_setup, setup_of}
+use Rattle.dl_sphere.specs.Setups.{IsBegunAs, IsBegunIf, begun_of, replay_setup, role_setup, setup_of}
 use Rattle.dl_sphere.specs.Starting.{keeping_at, start_as}
 use Rattle.dl_sphere.specs.declared.setup.Role.{Role}
 use Rattle.dl_sphere.proofs.Standing.Start.{first_if, follows_start, role_of_replay, start_bounded, start_request}

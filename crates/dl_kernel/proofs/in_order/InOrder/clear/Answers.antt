@@ -1,4 +1,4 @@
-use Rattle.std.proofs.Common.{◌≤◌, ◌∙◌, ap, drop, arith}
+use Rattle.std.proofs.Common.{◌∙◌, arith}
 use Rattle.std.proofs.lemmas.List.{drop_all}
 use Rattle.dl_kernel.specs.InOrder.{listed}
 use Rattle.dl_kernel.proofs.in_order.InOrder.clear.Goals as goal

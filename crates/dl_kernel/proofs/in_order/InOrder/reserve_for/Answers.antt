@@ -1,6 +1,6 @@
-use Rattle.std.proofs.Common.{◌≡◌, ℕ, suc, ◌+◌, List, ◌++◌, length, take, ◌∙◌, ap}
+use Rattle.std.proofs.Common.{suc, ◌+◌, List, ◌++◌, length, ◌∙◌, ap}
 use Rattle.dl_entry.specs.declared.Commit.{Commit}
-use Rattle.dl_kernel.specs.InOrder.{Listed, end_of, joined, listed}
+use Rattle.dl_kernel.specs.InOrder.{end_of, listed}
 use Rattle.dl_kernel.proofs.in_order.InOrder.reserve_for.Goals as goal
 
 pub returns-clause-same : goal.returns-clause-same

@@ -1,24 +1,16 @@
-use Rattle.std.proofs.Common.{◌≡◌, ℕ, suc, ◌+◌, List, [], ◌∷◌, ◌++◌, length, take, Vec, Global, refl, ◌∙◌, sym, ap, arith, length-append}
+use Rattle.std.proofs.Common.{◌≡◌, List, Vec, Global, ◌∙◌, sym, ap, arith}
 use Rattle.std.specs.Vec.{with_items}
 use Rattle.std.proofs.lemmas.List.{with_items_is}
 use Rattle.dl_entry.specs.declared.Commit.{Commit}
 use Rattle.dl_kernel.specs.InOrder.{Listed, joined}
-use Rattle.dl_kernel.proofs.Joined.{items_of, none-first}
+use Rattle.dl_kernel.proofs.Joined.{items_of, none-left, none-waits}
 use Rattle.dl_kernel.proofs.in_order.InOrder.settle.Goals as goal
-
--- if no list has a commit, each ends after all commits
-none-waits : (whole : List Commit) (lists : List (List Commit)) → joined lists ≡ [] → (k : ℕ) → length whole + length (joined (take (suc k) lists)) ≡ length (whole ++ joined lists)
-none-waits whole lists none k = omega (arith, none-first lists (suc k) none, ap length none, length-append whole (joined lists))
 
 pub returns-then-self-gt0-clause-settled : goal.returns-then-self-gt0-clause-settled
 returns-then-self-gt0-clause-settled c =
     let new = c.move_all.new.lists in
     let items : (with_items c.self.inside.by_thread new).items ≡ new = with_items_is c.self.inside.by_thread new (omega arith) in
     none-waits c.move_all.new.whole.items (items_of (with_items c.self.inside.by_thread new).items) (ap (λ (xs : List (Vec Commit Global)). joined (items_of xs)) items ∙ c.move_all.ensures.lists)
-
-none-left : (xs : List Commit) → length xs ≡ 0 → xs ≡ []
-none-left [] e = refl
-none-left (x ∷ xs) e = absurd (omega (arith, e))
 
 pub returns-else-self-gt0-clause-settled : goal.returns-else-self-gt0-clause-settled
 returns-else-self-gt0-clause-settled c =

@@ -14,7 +14,8 @@ pub invariant_of-result : goal.invariant_of-result
 invariant_of-result c =
     let v = c.args.strata.now.value in
     let here : c.deref.result.now ≡ v = grind arith in
-    let parts = c.parts-parts.ensures.parts ∙ here in
+    let threads : c.parts-parts.result.now.threads ≡ v.threads = ap (λ (x : StrataParts). x.threads) c.parts-parts.ensures.parts ∙ ap (λ (x : StrataParts). x.threads) here in
+    let s : c.parts-parts.result.now.s ≡ v.s = ap (λ (x : StrataParts). x.s) c.parts-parts.ensures.parts ∙ ap (λ (x : StrataParts). x.s) here in
     let good = subst AreStrata here c.parts-parts.ensures.good in
     let kept = c.in_ok-log.ensures.kept in
     let interrupts : map interrupt_of c.in_ok-interrupts_of.field-0.entries ≡ v.interrupts = grind arith in
@@ -22,9 +23,9 @@ invariant_of-result c =
     let dmas : c.in_ok-dmas_of.field-0.dmas ≡ v.dmas = grind arith in
     let same : log_of 2 c.parts-parts.result.now.threads OrderOnly c.in_ok-log.log.logged.kept (map interrupt_of c.in_ok-interrupts_of.field-0.entries)
     c.in_ok-inputs_of.field-0.inputs c.in_ok-dmas_of.field-0.dmas ≡ canonical v =
-    λ i. log_of 2 (parts i).threads OrderOnly (kept i) (interrupts i) (inputs i) (dmas i)
+    λ i. log_of 2 (threads i) OrderOnly (kept i) (interrupts i) (inputs i) (dmas i)
     in (
       subst (λ (l : LogParts). IsLog l) (sym same) (canonical_is_log v good),
-      ap (λ (x : StrataParts). x.s) parts ∙ sym (ap (λ (k : Kept). k.s) kept),
+      s ∙ sym (ap (λ (k : Kept). k.s) kept),
       c.count.ensures,
     )

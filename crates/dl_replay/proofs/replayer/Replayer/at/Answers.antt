@@ -1,5 +1,4 @@
-use Rattle.std.proofs.Common.{◌≡◌, None, ap, sym, subst, ◌∙◌}
-use Rattle.spec_log.specs.declared.log.LogParts.{LogParts}
+use Rattle.std.proofs.Common.{None, ap, sym, subst, ◌∙◌}
 use Rattle.spec_log.specs.Log.{IsLog}
 use Rattle.spec_play.specs.States.{progress_from}
 use Rattle.dl_kernel.specs.States.{state_in}

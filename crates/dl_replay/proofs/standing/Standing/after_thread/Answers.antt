@@ -4,16 +4,16 @@ use Rattle.dl_replay.specs.Standings.{Stood, standing_from}
 use Rattle.dl_replay.proofs.Standings.{last-by-greatest}
 use Rattle.dl_replay.proofs.standing.Standing.after_thread.Goals as goal
 
-pub returns-then-self-count-clause-last : goal.returns-then-self-count-clause-last
-returns-then-self-count-clause-last c =
+pub returns-in-Some-clause-last : goal.returns-in-Some-clause-last
+returns-in-Some-clause-last c =
     let a = c.self.inside in
     let x = standing_from a.strata.value.strata a.place a.done.items a.before in
-    last-by-greatest a.greatest c.args.thread x.done c.self.invariant.7
+    last-by-greatest a.greatest c.args.thread x.done c.self.invariant.9
     ∙ ap (λ (y : Stood). is_last c.args.thread y.standing) c.self.view_is
 
-pub returns-else-self-count-clause-last : goal.returns-else-self-count-clause-last
-returns-else-self-count-clause-last c =
+pub returns-in-None-clause-last : goal.returns-in-None-clause-last
+returns-in-None-clause-last c =
     let a = c.self.inside in
     let x = standing_from a.strata.value.strata a.place a.done.items a.before in
-    last-by-greatest a.greatest c.args.thread x.done c.self.invariant.7
+    last-by-greatest a.greatest c.args.thread x.done c.self.invariant.9
     ∙ ap (λ (y : Stood). is_last c.args.thread y.standing) c.self.view_is

@@ -1,10 +1,13 @@
 use Rattle.std.proofs.Common.{rules, ◌≡◌, ℕ, ◌+◌, ◌<◌, List, length, drop, replicate, inl, refl, sym, ap, subst, ◌∙◌, arith, length-drop}
 use Rattle.std.specs.Prelude.{slice_get}
 use Rattle.std.specs.List.{sum}
+use Rattle.std.proofs.lemmas.List.{length-replicate}
 use Rattle.std.proofs.lemmas.List.Elements.{All-drop}
-use Rattle.spec_strata.specs.Standing.{Standing, stratum_begun}
-use Rattle.dl_replay.specs.Standings.{CountsThreads, Stood, count_if, done_in, head_if, standing_from}
-use Rattle.dl_replay.proofs.Standings.{begins, count-of-left, goes-on-from, head-of-left, none-done, nothing_beyond}
+use Rattle.spec_strata.specs.Standing.{Standing, head_in, stratum_begun}
+use Rattle.dl_replay.specs.Standings.{CountsThreads, Stood, counts_if, counts_in, done_in, standing_from}
+use Rattle.dl_replay.specs.Starts.{start_if}
+use Rattle.dl_replay.specs.declared.ready.Start.{Start}
+use Rattle.dl_replay.proofs.Standings.{begins, count-of-start, counts-of-left, goes-on-from, head-of-start, none-done, nothing_beyond}
 use Rattle.dl_replay.proofs.standing.Standing.go_on.Goals as goal
 
 pub returns : goal.returns
@@ -28,15 +31,25 @@ invariant_of-self c =
     ∙ ap sum (begins (length a.done.items) left (All-drop (CountsThreads (length a.done.items)) (a.place + 1) a.strata.value.strata c.self.invariant.0))
     ∙ none-done left in
     let some = subst (λ (x : Stood). 0 < length x.standing.strata) (sym c.self.view_is) c.requires.left in
-    let count : c.count_of-self-inside.result ≡ count_if (slice_get a.strata.value.strata (a.place + 1)) = grind arith in
-    let head : c.head_of-self-inside.result ≡ head_if (slice_get a.strata.value.strata (a.place + 1)) zeros = grind arith in (
+    let counts : c.count_by_thread.new.by_thread.items ≡ counts_if a.strata.value.counted (slice_get a.strata.value.strata (a.place + 1)) = grind arith in
+    let same : length zeros ≡ length a.done.items = ap length none ∙ length-replicate (length a.done.items) 0 in
+    let start : c.start_at-start.result ≡ start_if (slice_get a.strata.value.strata (a.place + 1)) = grind arith in
+    let count = ap (λ (s : Start). s.count) start ∙ count-of-start a.strata.value.strata (a.place + 1) in
+    let head =
+    ap (λ (s : Start). s.head) start
+    ∙ head-of-start a.strata.value.strata (a.place + 1)
+    ∙ ap (head_in left) (sym (ap (done_in left) none ∙ begins (length a.done.items) left (All-drop (CountsThreads (length a.done.items)) (a.place + 1) a.strata.value.strata c.self.invariant.0)))
+    in (
       search rules,
       omega (arith, some, length-drop a.place a.strata.value.strata),
       c.self.invariant.2,
       search rules,
+      search rules,
+      counts ∙ counts-of-left a.strata.value.counted a.strata.value.strata (a.place + 1) ∙ ap (λ (n : ℕ). counts_in n left) (sym (same ∙ c.self.invariant.11)),
       sym nothing,
-      count ∙ count-of-left a.strata.value.strata (a.place + 1),
-      head ∙ head-of-left a.strata.value.strata (a.place + 1) zeros,
+      count,
+      head,
       (nothing_beyond (done_in left zeros) 1 nothing, inl refl),
       search rules,
+      same ∙ c.self.invariant.11,
     )

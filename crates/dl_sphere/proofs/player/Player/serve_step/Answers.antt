@@ -45,10 +45,10 @@ returns-clause-judged c =
     let s = c.args.state.now in
     let seen = λ (i : Inside). following_of i.players in
     elim c.match-self.branch [
-      | in-OrderSize w ↦ judges k s _ _ _ _ _ _ _ _ (sym (ap following_of w.in-OrderSize.is) ∙ c.self.view_is) (ap seen w.self-inside-is) w.state-is w.result-is w.serve_step.ensures.judged
-      | in-OrderOnly w ↦ judges k s _ _ _ _ _ _ _ _ (sym (ap following_of w.in-OrderOnly.is) ∙ c.self.view_is) (ap seen w.self-inside-is) w.state-is w.result-is w.serve_step-in-OrderOnly.ensures.judged
-      | in-Picolog w ↦ judges k s _ _ _ _ _ _ _ _ (sym (ap following_of w.in-Picolog.is) ∙ c.self.view_is) (ap seen w.self-inside-is) w.state-is w.result-is w.serve_step-in-Picolog.ensures.judged
-      | in-Strata w ↦ judges k s _ _ _ _ _ _ _ _ (sym (ap following_of w.in-Strata.is) ∙ c.self.view_is) (ap seen w.self-inside-is) w.state-is w.result-is w.serve_step-in-Strata.ensures.judged
+      | in-OrderSize w ↦ judges k s _ _ _ _ _ _ _ _ (sym (ap following_of w.in-OrderSize.is) ∙ c.self.view_is) (ap seen w.self-inside-is) w.state-is w.left-is w.serve_step-left.ensures.judged
+      | in-OrderOnly w ↦ judges k s _ _ _ _ _ _ _ _ (sym (ap following_of w.in-OrderOnly.is) ∙ c.self.view_is) (ap seen w.self-inside-is) w.state-is w.left-is w.serve_step-left-in-OrderOnly.ensures.judged
+      | in-Picolog w ↦ judges k s _ _ _ _ _ _ _ _ (sym (ap following_of w.in-Picolog.is) ∙ c.self.view_is) (ap seen w.self-inside-is) w.state-is w.left-is w.serve_step-left-in-Picolog.ensures.judged
+      | in-Strata w ↦ judges k s _ _ _ _ _ _ _ _ (sym (ap following_of w.in-Strata.is) ∙ c.self.view_is) (ap seen w.self-inside-is) w.state-is w.left-is w.serve_step-left-in-Strata.ensures.judged
     ]
 
 pub returns-clause-served : goal.returns-clause-served
@@ -56,8 +56,8 @@ returns-clause-served c =
     let k = c.args.number in
     let s = c.args.state.now in
     elim c.match-self.branch [
-      | in-OrderSize w ↦ serves k s _ _ _ _ (sym (ap following_of w.in-OrderSize.is) ∙ c.self.view_is) w.result-is w.serve_step.ensures.served
-      | in-OrderOnly w ↦ serves k s _ _ _ _ (sym (ap following_of w.in-OrderOnly.is) ∙ c.self.view_is) w.result-is w.serve_step-in-OrderOnly.ensures.served
-      | in-Picolog w ↦ serves k s _ _ _ _ (sym (ap following_of w.in-Picolog.is) ∙ c.self.view_is) w.result-is w.serve_step-in-Picolog.ensures.served
-      | in-Strata w ↦ serves k s _ _ _ _ (sym (ap following_of w.in-Strata.is) ∙ c.self.view_is) w.result-is w.serve_step-in-Strata.ensures.served
+      | in-OrderSize w ↦ serves k s _ _ _ _ (sym (ap following_of w.in-OrderSize.is) ∙ c.self.view_is) w.left-is w.serve_step-left.ensures.served
+      | in-OrderOnly w ↦ serves k s _ _ _ _ (sym (ap following_of w.in-OrderOnly.is) ∙ c.self.view_is) w.left-is w.serve_step-left-in-OrderOnly.ensures.served
+      | in-Picolog w ↦ serves k s _ _ _ _ (sym (ap following_of w.in-Picolog.is) ∙ c.self.view_is) w.left-is w.serve_step-left-in-Picolog.ensures.served
+      | in-Strata w ↦ serves k s _ _ _ _ (sym (ap following_of w.in-Strata.is) ∙ c.self.view_is) w.left-is w.serve_step-left-in-Strata.ensures.served
     ]
