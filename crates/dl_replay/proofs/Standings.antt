@@ -13,22 +13,17 @@ use Rattle.spec_strata.specs.declared.stratum.Stratum.{Stratum}
 use Rattle.spec_strata.specs.declared.stratum.Stratum.TheVariants.{Chunks, Serial, Dma}
 use Rattle.spec_strata.specs.Standing.{Standing, after_dma, after_thread, done_up_to, has_chunks_left, head_in, least_left, nothing_done, stratum_begun, with_alone, with_one_done, with_thread}
 use Rattle.spec_strata.specs.Strata.{IsStratumOf}
-use Rattle.dl_mode.specs.Strata.{AreFewIf, is_head}
-use Rattle.dl_replay.proofs.Takes.{is-head, own-head}
-use Rattle.dl_replay.specs.Standings.{CountsThreads, IsGreatest, IsWithin, IsWithinIf, count_in, counts_if, counts_in, done_in, standing_from}
+use Rattle.dl_mode.specs.Strata.{AreFewIf}
+use Rattle.dl_replay.specs.Standings.{CountsThreads, IsGreatest, IsWithin, IsWithinIf, count_in, counts_in, counts_of, done_in, standing_from}
 use Rattle.dl_replay.specs.Starts.{none_done_of, start_if}
 
 -- ---- what is left and done
 
--- where nothing is counted nothing is left
-none-at : (k n : ℕ) → ◌≡◌ {A = ℕ} (get_or (replicate n 0) k 0) 0
-none-at zero zero = refl
-none-at (suc k) zero = refl
-none-at zero (suc n) = refl
-none-at (suc k) (suc n) = none-at k n
-
-no-more : (k n d : ℕ) → nat_lt d (get_or (replicate n 0) k 0) ≡ false
-no-more k n d = le-ltb d (get_or (replicate n 0) k 0) (omega (arith, none-at k n))
+-- nothing is counted of threads after all
+pub none-beyond : (ns : List ℕ) (k : ℕ) → length ns ≤ k → ◌≡◌ {A = ℕ} (get_or ns k 0) 0
+none-beyond [] k past = refl
+none-beyond (n ∷ ns) zero past = absurd (omega (arith, past))
+none-beyond (n ∷ ns) (suc k) past = none-beyond ns k (omega (arith, past))
 
 -- the least thread with chunks left is one of a place, or it is after it
 pub least-at : (k : ℕ) (cs ds : List ℕ) (i : ℕ) → i < length cs → length cs ≡ length ds
@@ -102,6 +97,19 @@ last-by-greatest g k ds h =
 pub nothing_beyond : (ds : List ℕ) (n : ℕ) → sum ds ≡ 0 → sum (drop n ds) ≡ 0
 nothing_beyond ds n none = omega (arith, none, drop-less ds n 0 (omega arith))
 
+-- and all numbers of what is done are 0
+pub none-of : (n : ℕ) → sum (replicate n 0) ≡ 0
+none-of zero = refl
+none-of (suc n) = omega (arith, none-of n, sum_by-cons (λ (x : ℕ). x) 0 (replicate n 0))
+
+pub zeros : (ds : List ℕ) → sum ds ≡ 0 → ds ≡ replicate (length ds) 0
+zeros [] none = refl
+zeros (d ∷ ds) none =
+    let all = sum_by-cons (λ (x : ℕ). x) d ds in
+    let first : d ≡ 0 = omega (arith, none, all) in
+    let rest : sum ds ≡ 0 = omega (arith, none, all) in
+    λ i. first i ∷ zeros ds rest i
+
 -- with a chunk more of a thread
 greatest-more : (g k n : ℕ) (ds : List ℕ) → k < length ds → n ≡ suc (get_or ds k 0) → IsGreatest g ds → IsGreatest (max g k) (set ds k n)
 greatest-more g k n ds there e h =
@@ -130,7 +138,7 @@ greatest_counted (Serial thread ∷ xs) ds g k n chunks there e h = absurd (true
 greatest_counted (Dma ∷ xs) ds g k n chunks there e h = absurd (true≢false (sym chunks))
 
 -- with a chunk more of another thread the least one with chunks left is the same
-left-but : (i : ℕ) (cs ds : List ℕ) (k : ℕ) → (least_left i cs ds ≡ Some (i + k) → ⊥) → least_left i cs (with_one_done k ds) ≡ least_left i cs ds
+pub left-but : (i : ℕ) (cs ds : List ℕ) (k : ℕ) → (least_left i cs ds ≡ Some (i + k) → ⊥) → least_left i cs (with_one_done k ds) ≡ least_left i cs ds
 left-but i [] ds k other = refl
 left-but i (c ∷ cs) [] k other = refl
 left-but i (c ∷ cs) (d ∷ ds) zero other =
@@ -172,81 +180,55 @@ left-from i (c ∷ cs) (d ∷ ds) (suc k) e l =
           ∙ sym (ap after none)
     ]
 
-some-thread : (o : Option ℕ) (k : ℕ) → o ≡ Some k → option_map Actor.Thread o ≡ Some (Actor.Thread k)
-some-thread o k e = ap (option_map Actor.Thread) e
+-- it stays while the thread of that chunk has some left
+pub left-yet : (i : ℕ) (cs ds : List ℕ) (k : ℕ) → suc (get_or ds k 0) < get_or cs k 0 → least_left i cs (with_one_done k ds) ≡ least_left i cs ds
+left-yet i [] ds k some = refl
+left-yet i (c ∷ cs) [] k some = refl
+left-yet i (c ∷ cs) (d ∷ ds) zero some =
+    let from = λ (b : Bool). cond b (Some i) (least_left (suc i) cs ds) in
+    ap from (lt-ltb (suc d) c some) ∙ sym (ap from (lt-ltb d c (omega (arith, some))))
+left-yet i (c ∷ cs) (d ∷ ds) (suc k) some = ap (cond (nat_lt d c) (Some i)) (left-yet (suc i) cs ds k some)
 
--- and so the head is
-pub head-but : (xs : List Stratum) (ds : List ℕ) (k : ℕ) → (head_in xs ds ≡ Some (Actor.Thread k) → ⊥) → head_in xs (with_one_done k ds) ≡ head_in xs ds
-head-but [] ds k other = refl
-head-but (Chunks counts ∷ xs) ds k other =
-    let e : k ≡ 0 + k = omega arith in
-    ap (option_map Actor.Thread) (left-but 0 counts ds k (λ h. other (some-thread (least_left 0 counts ds) k (h ∙ ap (λ (n : ℕ). Some n) (sym e)))))
-head-but (Serial thread ∷ xs) ds k other = refl
-head-but (Dma ∷ xs) ds k other = refl
+-- and else, if it is that thread, it is looked for after it
+pub left-past : (cs ds : List ℕ) (k : ℕ) → k < length ds → length cs ≡ length ds → least_left 0 cs ds ≡ Some k → get_or cs k 0 ≤ get_or (with_one_done k ds) k 0
+    → least_left (suc k) (drop (suc k) cs) (drop (suc k) (with_one_done k ds)) ≡ least_left 0 cs (with_one_done k ds)
+left-past cs ds k there same first none =
+    let es = with_one_done k ds in
+    let e0 : k ≡ 0 + k = omega arith in
+    let more = least-at k cs es k (omega (arith, same, there)) (same ∙ sym (length-set ds k (suc (get_or ds k 0)))) in
+    let from = λ (b : Bool). cond b (Some k) (least_left (suc k) (drop (suc k) cs) (drop (suc k) es)) in
+    sym (more ∙ ap from (le-ltb (get_or es k 0) (get_or cs k 0) none))
+    ∙ ap (λ (m : ℕ). least_left m (drop k cs) (drop k es)) e0
+    ∙ left-from 0 cs ds k (first ∙ ap (λ (m : ℕ). Some m) e0) same
 
--- a chunk more of a thread that is counted is one more of all
-pub one-more-counted : (left : List Stratum) (ds : List ℕ) (k n : ℕ) → IsSome (count_in left) → k < length ds → n ≡ suc (get_or ds k 0)
-    → sum (done_in left (set ds k n)) ≡ sum (done_in left ds) + 1
-one-more-counted [] ds k n chunks there e = absurd (true≢false (sym chunks))
-one-more-counted (Chunks counts ∷ xs) ds k n chunks there e = omega (arith, sum_by-set (λ (x : ℕ). x) ds k n 0 there, e)
-one-more-counted (Serial thread ∷ xs) ds k n chunks there e = absurd (true≢false (sym chunks))
-one-more-counted (Dma ∷ xs) ds k n chunks there e = absurd (true≢false (sym chunks))
+-- the head of a stratum that has these counts
+pub head-counted : (n : ℕ) (left : List Stratum) (counts ds : List ℕ) → IsSome (count_in left) → counts ≡ counts_in n left
+    → head_in left (done_in left ds) ≡ option_map Actor.Thread (least_left 0 counts ds)
+head-counted n [] counts ds chunks here = absurd (true≢false (sym chunks))
+head-counted n (Chunks own ∷ xs) counts ds chunks here = ap (λ (cs : List ℕ). option_map Actor.Thread (least_left 0 cs ds)) (sym here)
+head-counted n (Serial thread ∷ xs) counts ds chunks here = absurd (true≢false (sym chunks))
+head-counted n (Dma ∷ xs) counts ds chunks here = absurd (true≢false (sym chunks))
 
--- so the head stays unless it is of that thread
-pub head-stays : (left : List Stratum) (ds : List ℕ) (k n : ℕ) (head : Option Actor) → n ≡ suc (get_or ds k 0) → head ≡ head_in left (done_in left ds) → is_head head (Actor.Thread k) ≡ false
-    → head ≡ head_in left (done_in left (set ds k n))
-head-stays [] ds k n head e is other = is
-head-stays (Chunks counts ∷ xs) ds k n head e is other =
-    let same = head-but (Chunks counts ∷ xs) ds k (λ h. true≢false (sym (ap (λ (o : Option Actor). is_head o (Actor.Thread k)) (is ∙ h) ∙ own-head (Actor.Thread k)) ∙ other)) in
-    is ∙ sym same ∙ ap (λ (m : ℕ). head_in (Chunks counts ∷ xs) (set ds k m)) (sym e)
-head-stays (Serial thread ∷ xs) ds k n head e is other = is
-head-stays (Dma ∷ xs) ds k n head e is other = is
-
--- and else it is looked for from that thread on
+-- the head is of a thread if that is the least one with chunks left
 abbrev number-of : Actor → ℕ
 number-of (Actor.Thread k) = k
 number-of Actor.Dma = 0
 
-own-thread : (o : Option ℕ) (k : ℕ) → option_map Actor.Thread o ≡ Some (Actor.Thread k) → o ≡ Some k
+pub own-thread : (o : Option ℕ) (k : ℕ) → option_map Actor.Thread o ≡ Some (Actor.Thread k) → o ≡ Some k
 own-thread None k e = absurd (none-some (Actor.Thread k) e)
 own-thread (Some j) k e = ap (λ (a : Actor). Some (number-of a)) (same_Some {A = Actor} (Actor.Thread j) (Actor.Thread k) e)
 
-pub head-from : (left : List Stratum) (counts ds : List ℕ) (k n : ℕ) (head : Option Actor) → IsSome (count_in left) → counts ≡ counts_in (length ds) left → length counts ≡ length ds
-    → n ≡ suc (get_or ds k 0) → head ≡ head_in left (done_in left ds) → is_head head (Actor.Thread k) ≡ true
-    → option_map Actor.Thread (least_left k (drop k counts) (drop k (set ds k n))) ≡ head_in left (done_in left (set ds k n))
-head-from [] counts ds k n head chunks here long e is own = absurd (true≢false (sym chunks))
-head-from (Chunks cs ∷ xs) counts ds k n head chunks here long e is own =
-    let seen = λ (own : List ℕ) (m : ℕ). option_map Actor.Thread (least_left k (drop k own) (drop k (set ds k m))) in
-    let e0 : k ≡ 0 + k = omega arith in
-    let first = own-thread (least_left 0 cs ds) k (sym is ∙ is-head head (Actor.Thread k) own) ∙ ap (λ (m : ℕ). Some m) e0 in
-    let same : length cs ≡ length ds = ap length (sym here) ∙ long in
-    (λ i. seen (here i) (e i))
-    ∙ ap (λ (m : ℕ). option_map Actor.Thread (least_left m (drop k cs) (drop k (with_one_done k ds)))) e0
-    ∙ ap (option_map Actor.Thread) (left-from 0 cs ds k first same)
-    ∙ ap (λ (m : ℕ). head_in (Chunks cs ∷ xs) (set ds k m)) (sym e)
-head-from (Serial thread ∷ xs) counts ds k n head chunks here long e is own = absurd (true≢false (sym chunks))
-head-from (Dma ∷ xs) counts ds k n head chunks here long e is own = absurd (true≢false (sym chunks))
+-- one more of a thread that is counted is one more of all
+pub one-more-of : (ds : List ℕ) (k n : ℕ) → k < length ds → n ≡ suc (get_or ds k 0) → sum (set ds k n) ≡ sum ds + 1
+one-more-of ds k n there e = omega (arith, sum_by-set (λ (x : ℕ). x) ds k n 0 there, e)
 
--- so it is that thread while it has chunks left
-pub head-still : (left : List Stratum) (counts ds : List ℕ) (k n : ℕ) (head : Option Actor) → IsSome (count_in left) → counts ≡ counts_in (length ds) left → length counts ≡ length ds
-    → k < length ds → n ≡ suc (get_or ds k 0) → head ≡ head_in left (done_in left ds) → is_head head (Actor.Thread k) ≡ true → get_or (set ds k n) k 0 < get_or counts k 0
-    → head ≡ head_in left (done_in left (set ds k n))
-head-still left counts ds k n head chunks here long there e is own some =
-    let more = least-at k counts (set ds k n) k (omega (arith, long, there)) (long ∙ sym (length-set ds k n)) in
-    let from = λ (b : Bool). cond b (Some k) (least_left (suc k) (drop (suc k) counts) (drop (suc k) (set ds k n))) in
-    is-head head (Actor.Thread k) own
-    ∙ ap (option_map Actor.Thread) (sym (more ∙ ap from (lt-ltb (get_or (set ds k n) k 0) (get_or counts k 0) some)))
-    ∙ head-from left counts ds k n head chunks here long e is own
-
--- and else one after it
-pub head-after : (left : List Stratum) (counts ds : List ℕ) (k n : ℕ) (head : Option Actor) → IsSome (count_in left) → counts ≡ counts_in (length ds) left → length counts ≡ length ds
-    → k < length ds → n ≡ suc (get_or ds k 0) → head ≡ head_in left (done_in left ds) → is_head head (Actor.Thread k) ≡ true → get_or counts k 0 ≤ get_or (set ds k n) k 0
-    → option_map Actor.Thread (least_left (suc k) (drop (suc k) counts) (drop (suc k) (set ds k n))) ≡ head_in left (done_in left (set ds k n))
-head-after left counts ds k n head chunks here long there e is own none =
-    let more = least-at k counts (set ds k n) k (omega (arith, long, there)) (long ∙ sym (length-set ds k n)) in
-    let from = λ (b : Bool). cond b (Some k) (least_left (suc k) (drop (suc k) counts) (drop (suc k) (set ds k n))) in
-    ap (option_map Actor.Thread) (sym (more ∙ ap from (le-ltb (get_or (set ds k n) k 0) (get_or counts k 0) none)))
-    ∙ head-from left counts ds k n head chunks here long e is own
+-- so is a chunk more of a stratum
+pub one-more-counted : (left : List Stratum) (ds : List ℕ) (k n : ℕ) → IsSome (count_in left) → k < length ds → n ≡ suc (get_or ds k 0)
+    → sum (done_in left (set ds k n)) ≡ sum (done_in left ds) + 1
+one-more-counted [] ds k n chunks there e = absurd (true≢false (sym chunks))
+one-more-counted (Chunks counts ∷ xs) ds k n chunks there e = one-more-of ds k n there e
+one-more-counted (Serial thread ∷ xs) ds k n chunks there e = absurd (true≢false (sym chunks))
+one-more-counted (Dma ∷ xs) ds k n chunks there e = absurd (true≢false (sym chunks))
 
 -- what is done of a stratum that has chunks
 pub done-counted : (left : List Stratum) (ds : List ℕ) → IsSome (count_in left) → done_in left ds ≡ ds
@@ -255,12 +237,19 @@ done-counted (Chunks counts ∷ xs) ds chunks = refl
 done-counted (Serial thread ∷ xs) ds chunks = absurd (true≢false (sym chunks))
 done-counted (Dma ∷ xs) ds chunks = absurd (true≢false (sym chunks))
 
--- how many chunks of each thread the present stratum has
-pub counts-of-left : (n : ℕ) (strata : List Stratum) (place : ℕ) → counts_if n (slice_get strata place) ≡ counts_in n (drop place strata)
-counts-of-left n [] zero = refl
-counts-of-left n [] (suc place) = refl
-counts-of-left n (x ∷ xs) zero = refl
-counts-of-left n (x ∷ xs) (suc place) = counts-of-left n xs place
+-- the counts at its place are the present stratum's
+pub counts-of-left : (n : ℕ) (strata : List Stratum) (place : ℕ) (counts : List ℕ) → Some counts ≡ option_map (counts_of n) (slice_get strata place) → counts ≡ counts_in n (drop place strata)
+counts-of-left n [] zero counts e = absurd (none-some counts (sym e))
+counts-of-left n [] (suc place) counts e = absurd (none-some counts (sym e))
+counts-of-left n (x ∷ xs) zero counts e = same_Some {A = List ℕ} counts (counts_of n x) e
+counts-of-left n (x ∷ xs) (suc place) counts e = counts-of-left n xs place counts e
+
+-- a stratum that has chunks has its place among all
+pub has-place : (strata : List Stratum) (place : ℕ) → IsSome (count_in (drop place strata)) → place < length strata
+has-place [] zero chunks = absurd (true≢false (sym chunks))
+has-place [] (suc place) chunks = absurd (true≢false (sym chunks))
+has-place (x ∷ xs) zero chunks = omega arith
+has-place (x ∷ xs) (suc place) chunks = omega (arith, has-place xs place chunks)
 
 -- how many it has in all, and whose commit is first
 pub count-of-start : (strata : List Stratum) (place : ℕ) → (start_if (slice_get strata place)).count ≡ count_in (drop place strata)
@@ -277,12 +266,56 @@ head-of-start (Serial thread ∷ xs) zero = refl
 head-of-start (Dma ∷ xs) zero = refl
 head-of-start (x ∷ xs) (suc place) = head-of-start xs place
 
--- whether a thread has some left
-pub has-left : (n k : ℕ) (left : List Stratum) (counts ds : List ℕ) → counts ≡ counts_in n left → nat_lt (get_or ds k 0) (get_or counts k 0) ≡ has_chunks_left left (done_in left ds) k
-has-left n k [] counts ds here = ap (λ (cs : List ℕ). nat_lt (get_or ds k 0) (get_or cs k 0)) here ∙ no-more k n (get_or ds k 0)
-has-left n k (Chunks own ∷ xs) counts ds here = ap (λ (cs : List ℕ). nat_lt (get_or ds k 0) (get_or cs k 0)) here
-has-left n k (Serial thread ∷ xs) counts ds here = ap (λ (cs : List ℕ). nat_lt (get_or ds k 0) (get_or cs k 0)) here ∙ no-more k n (get_or ds k 0)
-has-left n k (Dma ∷ xs) counts ds here = ap (λ (cs : List ℕ). nat_lt (get_or ds k 0) (get_or cs k 0)) here ∙ no-more k n (get_or ds k 0)
+-- without chunks no thread has some left
+pub none-left : (left : List Stratum) (ds : List ℕ) (k : ℕ) → count_in left ≡ None → has_chunks_left left ds k ≡ false
+none-left [] ds k none = refl
+none-left (Chunks counts ∷ xs) ds k none = absurd (none-some (sum counts) (sym none))
+none-left (Serial thread ∷ xs) ds k none = refl
+none-left (Dma ∷ xs) ds k none = refl
+
+-- none before a number is found from it on
+not-before : (i : ℕ) (cs ds : List ℕ) (j : ℕ) → least_left i cs ds ≡ Some j → i ≤ j
+not-before i [] ds j found = absurd (none-some j found)
+not-before i (c ∷ cs) [] j found = absurd (none-some j found)
+not-before i (c ∷ cs) (d ∷ ds) j found =
+    let from = λ (b : Bool). cond b (Some i) (least_left (suc i) cs ds) in
+    elim (cases_Bool (nat_lt d c)) [
+      | inl left ↦ (let same : i ≡ j = same_Some {A = ℕ} i j (sym (ap from left) ∙ found) in omega (arith, same))
+      | inr none ↦ omega (arith, not-before (suc i) cs ds j (sym (ap from none) ∙ found))
+    ]
+
+-- the thread that is found has some left
+first-left : (i : ℕ) (cs ds : List ℕ) (k : ℕ) → least_left i cs ds ≡ Some (i + k) → nat_lt (get_or ds k 0) (get_or cs k 0) ≡ true
+first-left i [] ds k first = absurd (none-some (i + k) first)
+first-left i (c ∷ cs) [] k first = absurd (none-some (i + k) first)
+first-left i (c ∷ cs) (d ∷ ds) zero first =
+    elim (cases_Bool (nat_lt d c)) [
+      | inl left ↦ left
+      | inr none ↦ absurd (omega (arith, not-before (suc i) cs ds (i + 0) (sym (ap (λ (b : Bool). cond b (Some i) (least_left (suc i) cs ds)) none) ∙ first)))
+    ]
+first-left i (c ∷ cs) (d ∷ ds) (suc k) first =
+    elim (cases_Bool (nat_lt d c)) [
+      | inl left ↦ absurd (first-place i k (least_left i (c ∷ cs) (d ∷ ds)) (ap (λ (b : Bool). cond b (Some i) (least_left (suc i) cs ds)) left) first)
+      | inr none ↦
+          let e : i + suc k ≡ suc i + k = omega arith in
+          first-left (suc i) cs ds k (sym (ap (λ (b : Bool). cond b (Some i) (least_left (suc i) cs ds)) none) ∙ first ∙ ap (λ (n : ℕ). Some n) e)
+    ]
+
+-- with them it has by its number, and the thread of the head has some
+pub has-left : (n : ℕ) (left : List Stratum) (counts ds : List ℕ) (k : ℕ) → IsSome (count_in left) → counts ≡ counts_in n left
+    → nat_lt (get_or ds k 0) (get_or counts k 0) ≡ has_chunks_left left (done_in left ds) k
+has-left n [] counts ds k chunks here = absurd (true≢false (sym chunks))
+has-left n (Chunks own ∷ xs) counts ds k chunks here = ap (λ (cs : List ℕ). nat_lt (get_or ds k 0) (get_or cs k 0)) here
+has-left n (Serial thread ∷ xs) counts ds k chunks here = absurd (true≢false (sym chunks))
+has-left n (Dma ∷ xs) counts ds k chunks here = absurd (true≢false (sym chunks))
+
+pub head-left : (left : List Stratum) (ds : List ℕ) (k : ℕ) → IsSome (count_in left) → head_in left ds ≡ Some (Actor.Thread k) → has_chunks_left left ds k ≡ true
+head-left [] ds k chunks head = absurd (true≢false (sym chunks))
+head-left (Chunks counts ∷ xs) ds k chunks head =
+    let e : k ≡ 0 + k = omega arith in
+    first-left 0 counts ds k (own-thread (least_left 0 counts ds) k head ∙ ap (λ (m : ℕ). Some m) e)
+head-left (Serial thread ∷ xs) ds k chunks head = absurd (true≢false (sym chunks))
+head-left (Dma ∷ xs) ds k chunks head = absurd (true≢false (sym chunks))
 
 -- ---- the start of a stratum
 

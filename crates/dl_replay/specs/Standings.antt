@@ -35,10 +35,6 @@ counts_of n (Chunks counts) = counts
 counts_of n (Serial thread) = replicate n 0
 counts_of n Dma = replicate n 0
 
-abbrev pub counts_if : (threads : ℕ) → Option Stratum → List ℕ
-counts_if n None = replicate n 0
-counts_if n (Some x) = counts_of n x
-
 -- and the present one
 abbrev pub counts_in : (threads : ℕ) → List Stratum → List ℕ
 counts_in n [] = replicate n 0

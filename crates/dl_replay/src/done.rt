@@ -1,11 +1,12 @@
 //! How many chunks of a stratum are counted and done, by thread; and how many commits strata have.
-ghost use Rattle.std.specs.Prelude.{◌≡◌, ◌≤◌, ◌^◌, All, drop, length, option_map};
+ghost use Rattle.std.specs.Prelude.{◌≡◌, ℕ, List, ◌<◌, ◌≤◌, ◌^◌, All, drop, length, option_map};
 ghost use Rattle.std.specs.List.{sum};
 ghost use Rattle.spec_strata.specs.Strata.{commits_in, commits_in_all};
 ghost use Rattle.dl_replay.specs.Standings.{CountsFew};
-ghost use Rattle.spec_strata.specs.Standing.{least_left};
+ghost use Rattle.spec_strata.specs.Standing.{least_left, with_one_done};
 
 use dl_entry::Actor;
+use dl_mode::is_head;
 use spec_strata::Stratum;
 
 /// The least thread, from a number on, with fewer chunks done than are counted.
@@ -20,6 +21,21 @@ pub fn least_left(counts: &[u8], done: &[u32], from: usize) -> Option<Actor>
         }
     }
     None
+}
+
+/// Looks for the head again after a chunk more of a thread, which is among those that are done. If it was the last chunk of the
+/// thread that was the head, the next thread with chunks left is.
+pub fn pass_on(head: &mut Option<Actor>, thread: u8, counts: &[u8], done: &[u32])
+    requires thread { thread < length counts.now }
+    requires threads { length counts.now ≡ length done.now }
+    requires few { length counts.now ≤ 63 }
+    ensures { (before : List ℕ) → done.now ≡ with_one_done thread before → head.old ≡ option_map Actor.Thread (least_left 0 counts.now before) →
+        head.new ≡ option_map Actor.Thread (least_left 0 counts.now done.now) }
+{
+    let number = usize::from(thread);
+    if done[number] >= u32::from(counts[number]) && is_head(*head, Actor::Thread(thread)) {
+        *head = least_left(counts, done, number + 1);
+    }
 }
 
 /// How many are counted of at most 63 threads.

@@ -1,5 +1,5 @@
 //! Strata that are ready to be replayed.
-ghost use Rattle.std.specs.Prelude.{◌≡◌, ◌≤◌, ◌++◌, All, IfOk, IfSome, OnOk, flat_map, length, map, option_map, slice_get};
+ghost use Rattle.std.specs.Prelude.{◌≡◌, ◌<◌, ◌≤◌, ◌++◌, All, IfOk, OnOk, Some, flat_map, length, map, option_map, slice_get};
 ghost use Rattle.dl_replay.specs.Standings.{CountsFew, CountsThreads, counts_of};
 ghost use Rattle.dl_replay.specs.Starts.{none_done_of, start_of};
 ghost use Rattle.spec_strata.specs.Standing.{least_left};
@@ -94,17 +94,15 @@ impl ReadyStrata {
         self.starts.get(place).copied()
     }
 
-    /// How many chunks of each thread the stratum at a place has, if there is one.
-    pub fn counts(&self, place: usize) -> Option<&[u8]>
-        ensures value { option_map (λ c. c.now) result ≡ option_map (counts_of self.now.counted) (slice_get self.now.strata place) }
-        ensures threads { IfSome result (λ c. length c.now ≡ self.now.counted) }
+    /// How many chunks of each thread the stratum at a place has.
+    pub fn counts(&self, place: usize) -> &[u8]
+        requires { place < length self.now.strata }
+        ensures value { Some result.now ≡ option_map (counts_of self.now.counted) (slice_get self.now.strata place) }
+        ensures threads { length result.now ≡ self.now.counted }
     {
-        if place >= self.starts.len() {
-            return None;
-        }
         let threads = usize::from(self.parts.counted);
         let first = threads * place;
-        Some(&self.counts[first..first + threads])
+        &self.counts[first..first + threads]
     }
 }
 

@@ -1,12 +1,12 @@
 //! How far a replay has come in strata.
-ghost use Rattle.std.specs.Prelude.{◌≡◌, ◌+◌, ◌<◌, ◌^◌, IfOk, IsSome, Some, drop, length, slice_get, option_map};
+ghost use Rattle.std.specs.Prelude.{◌≡◌, ◌+◌, ◌<◌, ◌^◌, IfOk, IsSome, Some, drop, length, replicate, slice_get};
 ghost use Rattle.std.specs.List.{sum};
 ghost use Rattle.spec_strata.specs.Standing.{after_dma, after_thread, has_chunks_left, head_standing, is_last, stratum_begun, with_one_done};
 ghost use Rattle.dl_mode.specs.Strata.{begins};
-ghost use Rattle.dl_replay.specs.Standings.{Stood, count_in, counts_if, nothing_stood};
+ghost use Rattle.dl_replay.specs.Standings.{Stood, count_in, nothing_stood};
 ghost use Rattle.dl_replay.specs.Starts.{start_if};
 
-use crate::done::least_left;
+use crate::done::pass_on;
 use crate::ready::{ReadyStrata, Start};
 use dl_entry::{Actor, OutOfMemory};
 use dl_mode::is_head;
@@ -14,14 +14,13 @@ use std::alloc::Global;
 use std::marker::Model;
 use std::rc::Rc;
 
-/// Strata and how far they have come: the place of the present one, how many chunks of each thread it has, how many of them are
-/// done by thread and in all, the greatest thread that has done some, how many it has in all, if it has chunks, whose commit is
-/// next in canonical order, and how many commits come before it. Its memory is taken at the start.
+/// Strata and how far they have come: the place of the present one, how many of its chunks are done by thread and in all, the
+/// greatest thread that has done some, how many it has in all, if it has chunks, whose commit is next in canonical order, and
+/// how many commits come before it. Its memory is taken at the start.
 #[derive(Drop)]
 pub struct Standing {
     strata: Rc<ReadyStrata>,
     place: usize,
-    counts: Vec<u8>,
     done: Vec<u32>,
     all_done: u32,
     greatest: u8,
@@ -34,7 +33,7 @@ impl Model for Standing {
     ghost use Rattle.std.specs.Prelude.{◌≡◌, ◌+◌, ◌<◌, ◌≤◌, ◌^◌, All, length};
     ghost use Rattle.std.specs.List.{sum};
     ghost use Rattle.spec_strata.specs.Standing.{head_standing};
-    ghost use Rattle.dl_replay.specs.Standings.{CountsThreads, IsGreatest, Stood, count_in, counts_in, standing_from, stood};
+    ghost use Rattle.dl_replay.specs.Standings.{CountsThreads, IsGreatest, Stood, count_in, standing_from, stood};
 
     ghost Value = { Stood };
 
@@ -45,9 +44,8 @@ impl Model for Standing {
         × (s.place ≤ length strata)
         × (length strata < 2 ^ 64)
         × (length s.done.items ≤ 63)
-        × (length s.counts.items ≡ length s.done.items)
-        × (s.counts.items ≡ counts_in (length s.done.items) x.strata)
         × (s.all_done ≡ sum x.done)
+        × (s.all_done ≡ sum s.done.items)
         × (s.count ≡ count_in x.strata)
         × (s.head ≡ head_standing x)
         × IsGreatest s.greatest x.done
@@ -64,14 +62,11 @@ impl Standing {
         // the proof sees here that places can be counted
         let _ = strata.len();
         let threads = usize::from(strata.parts().counted);
-        let mut counts = vec![in alloc; 0; threads]?;
         let done = vec![in alloc; 0; threads]?;
-        count_by_thread(&mut counts, &strata, 0);
         let Start { count, head } = start_at(&strata, 0);
         Ok(Standing {
             strata,
             place: 0,
-            counts,
             done,
             all_done: 0,
             greatest: 0,
@@ -92,8 +87,17 @@ impl Standing {
     pub fn has_chunks_left(&self, thread: u8) -> bool
         ensures { let x = self.now.standing in result ≡ has_chunks_left x.strata x.done thread }
     {
+        self.count.is_some() && (is_head(self.head, Actor::Thread(thread)) || self.has_more(thread))
+    }
+
+    // The same in a stratum that has chunks, whoever is next in canonical order.
+    fn has_more(&self, thread: u8) -> bool
+        requires { IsSome (count_in self.now.standing.strata) }
+        ensures { let x = self.now.standing in result ≡ has_chunks_left x.strata x.done thread }
+    {
         let thread = usize::from(thread);
-        thread < self.done.len() && self.done[thread] < u32::from(self.counts[thread])
+        let counts = self.strata.counts(self.place);
+        thread < counts.len() && self.done[thread] < u32::from(counts[thread])
     }
 
     /// Whether none of the present stratum's commits is done.
@@ -157,14 +161,12 @@ impl Standing {
         self.done[number] += 1;
         self.all_done += 1;
         self.greatest = self.greatest.max(thread);
-        if is_head(self.head, Actor::Thread(thread))
-            && self.done[number] >= u32::from(self.counts[number])
-        {
-            self.head = least_left(&self.counts, &self.done, number + 1);
-        }
+        let counts = self.strata.counts(self.place);
+        pass_on(&mut self.head, thread, counts, &self.done);
     }
 
-    // The next stratum begins, after so many commits of the present one.
+    // The next stratum begins, after so many commits of the present one. This stands apart, so that what all commits do is short.
+    #[inline(never)]
     fn go_on(&mut self, commits: u32)
         requires left { 0 < length self.old.standing.strata }
         requires few { self.old.standing.before + commits < 2 ^ 32 }
@@ -172,14 +174,23 @@ impl Standing {
             self.new ≡ record self.old { standing = stratum_begun (drop 1 x.strata) (x.before + commits) } }
     {
         self.place += 1;
-        self.done.fill(0);
+        reset(&mut self.done, self.all_done);
         self.all_done = 0;
         self.greatest = 0;
-        count_by_thread(&mut self.counts, &self.strata, self.place);
         let start = start_at(&self.strata, self.place);
         self.count = start.count;
         self.head = start.head;
         self.before += commits;
+    }
+}
+
+// Sets each number to 0. Their sum, which is given, tells whether they are.
+fn reset(numbers: &mut Vec<u32>, all: u32)
+    requires { all ≡ sum numbers.old.items }
+    ensures { numbers.new.items ≡ replicate (length numbers.old.items) 0 }
+{
+    if all > 0 {
+        numbers.fill(0);
     }
 }
 
@@ -193,17 +204,5 @@ fn start_at(strata: &ReadyStrata, place: usize) -> Start
             count: None,
             head: None,
         },
-    }
-}
-
-// Copies how many chunks of each thread the stratum at a place has, or 0 if there is none.
-fn count_by_thread(by_thread: &mut Vec<u8>, strata: &ReadyStrata, place: usize)
-    requires { length by_thread.old.items ≡ strata.now.counted }
-    ensures counts { by_thread.new.items ≡ counts_if strata.now.counted (slice_get strata.now.strata place) }
-    ensures threads { length by_thread.new.items ≡ length by_thread.old.items }
-{
-    match strata.counts(place) {
-        Some(counts) => by_thread.copy_from_slice(counts),
-        None => by_thread.fill(0),
     }
 }

@@ -1,9 +1,8 @@
-use Rattle.std.proofs.Common.{◌≡◌, ℕ, ◌+◌, ◌*◌, ◌-◌, ◌<◌, ◌≤◌, length, take, drop, Some, sym, ap, ◌∙◌, arith}
+use Rattle.std.proofs.Common.{◌≡◌, ℕ, ◌+◌, ◌*◌, ◌-◌, ◌<◌, ◌≤◌, length, take, drop, Some, sym, ap, ◌∙◌, subst, arith}
 use Rattle.std.specs.Prelude.{option_map, slice_get}
-use Rattle.std.proofs.lemmas.List.{length-map}
 use Rattle.spec_strata.specs.declared.strata.StrataParts.{StrataParts}
 use Rattle.dl_replay.specs.Standings.{counts_of}
-use Rattle.dl_replay.specs.Starts.{laid_with, start_of}
+use Rattle.dl_replay.specs.Starts.{laid_with}
 use Rattle.dl_replay.proofs.Standings.{all-count}
 use Rattle.dl_replay.proofs.Starts.{counts-at, counts-in-all, ends-within}
 use Rattle.dl_replay.proofs.ready.ReadyStrata.counts.Goals as goal
@@ -13,7 +12,7 @@ slice_bounds-result-end c =
     let a = c.self.inside in
     let v = laid_with a.parts a.starts.items a.counts.items in
     let all = all-count v.counted v.strata c.self.invariant.0.each in
-    let there : c.args.place < length v.strata = omega (arith, c.if-place-len.false, c.len.ensures, a.starts.ok.0, ap length c.self.invariant.1, length-map v.strata start_of) in
+    let there : c.args.place < length v.strata = subst (λ (x : StrataParts). c.args.place < length x.strata) (sym c.self.view_is) c.requires in
     let n : c.from-threads.result ≡ v.counted = c.from-threads.ensures in
     let many : length c.deref.result.now ≡ v.counted * length v.strata = ap length c.deref.ensures.value ∙ ap length c.self.invariant.2 ∙ counts-in-all v.counted v.strata all in
     let ends : c.from-threads.result * c.args.place + c.from-threads.result ≤ length c.deref.result.now =
@@ -26,7 +25,7 @@ returns-clause-value c =
     let v = laid_with a.parts a.starts.items a.counts.items in
     let all = all-count v.counted v.strata c.self.invariant.0.each in
     let place = c.args.place in
-    let there : place < length v.strata = omega (arith, c.if-place-len.false, c.len.ensures, a.starts.ok.0, ap length c.self.invariant.1, length-map v.strata start_of) in
+    let there : place < length v.strata = subst (λ (x : StrataParts). place < length x.strata) (sym c.self.view_is) c.requires in
     let n = c.from-threads.result in
     let many : n * place + n - n * place ≡ n = omega arith in
     let here = c.deref.ensures.value ∙ c.self.invariant.2 in

@@ -4,10 +4,10 @@ use Rattle.std.specs.List.{sum}
 use Rattle.spec_strata.specs.declared.stratum.Stratum.{Stratum}
 use Rattle.spec_strata.specs.Standing.{Standing, head_in, nothing_done}
 use Rattle.spec_strata.specs.Strata.{AreStrata}
-use Rattle.dl_replay.specs.Standings.{Stood, counts_if, counts_in, done_in, stood}
+use Rattle.dl_replay.specs.Standings.{Stood, done_in, stood}
 use Rattle.dl_replay.specs.Starts.{start_if}
 use Rattle.dl_replay.specs.declared.ready.Start.{Start}
-use Rattle.dl_replay.proofs.Standings.{all-count, begins, count-of-start, counts-of-left, head-of-start, none-done, nothing_beyond}
+use Rattle.dl_replay.proofs.Standings.{all-count, begins, count-of-start, head-of-start, none-done, none-of, nothing_beyond}
 use Rattle.dl_replay.proofs.standing.Standing.new.Goals as goal
 
 pub returns : goal.returns
@@ -34,10 +34,8 @@ invariant_of-result c =
     (λ i. done_in (here i) (none i)) ∙ begins v.counted v.strata (all-count v.counted v.strata good.each) ∙ ap nothing_done (sym here) in
     let nothing : sum (done_in strata zeros) ≡ 0 =
     (λ i. sum (done_in (here i) (none i))) ∙ ap sum (begins v.counted v.strata (all-count v.counted v.strata good.each)) ∙ none-done v.strata in
-    let seen : c.count_by_thread.new.by_thread.items ≡ counts_if c.in_ok-strata.strata.value.counted (slice_get strata 0) = grind arith in
     let long : length zeros ≡ c.in_ok-strata.strata.value.counted = grind arith in
-    let counts = seen ∙ counts-of-left c.in_ok-strata.strata.value.counted strata 0 ∙ ap (λ (n : ℕ). counts_in n strata) (sym long) in
     let start : c.start_at-count.result ≡ start_if (slice_get strata 0) = grind arith in
     let count = ap (λ (s : Start). s.count) start ∙ count-of-start strata 0 in
     let head = ap (λ (s : Start). s.head) start ∙ head-of-start strata 0 ∙ ap (head_in strata) (sym zeros-done) in
-    (search rules, search rules, search rules, search rules, search rules, counts, sym nothing, count, head, (nothing_beyond (done_in strata zeros) 1 nothing, inl refl), search rules, long)
+    (search rules, search rules, search rules, search rules, sym nothing, sym (ap sum none ∙ none-of v.counted), count, head, (nothing_beyond (done_in strata zeros) 1 nothing, inl refl), search rules, long)
