@@ -244,13 +244,6 @@ counts-of-left n [] (suc place) counts e = absurd (none-some counts (sym e))
 counts-of-left n (x ∷ xs) zero counts e = same_Some {A = List ℕ} counts (counts_of n x) e
 counts-of-left n (x ∷ xs) (suc place) counts e = counts-of-left n xs place counts e
 
--- a stratum that has chunks has its place among all
-pub has-place : (strata : List Stratum) (place : ℕ) → IsSome (count_in (drop place strata)) → place < length strata
-has-place [] zero chunks = absurd (true≢false (sym chunks))
-has-place [] (suc place) chunks = absurd (true≢false (sym chunks))
-has-place (x ∷ xs) zero chunks = omega arith
-has-place (x ∷ xs) (suc place) chunks = omega (arith, has-place xs place chunks)
-
 -- how many it has in all, and whose commit is first
 pub count-of-start : (strata : List Stratum) (place : ℕ) → (start_if (slice_get strata place)).count ≡ count_in (drop place strata)
 count-of-start [] zero = refl
@@ -265,13 +258,6 @@ head-of-start (Chunks counts ∷ xs) zero = refl
 head-of-start (Serial thread ∷ xs) zero = refl
 head-of-start (Dma ∷ xs) zero = refl
 head-of-start (x ∷ xs) (suc place) = head-of-start xs place
-
--- without chunks no thread has some left
-pub none-left : (left : List Stratum) (ds : List ℕ) (k : ℕ) → count_in left ≡ None → has_chunks_left left ds k ≡ false
-none-left [] ds k none = refl
-none-left (Chunks counts ∷ xs) ds k none = absurd (none-some (sum counts) (sym none))
-none-left (Serial thread ∷ xs) ds k none = refl
-none-left (Dma ∷ xs) ds k none = refl
 
 -- none before a number is found from it on
 not-before : (i : ℕ) (cs ds : List ℕ) (j : ℕ) → least_left i cs ds ≡ Some j → i ≤ j
