@@ -33,7 +33,7 @@ pub fn pass_on(head: &mut Option<Actor>, thread: u8, counts: &[u8], done: &[u32]
         head.new ≡ option_map Actor.Thread (least_left 0 counts.now done.now) }
 {
     let number = usize::from(thread);
-    if done[number] >= u32::from(counts[number]) && is_head(*head, Actor::Thread(thread)) {
+    if is_head(*head, Actor::Thread(thread)) && done[number] >= u32::from(counts[number]) {
         *head = least_left(counts, done, number + 1);
     }
 }

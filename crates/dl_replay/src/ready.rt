@@ -87,11 +87,12 @@ impl ReadyStrata {
         self.commits
     }
 
-    /// How the stratum at a place begins, if there is one.
-    pub fn start(&self, place: usize) -> Option<Start>
-        ensures { result ≡ option_map start_of (slice_get self.now.strata place) }
+    /// How the stratum at a place begins.
+    pub fn start(&self, place: usize) -> Start
+        requires { place < length self.now.strata }
+        ensures { Some result ≡ option_map start_of (slice_get self.now.strata place) }
     {
-        self.starts.get(place).copied()
+        self.starts[place]
     }
 
     /// How many chunks of each thread the stratum at a place has.

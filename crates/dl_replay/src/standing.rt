@@ -198,11 +198,12 @@ fn reset(numbers: &mut Vec<u32>, all: u32)
 fn start_at(strata: &ReadyStrata, place: usize) -> Start
     ensures { result ≡ start_if (slice_get strata.now.strata place) }
 {
-    match strata.start(place) {
-        Some(start) => start,
-        None => Start {
+    if place < strata.len() {
+        strata.start(place)
+    } else {
+        Start {
             count: None,
             head: None,
-        },
+        }
     }
 }
