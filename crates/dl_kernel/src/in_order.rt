@@ -99,7 +99,7 @@ impl InOrder {
         ensures settled { NoneWaits self.new }
     {
         if self.waiting == 0 {
-            self.push_reserved(commit);
+            self.whole.push_reserved(commit);
         } else {
             self.put_reserved(thread, commit);
             self.settle();
