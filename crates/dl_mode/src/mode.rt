@@ -66,13 +66,16 @@ pub trait Mode {
     fn begins(log: &Self::Log) -> Option<bool>
         ensures { result ≡ option_map begins (strata log.now) };
 
-    /// Strata go on after an actor's commit. Whether none of the commits that were done comes after it in the order of the
-    /// account; in a log none does.
-    fn advance(log: &mut Self::Log, actor: Actor) -> bool
+    /// Whether none of the commits that are done comes after the next one of an actor in the order of the account; in a log none
+    /// does.
+    fn comes_last(log: &Self::Log, actor: Actor) -> bool
+        ensures { result ≡ comes_last (strata log.now) actor };
+
+    /// Strata go on after an actor's commit.
+    fn advance(log: &mut Self::Log, actor: Actor)
         requires { AreFewIf (strata log.old) }
         ensures kept { (logged log.new).kept ≡ (logged log.old).kept }
-        ensures strata { strata log.new ≡ option_map (after_commit actor) (strata log.old) }
-        ensures last { result ≡ comes_last (strata log.old) actor };
+        ensures strata { strata log.new ≡ option_map (after_commit actor) (strata log.old) };
 }
 
 /// A mode in which commits are noted, so that its log grows: it keeps what a replay needs of their order and sizes.

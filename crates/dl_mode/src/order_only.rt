@@ -82,9 +82,11 @@ impl Mode for OrderOnly {
         None
     }
 
-    fn advance(_: &mut OrderOnlyLog, _: Actor) -> bool {
+    fn comes_last(_: &OrderOnlyLog, _: Actor) -> bool {
         true
     }
+
+    fn advance(_: &mut OrderOnlyLog, _: Actor) {}
 }
 
 impl Noting for OrderOnly {

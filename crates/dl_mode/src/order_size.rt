@@ -143,9 +143,11 @@ impl Mode for OrderAndSize {
         None
     }
 
-    fn advance(_: &mut OrderSizeLog, _: Actor) -> bool {
+    fn comes_last(_: &OrderSizeLog, _: Actor) -> bool {
         true
     }
+
+    fn advance(_: &mut OrderSizeLog, _: Actor) {}
 }
 
 impl Noting for OrderAndSize {

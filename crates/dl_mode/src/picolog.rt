@@ -80,9 +80,11 @@ impl Mode for PicoLog {
         None
     }
 
-    fn advance(_: &mut TurnLog, _: Actor) -> bool {
+    fn comes_last(_: &TurnLog, _: Actor) -> bool {
         true
     }
+
+    fn advance(_: &mut TurnLog, _: Actor) {}
 }
 
 impl Noting for PicoLog {

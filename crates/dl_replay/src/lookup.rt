@@ -175,11 +175,17 @@ impl<M: Mode> Lookup<M> {
         M::begins(&self.log)
     }
 
-    /// Strata go on after an actor's commit. Whether none of those that were done comes after it.
-    pub fn advance(&mut self, actor: Actor) -> bool
+    /// Whether none of the commits that are done comes after the next one of an actor in the order of the account.
+    pub fn comes_last(&self, actor: Actor) -> bool
+        ensures { result ≡ comes_last self.now.strata actor }
+    {
+        M::comes_last(&self.log, actor)
+    }
+
+    /// Strata go on after an actor's commit.
+    pub fn advance(&mut self, actor: Actor)
         requires { AreFewIf self.old.strata }
-        ensures log { self.new ≡ record self.old { strata = option_map (after_commit actor) self.old.strata } }
-        ensures last { result ≡ comes_last self.old.strata actor }
+        ensures { self.new ≡ record self.old { strata = option_map (after_commit actor) self.old.strata } }
     {
         M::advance(&mut self.log, actor)
     }

@@ -410,9 +410,10 @@ impl<M: Mode> Replayer<M> {
         ensures within { IsWithinIf self.new.strata (state.old.commits + 1) }
         ensures state { state.new ≡ record state.old { last = last_by self.old.strata number state.old.last } }
     {
-        if self.log.advance(Actor::Thread(number)) {
+        if self.log.comes_last(Actor::Thread(number)) {
             state.last = Some(number);
         }
+        self.log.advance(Actor::Thread(number));
     }
 
     // A DMA went, which moves no turn of threads.

@@ -15,8 +15,8 @@ use std::marker::Model;
 use std::rc::Rc;
 
 /// Strata and how far they have come: the place of the present one, how many of its chunks are done by thread and in all, the
-/// greatest thread that has done some, how many it has in all, if it has chunks, whose commit is next in canonical order, and
-/// how many commits come before it. Its memory is taken at the start.
+/// greatest thread that has done some, how many it has in all, if it has chunks, and whose commit is next in canonical order;
+/// and how many commits come before it. Its memory is taken at the start.
 #[derive(Drop)]
 pub struct Standing {
     strata: Rc<ReadyStrata>,
@@ -24,8 +24,7 @@ pub struct Standing {
     done: Vec<u32>,
     all_done: u32,
     greatest: u8,
-    count: Option<u32>,
-    head: Option<Actor>,
+    present: Start,
     before: u32,
 }
 
@@ -46,8 +45,8 @@ impl Model for Standing {
         × (length s.done.items ≤ 63)
         × (s.all_done ≡ sum x.done)
         × (s.all_done ≡ sum s.done.items)
-        × (s.count ≡ count_in x.strata)
-        × (s.head ≡ head_standing x)
+        × (s.present.count ≡ count_in x.strata)
+        × (s.present.head ≡ head_standing x)
         × IsGreatest s.greatest x.done
         × (x.before + sum x.done < 2 ^ 32)
         × (length s.done.items ≡ s.strata.value.counted) };
@@ -63,15 +62,14 @@ impl Standing {
         let _ = strata.len();
         let threads = usize::from(strata.parts().counted);
         let done = vec![in alloc; 0; threads]?;
-        let Start { count, head } = start_at(&strata, 0);
+        let present = start_at(&strata, 0);
         Ok(Standing {
             strata,
             place: 0,
             done,
             all_done: 0,
             greatest: 0,
-            count,
-            head,
+            present,
             before: 0,
         })
     }
@@ -80,14 +78,15 @@ impl Standing {
     pub fn head(&self) -> Option<Actor>
         ensures { result ≡ head_standing self.now.standing }
     {
-        self.head
+        self.present.head
     }
 
     /// Whether a thread has chunks left in the present stratum.
     pub fn has_chunks_left(&self, thread: u8) -> bool
         ensures { let x = self.now.standing in result ≡ has_chunks_left x.strata x.done thread }
     {
-        self.count.is_some() && (is_head(self.head, Actor::Thread(thread)) || self.has_more(thread))
+        self.present.count.is_some()
+            && (is_head(self.present.head, Actor::Thread(thread)) || self.has_more(thread))
     }
 
     // The same in a stratum that has chunks, whoever is next in canonical order.
@@ -107,18 +106,22 @@ impl Standing {
         self.all_done == 0
     }
 
-    /// A commit of a thread is done. Whether none of those that were done in the stratum comes after it.
-    pub fn after_thread(&mut self, thread: u8) -> bool
-        requires { let x = self.old.standing in x.before + sum x.done + 1 < 2 ^ 32 }
-        ensures after { self.new ≡ record self.old { standing = after_thread thread self.old.standing } }
-        ensures last { result ≡ is_last thread self.old.standing }
+    /// Whether none of the present stratum's commits that are done comes after a thread's next one.
+    pub fn is_last(&self, thread: u8) -> bool
+        ensures { result ≡ is_last thread self.now.standing }
     {
-        let last = thread >= self.greatest;
-        match self.count {
+        thread >= self.greatest
+    }
+
+    /// A commit of a thread is done.
+    pub fn after_thread(&mut self, thread: u8)
+        requires { let x = self.old.standing in x.before + sum x.done + 1 < 2 ^ 32 }
+        ensures { self.new ≡ record self.old { standing = after_thread thread self.old.standing } }
+    {
+        match self.present.count {
             Some(count) => self.after_chunk(thread, count),
             None => self.after_dma(),
         }
-        last
     }
 
     /// A DMA is done.
@@ -162,7 +165,7 @@ impl Standing {
         self.all_done += 1;
         self.greatest = self.greatest.max(thread);
         let counts = self.strata.counts(self.place);
-        pass_on(&mut self.head, thread, counts, &self.done);
+        pass_on(&mut self.present.head, thread, counts, &self.done);
     }
 
     // The next stratum begins, after so many commits of the present one. This stands apart, so that what all commits do is short.
@@ -173,14 +176,13 @@ impl Standing {
         ensures { let x = self.old.standing in
             self.new ≡ record self.old { standing = stratum_begun (drop 1 x.strata) (x.before + commits) } }
     {
+        let all_done = self.all_done;
+        self.before += commits;
         self.place += 1;
-        reset(&mut self.done, self.all_done);
         self.all_done = 0;
         self.greatest = 0;
-        let start = start_at(&self.strata, self.place);
-        self.count = start.count;
-        self.head = start.head;
-        self.before += commits;
+        self.present = start_at(&self.strata, self.place);
+        reset(&mut self.done, all_done);
     }
 }
 
@@ -190,8 +192,16 @@ fn reset(numbers: &mut Vec<u32>, all: u32)
     ensures { numbers.new.items ≡ replicate (length numbers.old.items) 0 }
 {
     if all > 0 {
-        numbers.fill(0);
+        clear(numbers);
     }
+}
+
+// Sets each number to 0. This stands apart too, since a stratum of one commit has nothing to clear.
+#[inline(never)]
+fn clear(numbers: &mut Vec<u32>)
+    ensures { numbers.new.items ≡ replicate (length numbers.old.items) 0 }
+{
+    numbers.fill(0);
 }
 
 // How the stratum at a place begins.

@@ -97,13 +97,17 @@ impl Mode for StrataMode {
         Some(log.standing.begins())
     }
 
-    fn advance(log: &mut StrataLog, actor: Actor) -> bool {
+    fn comes_last(log: &StrataLog, actor: Actor) -> bool {
+        match actor {
+            Actor::Thread(thread) => log.standing.is_last(thread),
+            Actor::Dma => true,
+        }
+    }
+
+    fn advance(log: &mut StrataLog, actor: Actor) {
         match actor {
             Actor::Thread(thread) => log.standing.after_thread(thread),
-            Actor::Dma => {
-                log.standing.after_dma();
-                true
-            }
+            Actor::Dma => log.standing.after_dma(),
         }
     }
 }

@@ -32,7 +32,7 @@ invariant_of-self c =
     ∙ none-done left in
     let some = subst (λ (x : Stood). 0 < length x.standing.strata) (sym c.self.view_is) c.requires.left in
     let same : length zeros ≡ length a.done.items = ap length none ∙ length-replicate (length a.done.items) 0 in
-    let start : c.start_at-start.result ≡ start_if (slice_get a.strata.value.strata (a.place + 1)) = grind arith in
+    let start : c.start_at-self-inside.result ≡ start_if (slice_get a.strata.value.strata (a.place + 1)) = grind arith in
     let count = ap (λ (s : Start). s.count) start ∙ count-of-start a.strata.value.strata (a.place + 1) in
     let head =
     ap (λ (s : Start). s.head) start

@@ -11,7 +11,7 @@ pub returns-then-is_head : goal.returns-then-is_head
 returns-then-is_head c =
     let a = c.self.inside in
     let left = drop a.place a.strata.value.strata in
-    let own : a.head ≡ Some (Actor.Thread c.args.thread) = is-head a.head (Actor.Thread c.args.thread) (sym c.is_head.ensures ∙ c.if-is_head.true) in
+    let own : a.present.head ≡ Some (Actor.Thread c.args.thread) = is-head a.present.head (Actor.Thread c.args.thread) (sym c.is_head.ensures ∙ c.if-is_head.true) in
     let chunks : IsSome (count_in left) = subst IsSome c.self.invariant.6 (sym c.is_some.ensures ∙ c.if-is_some.true) in
     c.if-is_head.true
     ∙ sym (head-left left (done_in left a.done.items) c.args.thread chunks (sym c.self.invariant.7 ∙ own))

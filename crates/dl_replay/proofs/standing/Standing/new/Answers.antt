@@ -35,7 +35,7 @@ invariant_of-result c =
     let nothing : sum (done_in strata zeros) ≡ 0 =
     (λ i. sum (done_in (here i) (none i))) ∙ ap sum (begins v.counted v.strata (all-count v.counted v.strata good.each)) ∙ none-done v.strata in
     let long : length zeros ≡ c.in_ok-strata.strata.value.counted = grind arith in
-    let start : c.start_at-count.result ≡ start_if (slice_get strata 0) = grind arith in
+    let start : c.start_at-present.result ≡ start_if (slice_get strata 0) = grind arith in
     let count = ap (λ (s : Start). s.count) start ∙ count-of-start strata 0 in
     let head = ap (λ (s : Start). s.head) start ∙ head-of-start strata 0 ∙ ap (head_in strata) (sym zeros-done) in
     (search rules, search rules, search rules, search rules, sym nothing, sym (ap sum none ∙ none-of v.counted), count, head, (nothing_beyond (done_in strata zeros) 1 nothing, inl refl), search rules, long)
