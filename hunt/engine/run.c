@@ -83,8 +83,9 @@ static bool is_place(const struct run *r, const struct thread *t, struct next ne
     switch (next.kind) {
     case LOCAL:
         return is_shared(t->pc);
-    case MEMORY: /* an SC looks whether its chunk began before the LR, so it matters to it whether another came between */
-        return is_shared(next.address) || is_shared(t->pc) || (t->reservation == next.address && is_store_conditional(&r->machine, t));
+    case MEMORY: /* whoever is left after an LR loses the reservation, so an LR, and an SC that has it, can't be moved over a switch */
+        return is_shared(next.address) || is_shared(t->pc) || is_load_reserved(&r->machine, t)
+               || (t->reservation == next.address && is_store_conditional(&r->machine, t));
     case CALL: { /* an interrupt may come before any, and leaves another number in a7 */
         uint32_t call = t->x[17];
         bool is_own = call > HAS_ENDED || call == HANDLER || call == IRET || call == SELF || call == YIELD;

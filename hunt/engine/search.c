@@ -1,6 +1,7 @@
 #define _POSIX_C_SOURCE 200809L
 #include "search.h"
 
+#include "ends.h"
 #include "seen.h"
 #include "sharing.h"
 
@@ -188,6 +189,7 @@ enum leaf leaf_of(struct run *r) {
 
 static enum result at_leaf(void) {
     enum leaf leaf = leaf_of(run);
+    note_end(&run->machine, tally->bound);
     tally->ended += leaf == ALL_ENDED;
     tally->waited += leaf == ALL_WAIT;
     tally->repeated += leaf == COMES_AGAIN;
@@ -342,6 +344,7 @@ static void scout(uint64_t *state) {
 
 static void start_over(void) {
     forget_seen();
+    forget_ends();
     item_count = now.count = later.count = 0;
     tally->bound = 0;
     tally->most_places = 0;

@@ -1,0 +1,75 @@
+"""All that small programs can come to: what the search says against what an interpreter finds that tries every order."""
+
+import unittest
+
+from all_ends import met_ends
+from small_programs import (EXIT, LR, OWN, RESULTS, SC, SHARED, SPAWN, add, addi, atomic, call, explored, image_of, lw, random_program,
+                            reserving_step, sees, sets, slli, step, sw, waiting_step)
+from test_search import CAN_BUILD, NO_COMPILER
+
+A, B, SEEN, ANSWER = SHARED, SHARED + 4, RESULTS, RESULTS + 4
+CODE_OF_SECOND = 0x100
+SPAWNS = [addi(10, 0, CODE_OF_SECOND), addi(11, 0, 0), addi(12, 0, 0), *call(SPAWN)]
+ENDS = [addi(10, 0, 0), *call(EXIT)]
+
+
+def laid(*threads):
+    """The image of threads' code; the first one begins, the others lie 0x100 bytes apart."""
+    return image_of({CODE_OF_SECOND * k + 4 * place: word for k, words in enumerate(threads) for place, word in enumerate(words)})
+
+
+@unittest.skipUnless(CAN_BUILD, NO_COMPILER)
+class EveryOrder(unittest.TestCase):
+    """Of small random programs the search meets each outcome that any order has, with as few forced switches, and no other."""
+
+    def compare(self, seed, code, threads, costs_are_equal):
+        how, met, met_hang = met_ends(image_of(code))
+        found, hang = explored(code, threads)
+        self.assertEqual((how, set(met), met_hang), ("all", set(found), hang), seed)
+        for outcome, cost in found.items():
+            if costs_are_equal:
+                self.assertEqual(met[outcome], cost, (seed, outcome))
+            self.assertLessEqual(met[outcome], cost, (seed, outcome))
+        return hang
+
+    def test_costs(self):
+        for seed in (1, 3, 6, 10, 12, 14, 19, 24, 25, 30, 32, 37, 114, 125):
+            self.compare(seed, *random_program(seed, step), costs_are_equal=True)
+
+    def test_hangs(self):
+        seeds = (*range(20, 25), 26, 31, 32, 36, 37, 38, 40, 43, 44, 47, 54)
+        hangs = sum(self.compare(seed, *random_program(seed, waiting_step), costs_are_equal=False) for seed in seeds)
+        self.assertTrue(0 < hangs < len(seeds))
+
+    def test_reservations(self):
+        """LR and SC on own and shared words, with places between them, locks, and waiting loops, of two and three threads."""
+        hangs = sum(self.compare(seed, *random_program(seed, reserving_step, 2), costs_are_equal=False) for seed in RESERVING)
+        self.assertTrue(0 < hangs < len(RESERVING))
+
+
+# Of the first seeds with few states those with three threads, with a hang, or with the most ends.
+RESERVING = (2, 3, 8, 14, 27, 39, 42, 47, 52, 53, 59, 63, 70, 71, 78, 79, 82, 84, 85, 89, 90, 91, 94, 97, 112, 117, 121, 122, 127, 131,
+             132, 138, 146, 147, 149, 154, 160, 166, 181, 185, 194, 196, 206, 209, 211, 215, 216, 219, 223, 242)
+
+
+@unittest.skipUnless(CAN_BUILD, NO_COMPILER)
+class WhatASwitchChanges(unittest.TestCase):
+    """Programs of which an end is lost if the search forgets one thing that a switch changes, or that is part of a state."""
+
+    def outcomes(self, *threads, **options):
+        how, met, _ = met_ends(laid(*threads), **options)
+        self.assertEqual(how, "all")
+        return met
+
+    def test_load_reserved_of_an_own_word(self):
+        """Another thread comes right before the LR; to leave after it would lose the reservation."""
+        met = self.outcomes(
+            [*SPAWNS, *sets(A, 1), addi(6, 0, OWN), atomic(LR, 9, 6, 0), lw(5, B), atomic(SC, 8, 6, 7), slli(5, 5, 2), add(5, 5, 8),
+             sw(5, SEEN), *ENDS],
+            [*sees(A), *sets(B, 1), sw(5, ANSWER), *ENDS])
+        self.assertEqual(len(met), 8)
+        self.assertEqual(met[1, 1, 4, 1], 1)  # the SC succeeds, and both have seen what the other one stored
+
+
+if __name__ == "__main__":
+    unittest.main()
