@@ -126,19 +126,22 @@ static bool comes_again(struct run *r) {
 static bool is_outside(uint32_t call) { return call >= WRITE && call <= CLOCK; }
 
 /* The current thread is in a loop of so many steps that comes back to each of its states. It goes on to that one of them in
-   which it waits, before the place of the least pc, and finds out what the loop looks at. */
-static void settle(struct run *r, uint64_t length, struct looks *looks) {
+   which it waits, before the place of the least pc, and finds out what the loop looks at. The answer is how many places it has. */
+static uint32_t settle(struct run *r, uint64_t length, struct looks *looks) {
     struct machine *m = &r->machine;
     struct thread *t = &m->threads[r->current];
     uint64_t best = 0, best_rank = UINT64_MAX;
+    uint32_t places = 0;
     for (uint64_t j = 0; j < length; j++) {
         struct next next = next_of(m, t);
-        uint64_t rank = (uint64_t)!is_place(r, t, next) << 32 | t->pc;
+        bool at_place = is_place(r, t, next);
+        uint64_t rank = (uint64_t)!at_place << 32 | t->pc;
+        places += at_place;
         if (rank < best_rank) {
             best_rank = rank;
             best = j;
         }
-        if (next.kind == MEMORY && is_shared(next.address))
+        if (next.kind == MEMORY)
             look_at(looks, next.address);
         if (is_shared(t->pc) || next.kind == DEVICE_LOAD || (next.kind == CALL && is_outside(t->x[17])))
             looks->at_all = true;
@@ -146,6 +149,7 @@ static void settle(struct run *r, uint64_t length, struct looks *looks) {
     }
     for (uint64_t j = 0; j < best; j++)
         take_step(r, next_of(m, t));
+    return places;
 }
 
 /* Of a thread as it is once it is left. */
@@ -170,8 +174,8 @@ static void wait_here(struct run *r) {
     bool pure = r->machine.stores == r->mark_stores;
     uint64_t length = r->mark_age + 1;
     struct looks looks = {.at_all = !pure};
-    settle(r, length, &looks);
-    keep_loop(r, length, &looks, pure ? WAITS_PURELY : WAITS_WITH_STORES);
+    uint32_t places = settle(r, length, &looks);
+    keep_loop(r, length, &looks, !pure ? WAITS_WITH_STORES : places > 1 ? WAITS_AROUND : WAITS_AT_ONE_PLACE);
 }
 
 enum waiting waiting_of(struct run *r, uint32_t thread) {

@@ -140,11 +140,12 @@ static void take_choice(struct trial *t, uint32_t choice, enum turn_end end) {
     t->fresh = true;
 }
 
-/* A thread that waits in a loop with stores is nothing to go on with, but others may see what it stores there. */
+/* A thread that waits is nothing to go on with. But others may see what it stores in its loop; and in a loop of several places it may
+   be left when it has looked at one word, and not yet at another. */
 static bool is_choice(uint32_t choice) {
     const struct machine *m = &run->machine;
     if (choice < m->thread_count)
-        return m->threads[choice].status == LIVE && waiting_of(run, choice) != WAITS_PURELY;
+        return m->threads[choice].status == LIVE && waiting_of(run, choice) != WAITS_AT_ONE_PLACE;
     return choice == DMA ? m->requested : choice >= RAISE && can_raise(run, choice - RAISE);
 }
 
@@ -183,7 +184,7 @@ enum leaf leaf_of(struct run *r) {
     if (live_count(r) == 0)
         return ALL_ENDED;
     for (uint32_t k = 0; k < r->machine.thread_count; k++)
-        pure = pure && (r->machine.threads[k].status != LIVE || waiting_of(r, k) == WAITS_PURELY);
+        pure = pure && (r->machine.threads[k].status != LIVE || waiting_of(r, k) != WAITS_WITH_STORES);
     return pure ? ALL_WAIT : COMES_AGAIN;
 }
 

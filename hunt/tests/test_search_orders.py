@@ -3,11 +3,12 @@
 import unittest
 
 from all_ends import met_ends
-from small_programs import (EXIT, LR, OWN, RESULTS, SC, SHARED, SPAWN, add, addi, atomic, call, explored, image_of, lw, random_program,
+from small_programs import (EXIT, LR, OWN, RESULTS, SC, SHARED, SPAWN, add, addi, atomic, beq, bne, call, explored, image_of, lw, random_program,
                             reserving_step, sees, sets, slli, step, sw, waiting_step)
 from test_search import CAN_BUILD, NO_COMPILER
 
-A, B, SEEN, ANSWER = SHARED, SHARED + 4, RESULTS, RESULTS + 4
+A, B, FLAG, Q, SEEN, ANSWER = SHARED, SHARED + 4, SHARED + 8, SHARED + 12, RESULTS, RESULTS + 4
+BUFFER, REQUEST = 0x700, 8
 CODE_OF_SECOND = 0x100
 SPAWNS = [addi(10, 0, CODE_OF_SECOND), addi(11, 0, 0), addi(12, 0, 0), *call(SPAWN)]
 ENDS = [addi(10, 0, 0), *call(EXIT)]
@@ -69,6 +70,31 @@ class WhatASwitchChanges(unittest.TestCase):
             [*sees(A), *sets(B, 1), sw(5, ANSWER), *ENDS])
         self.assertEqual(len(met), 8)
         self.assertEqual(met[1, 1, 4, 1], 1)  # the SC succeeds, and both have seen what the other one stored
+
+    def test_waiting_loop_that_looks_at_an_own_word(self):
+        """The loop never ends if the thread's own word is 0, which isn't to be taken for a loop with a 1 there."""
+        met = self.outcomes(
+            [*SPAWNS, *sets(A, 1), lw(5, FLAG), sw(5, SEEN), *sets(B, 2), *ENDS],
+            [lw(7, A), sw(7, OWN), addi(9, 0, 1), sw(9, FLAG), addi(9, 0, 0), addi(7, 0, 0), lw(5, B), lw(7, OWN), bne(7, 0, 12),
+             addi(5, 0, 0), beq(0, 0, -16), sw(5, ANSWER), *ENDS])
+        self.assertEqual(met[1, 2, 1, 2], 2)
+
+    def test_waiting_loop_of_two_places(self):
+        """A thread that is known to wait comes, sees a 5, and is left before it looks at the other word. To see Q twice as 1 wants
+        three forced switches, and this two more."""
+        met = self.outcomes(
+            [*SPAWNS, addi(10, 0, 2 * CODE_OF_SECOND), *call(SPAWN), lw(7, FLAG), beq(7, 0, -4), lw(9, Q), slli(9, 9, 1), lw(7, Q + 4),
+             add(9, 9, 7), sw(9, SEEN), addi(9, 0, 0), addi(7, 0, 0), *sets(B, 5), *sets(B, 6), *sets(A, 1), *ENDS],
+            [addi(9, 0, 1), sw(9, FLAG), addi(9, 0, 0), lw(5, B), lw(7, A), bne(7, 0, 12), addi(5, 0, 0), beq(0, 0, -16),
+             sw(5, ANSWER), *ENDS],
+            [*sets(Q, 1), *sets(Q, 0), *sets(Q + 4, 1), *sets(Q + 4, 0), *ENDS])
+        self.assertEqual(met[1, 6, 3, 5, 0], 5)
+
+    def test_waiting_for_a_request(self):
+        """A second request is refused until the first one is done. That ends, and without a forced switch."""
+        asks = [addi(10, 0, BUFFER), addi(11, 0, 4), *call(REQUEST)]
+        how, met, hang = met_ends(laid([*asks, *asks, bne(10, 0, -16), *ENDS]))
+        self.assertEqual((how, met, hang), ("all", {(0, 0, 0): 0}, False))
 
 
 if __name__ == "__main__":
