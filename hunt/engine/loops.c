@@ -1,6 +1,6 @@
 #include "loops.h"
 
-#include "sharing.h"
+#include "segments.h"
 
 #include <stdlib.h>
 #include <string.h>
@@ -16,13 +16,13 @@ struct entry {
 
 static struct entry *table;
 static size_t places, count;
-static uint32_t shared_then;
+static uint32_t known_then;
 
-/* Where a loop can be left is only known of words that are known to be shared: if there are more by now, all is found out anew. */
+/* Where a loop can be left depends on which words are places'. If there are more by now, all is found out anew. */
 static void forget_old(void) {
-    if (shared_then == shared_count())
+    if (known_then == knowledge())
         return;
-    shared_then = shared_count();
+    known_then = knowledge();
     if (places > 0)
         memset(table, 0, places * sizeof *table);
     count = 0;

@@ -200,6 +200,7 @@ static void take_line(char *line) {
     else if (strcmp(line, "answer") == 0) take_answer(rest);
     else if (strcmp(line, "dma") == 0) take_dma(rest);
     else if (strcmp(line, "atom") == 0) take_atom(rest);
+    else if (strcmp(line, "all-places") == 0) run.all_places = true;
     else if (strcmp(line, "raise") == 0) take_raise(rest);
     else if (strcmp(line, "ends") == 0) take_ends(rest);
     else if (strcmp(line, "turn") == 0) take_turn(rest);

@@ -24,6 +24,7 @@ struct turn {
 
 struct run {
     struct machine machine;
+    bool all_places; /* each access to a shared word is a place */
     struct raise raises[MOST_RAISES];
     uint32_t raise_count;
     uint64_t raised; /* which of them have come, as bits */

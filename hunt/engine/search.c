@@ -3,7 +3,7 @@
 
 #include "ends.h"
 #include "seen.h"
-#include "sharing.h"
+#include "segments.h"
 
 #include <stdio.h>
 #include <stdlib.h>
@@ -40,7 +40,8 @@ struct trial {
     uint32_t item;
     size_t done;
     uint32_t place, choices;
-    bool fresh; /* the current thread has touched nothing since it came */
+    bool fresh; /* the current thread has come to no place since it came */
+    uint64_t touches_then; /* the touches of all segments when it came */
 };
 
 /* ---------------------------------------------------------------- items */
@@ -105,12 +106,15 @@ static bool is_in_turn(struct hash key) {
     return false;
 }
 
+/* With what each thread has touched in its segment, so that the conflicts that can come are the same too. */
+static struct hash whole_state(void) { return sum(state_of(run), segments()); }
+
 /* The state after the current thread's chunk has ended. */
 static struct hash state_after_chunk(void) {
     struct thread *t = &run->machine.threads[run->current];
     uint32_t reservation = t->reservation;
     t->reservation = NO_RESERVATION;
-    struct hash state = state_of(run);
+    struct hash state = whole_state();
     t->reservation = reservation;
     return state;
 }
@@ -138,7 +142,11 @@ static void take_choice(struct trial *t, uint32_t choice, enum turn_end end) {
     }
     begin_turn(run, choice);
     t->fresh = true;
+    t->touches_then = touch_count();
 }
+
+/* Whether the current thread has touched nothing that others touch since it came. */
+static bool is_fresh(const struct trial *t) { return t->fresh && t->touches_then == touch_count(); }
 
 /* A thread that waits is nothing to go on with. But others may see what it stores in its loop; and in a loop of several places it may
    be left when it has looked at one word, and not yet at another. */
@@ -158,7 +166,7 @@ static void offer_switches(struct trial *t) {
         return;
     bool offered = false;
     /* Whoever has touched nothing might as well come later; but a reservation is lost by leaving. */
-    if (!t->fresh || current->reservation != NO_RESERVATION) {
+    if (!is_fresh(t) || current->reservation != NO_RESERVATION) {
         struct hash after = state_after_chunk();
         for (uint32_t u = 0; u < m->thread_count; u++) {
             if (u == run->current || !is_choice(u))
@@ -211,7 +219,7 @@ static enum result choose(struct trial *t, enum turn_end end) {
     end_turn(run, end);
     if (is_leaf() && at_leaf() == IS_BAD)
         return IS_BAD;
-    struct hash state = state_of(run);
+    struct hash state = whole_state();
     for (uint32_t c = 0; c < RAISE + run->raise_count; c++) {
         if (!is_choice(c) || !is_new(key_of(state, c, COMING), tally->bound))
             continue;
@@ -245,7 +253,7 @@ static enum result at_place(struct trial *t, size_t length, bool *past) {
     if (follow(t, length, FORCED))
         return GOES_ON;
     if (t->done == length) {
-        struct hash key = key_of(state_of(run), run->current, t->fresh ? FRESH : AT_PLACE_KEY);
+        struct hash key = key_of(whole_state(), run->current, is_fresh(t) ? FRESH : AT_PLACE_KEY);
         if (is_new(key, tally->bound)) {
             keep_key(key);
             offer_switches(t);
@@ -289,6 +297,8 @@ static enum result try_item(uint32_t item) {
         /* after a DMA or an interrupt at a turn's end no thread is there yet */
         enum stop stop = run->current == NO_ONE ? AT_STOP : go_on(run, past);
         past = false;
+        if (has_news())
+            return IS_DONE; /* the search begins again */
         switch (stop) {
         case AT_PLACE: result = at_place(&t, length, &past); break;
         case AT_STOP: result = at_turn_end(&t, length, STOPPED); break;
@@ -319,11 +329,11 @@ static uint64_t drawn(uint64_t *state) {
     return *state;
 }
 
-/* A run in which threads change at random, only to find words that are shared. */
+/* A run in which threads change at random, only to find words that are shared or places'. */
 static void scout(uint64_t *state) {
     struct machine *m = &run->machine;
     start_run(run);
-    for (uint32_t turn = 0; turn < 4096 && m->time < run->step_limit; turn++) {
+    for (uint32_t turn = 0; turn < 4096 && m->time < run->step_limit && !has_news(); turn++) {
         uint32_t enabled[MOST_THREADS], count = 0;
         for (uint32_t k = 0; k < m->thread_count; k++)
             if (is_enabled(run, k))
@@ -343,6 +353,17 @@ static void scout(uint64_t *state) {
     }
 }
 
+/* Until so many one after another have no news. */
+static void send_scouts(double started) {
+    enum { ENOUGH = 100 };
+    uint64_t random = 0x9E3779B97F4A7C15u;
+    for (int j = 0; j < ENOUGH && now_seconds() - started < limits->seconds / 10; j++) {
+        scout(&random);
+        if (has_news())
+            j = 0;
+    }
+}
+
 static void start_over(void) {
     forget_seen();
     forget_ends();
@@ -355,21 +376,20 @@ static void start_over(void) {
 
 static void tell_bound(double started) {
     printf("bound %u tries %llu states %llu places %u shared %u seconds %.2f\n", tally->bound, (unsigned long long)tally->tries,
-           (unsigned long long)seen_count(), tally->most_places, shared_count(), now_seconds() - started);
+           (unsigned long long)seen_count(), tally->most_places, place_word_count(), now_seconds() - started);
     fflush(stdout);
 }
 
 enum finish search(struct run *r, const struct condition *bad_, const struct limits *limits_, struct tally *tally_) {
     double started = now_seconds();
-    uint64_t random = 0x9E3779B97F4A7C15u;
     run = r;
     bad = bad_;
     limits = limits_;
     tally = tally_;
     start_seen(limits->states);
-    for (int j = 0; j < 100 && now_seconds() - started < limits->seconds / 10; j++)
-        scout(&random);
-    uint32_t shared = shared_count();
+    every_shared_word_is_a_place(run->all_places || run->raise_count > 0);
+    send_scouts(started);
+    uint32_t known = knowledge();
     for (start_over();;) {
         if (now.count == 0) {
             tell_bound(started);
@@ -389,8 +409,8 @@ enum finish search(struct run *r, const struct condition *bad_, const struct lim
         tally->tries++;
         if (try_item(now.items[--now.count]) == IS_BAD)
             return FOUND;
-        if (shared_count() != shared) {
-            shared = shared_count();
+        if (knowledge() != known) {
+            known = knowledge();
             tally->restarts++;
             start_over();
         }
