@@ -225,12 +225,21 @@ static enum stop step_on(struct run *r, struct next next) {
     return is_spent(r) ? AT_SPENT : AT_PLACE;
 }
 
+static bool is_interruptible(const struct run *r) {
+    for (uint32_t j = 0; j < r->raise_count; j++)
+        if (r->raises[j].thread == r->current && can_raise(r, j))
+            return true;
+    return false;
+}
+
 enum stop go_on(struct run *r, bool past) {
     for (;; past = false) {
         const struct thread *t = &r->machine.threads[r->current];
         struct next next = next_of(&r->machine, t);
         if (!past && is_place(r, t, next))
             return AT_PLACE;
+        if (!past && is_interruptible(r))
+            return AT_INTERRUPTIBLE;
         enum stop stop = step_on(r, next);
         if (stop != AT_PLACE)
             return stop;

@@ -9,9 +9,9 @@
 #include <stdlib.h>
 #include <time.h>
 
-/* A way to go: what its parent's run did up to a place, and there this choice. */
+/* A way to go: what its parent's run did up to a place, and there this choice. places: as many as its run had by then. */
 struct item {
-    uint32_t parent, place;
+    uint32_t parent, place, places;
     uint8_t choice;
 };
 
@@ -39,7 +39,8 @@ enum result { GOES_ON, IS_BAD, IS_DONE };
 struct trial {
     uint32_t item;
     size_t done;
-    uint32_t place, choices;
+    uint32_t place;  /* the number of the stop: of a place, or of a turn's end */
+    uint32_t places; /* of them those at which others could come */
     bool fresh; /* the current thread has come to no place since it came */
     uint64_t touches_then; /* the touches of all segments when it came */
 };
@@ -54,12 +55,12 @@ static void push(struct list *l, uint32_t item) {
     l->items[l->count++] = item;
 }
 
-static uint32_t new_item(uint32_t parent, uint32_t place, uint32_t choice) {
+static uint32_t new_item(const struct trial *t, uint32_t choice) {
     if (item_count == item_room) {
         item_room = item_room ? 2 * item_room : 1024;
         items = more_room(items, item_room, sizeof *items);
     }
-    items[item_count] = (struct item){parent, place, (uint8_t)choice};
+    items[item_count] = (struct item){t->item, t->place, t->places, (uint8_t)choice};
     return (uint32_t)item_count++;
 }
 
@@ -157,34 +158,48 @@ static bool is_choice(uint32_t choice) {
     return choice == DMA ? m->requested : choice >= RAISE && can_raise(run, choice - RAISE);
 }
 
-/* The choices that another actor comes here, with one forced switch more. */
-static void offer_switches(struct trial *t) {
-    struct machine *m = &run->machine;
-    struct thread *current = &m->threads[run->current];
+static void put_off(const struct trial *t, uint32_t choice) { push(&later, new_item(t, choice)); }
+
+/* Another thread comes, or the chunk ends before the SC. Whoever has touched nothing might as well come later. */
+static void offer_switches(const struct trial *t) {
+    const struct machine *m = &run->machine;
+    const struct thread *current = &m->threads[run->current];
     uint32_t cost = tally->bound + 1;
-    if (cost > limits->switches)
+    if (is_fresh(t))
         return;
-    bool offered = false;
-    /* Whoever has touched nothing might as well come later; but a reservation is lost by leaving. */
-    if (!is_fresh(t) || current->reservation != NO_RESERVATION) {
-        struct hash after = state_after_chunk();
-        for (uint32_t u = 0; u < m->thread_count; u++) {
-            if (u == run->current || !is_choice(u))
-                continue;
-            offered = true;
-            if (is_new(key_of(after, u, COMING), cost))
-                push(&later, new_item(t->item, t->place, u));
-        }
-        if (current->reservation != NO_RESERVATION && is_store_conditional(m, current)
-            && is_new(key_of(after, run->current, AFTER_CUT), cost))
-            push(&later, new_item(t->item, t->place, CUT));
-    }
-    if (m->requested)
-        push(&later, new_item(t->item, t->place, DMA));
+    struct hash after = state_after_chunk();
+    for (uint32_t u = 0; u < m->thread_count; u++)
+        if (u != run->current && is_choice(u) && is_new(key_of(after, u, COMING), cost))
+            put_off(t, u);
+    if (current->reservation != NO_RESERVATION && is_store_conditional(m, current)
+        && is_new(key_of(after, run->current, AFTER_CUT), cost))
+        put_off(t, CUT);
+}
+
+static void offer_interrupts(const struct trial *t, bool of_current_alone) {
     for (uint32_t j = 0; j < run->raise_count; j++)
-        if (can_raise(run, j))
-            push(&later, new_item(t->item, t->place, RAISE + j));
-    t->choices += offered;
+        if (can_raise(run, j) && (!of_current_alone || run->raises[j].thread == run->current))
+            put_off(t, RAISE + j);
+}
+
+static bool others_could_come(void) {
+    for (uint32_t c = 0; c < RAISE + run->raise_count; c++)
+        if (c != run->current && is_choice(c))
+            return true;
+    return false;
+}
+
+/* The choices that there are at this stop, with one forced switch more. */
+static void offer(struct trial *t, enum stop stop) {
+    t->places += stop == AT_PLACE && others_could_come();
+    if (tally->bound == limits->switches)
+        return;
+    if (stop == AT_PLACE) {
+        offer_switches(t);
+        if (run->machine.requested)
+            put_off(t, DMA);
+    }
+    offer_interrupts(t, stop == AT_INTERRUPTIBLE);
 }
 
 enum leaf leaf_of(struct run *r) {
@@ -223,7 +238,7 @@ static enum result choose(struct trial *t, enum turn_end end) {
     for (uint32_t c = 0; c < RAISE + run->raise_count; c++) {
         if (!is_choice(c) || !is_new(key_of(state, c, COMING), tally->bound))
             continue;
-        uint32_t item = new_item(t->item, t->place, c);
+        uint32_t item = new_item(t, c);
         if (first == ROOT)
             first = item;
         else
@@ -246,8 +261,8 @@ static bool follow(struct trial *t, size_t length, enum turn_end end) {
     return true;
 }
 
-/* At a place. Whether the current thread goes on past it. */
-static enum result at_place(struct trial *t, size_t length, bool *past) {
+/* At a place, or where an interrupt may come. The current thread goes on past it, if no other choice is taken. */
+static enum result at_place(struct trial *t, size_t length, enum stop stop, bool *past) {
     t->place++;
     *past = false;
     if (follow(t, length, FORCED))
@@ -256,20 +271,13 @@ static enum result at_place(struct trial *t, size_t length, bool *past) {
         struct hash key = key_of(whole_state(), run->current, is_fresh(t) ? FRESH : AT_PLACE_KEY);
         if (is_new(key, tally->bound)) {
             keep_key(key);
-            offer_switches(t);
+            offer(t, stop);
         } else if (!is_in_turn(key))
             return IS_DONE;
     }
-    t->fresh = false;
+    t->fresh = t->fresh && stop == AT_INTERRUPTIBLE;
     *past = true;
     return GOES_ON;
-}
-
-static bool others_could_come(void) {
-    for (uint32_t c = 0; c < RAISE + run->raise_count; c++)
-        if (c != run->current && is_choice(c))
-            return true;
-    return false;
 }
 
 static enum result at_turn_end(struct trial *t, size_t length, enum turn_end end) {
@@ -285,7 +293,7 @@ static enum result at_turn_end(struct trial *t, size_t length, enum turn_end end
 }
 
 static enum result try_item(uint32_t item) {
-    struct trial t = {.item = item, .fresh = true};
+    struct trial t = {.item = item, .places = item == ROOT ? 0 : items[item].places, .fresh = true};
     enum result result = GOES_ON;
     find_path(item);
     size_t length = path_length;
@@ -300,7 +308,8 @@ static enum result try_item(uint32_t item) {
         if (has_news())
             return IS_DONE; /* the search begins again */
         switch (stop) {
-        case AT_PLACE: result = at_place(&t, length, &past); break;
+        case AT_PLACE:
+        case AT_INTERRUPTIBLE: result = at_place(&t, length, stop, &past); break;
         case AT_STOP: result = at_turn_end(&t, length, STOPPED); break;
         case AT_WAIT: result = at_turn_end(&t, length, WAITS); break;
         case AT_SPENT: result = at_turn_end(&t, length, SPENT); break;
@@ -309,8 +318,8 @@ static enum result try_item(uint32_t item) {
             result = IS_DONE;
         }
     }
-    if (t.choices > tally->most_places)
-        tally->most_places = t.choices;
+    if (t.places > tally->most_places)
+        tally->most_places = t.places;
     return result;
 }
 

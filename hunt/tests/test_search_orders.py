@@ -3,12 +3,14 @@
 import unittest
 
 from all_ends import met_ends
+from lib.engine import Options
 from small_programs import (EXIT, LR, OWN, RESULTS, SC, SHARED, SPAWN, add, addi, atomic, beq, bne, call, explored, image_of, lw, random_program,
                             reserving_step, sees, sets, slli, step, sw, waiting_step)
 from test_search import CAN_BUILD, NO_COMPILER
 
 A, B, FLAG, Q, SEEN, ANSWER = SHARED, SHARED + 4, SHARED + 8, SHARED + 12, RESULTS, RESULTS + 4
-BUFFER, REQUEST = 0x700, 8
+BUFFER = 0x700
+HANDLER, IRET, REQUEST = 6, 7, 8
 CODE_OF_SECOND = 0x100
 SPAWNS = [addi(10, 0, CODE_OF_SECOND), addi(11, 0, 0), addi(12, 0, 0), *call(SPAWN)]
 ENDS = [addi(10, 0, 0), *call(EXIT)]
@@ -95,6 +97,12 @@ class WhatASwitchChanges(unittest.TestCase):
         asks = [addi(10, 0, BUFFER), addi(11, 0, 4), *call(REQUEST)]
         how, met, hang = met_ends(laid([*asks, *asks, bne(10, 0, -16), *ENDS]))
         self.assertEqual((how, met, hang), ("all", {(0, 0, 0): 0}, False))
+
+    def test_interrupt_between_any_instructions(self):
+        """A handler sees the registers, so it matters to it between which instructions it comes."""
+        met = self.outcomes([addi(10, 0, CODE_OF_SECOND), *call(HANDLER), addi(5, 5, 1), addi(5, 5, 1), addi(5, 5, 1), *ENDS],
+                            [sw(5, SEEN), *call(IRET)], options=Options(raises=((0, 1),)))
+        self.assertEqual({seen: forced for (_, _, seen), forced in met.items()}, {0: 0, 1: 1, 2: 1, 3: 1})
 
 
 if __name__ == "__main__":
