@@ -75,7 +75,8 @@ class Job:
         except NoWord as error:
             raise BadCondition("%s: %s" % error.args) from None
         raises = tuple(map(read_raise, getattr(given, "raises", ())))
-        self.options = Options(given.seed, given.input, given.tick, given.turn, given.steps, raises, given.log_version)
+        self.options = Options(given.seed, given.input, given.tick, given.turn, given.steps, raises, given.log_version,
+                               getattr(given, "all_places", False))
         self.judge = Judge(given.image, given.memory, self.condition)
 
     def engine(self, answers=(), dmas=()):
