@@ -165,15 +165,27 @@ static void do_search(char *rest) {
     printf("end %s\n", finishes[finish]);
 }
 
-static void do_guide(bool in_full) {
+static void do_guide(const char *rest, bool in_full) {
     static const char *const outcomes[] = {"good", "bad", "limited"};
+    unsigned manner, until;
+    if (sscanf(rest, "%u %u", &manner, &until) != 2)
+        fail("no manner");
     ready();
-    printf("outcome %s\n", outcomes[guided(&run, guide, guide_count, &bad)]);
+    struct guide how = {.turns = guide, .count = guide_count, .manner = manner, .until = until};
+    printf("outcome %s\n", outcomes[guided(&run, &how, &bad)]);
     if (in_full)
         tell_run();
     else
         tell_turns();
     printf("end guide\n");
+    guide_count = 0;
+}
+
+static void do_without_idle_steps(void) {
+    ready();
+    without_idle_steps(&run, guide, guide_count);
+    tell_turns();
+    printf("end turns\n");
     guide_count = 0;
 }
 
@@ -195,8 +207,9 @@ static void take_line(char *line) {
     else if (strcmp(line, "turn") == 0) take_turn(rest);
     else if (strcmp(line, "search") == 0) do_search(rest);
     else if (strcmp(line, "ready") == 0) ready(), printf("ready\n");
-    else if (strcmp(line, "guide") == 0) do_guide(false);
-    else if (strcmp(line, "tell") == 0) do_guide(true);
+    else if (strcmp(line, "guide") == 0) do_guide(rest, false);
+    else if (strcmp(line, "tell") == 0) do_guide(rest, true);
+    else if (strcmp(line, "without-idle-steps") == 0) do_without_idle_steps();
     else fail("no such line");
 }
 
