@@ -1,11 +1,13 @@
 /* Searches orders of a program's commits, or plays one that it is led by. It is told on standard input what to do, a line at a
    time, by the programs beside this folder, and answers on standard output. */
+#define _POSIX_C_SOURCE 200809L
 #include "condition.h"
 #include "emit.h"
 #include "guide.h"
 #include "run.h"
 #include "search.h"
 
+#include <signal.h>
 #include <stdio.h>
 #include <stdlib.h>
 #include <string.h>
@@ -147,7 +149,7 @@ static void tell_run(void) {
 }
 
 static void do_search(char *rest) {
-    static const char *const finishes[] = {"found", "bound", "all", "tries", "seconds", "states"};
+    static const char *const finishes[] = {"found", "bound", "all", "tries", "seconds", "states", "stopped"};
     struct limits limits;
     struct tally tally = {.tries = 0};
     unsigned long long tries, states;
@@ -213,8 +215,21 @@ static void take_line(char *line) {
     else fail("no such line");
 }
 
+static void on_interrupt(int signal) {
+    (void)signal;
+    interrupt_search();
+}
+
+/* Ctrl-C comes to this program too. It ends a search, which then says what it has covered. */
+static void take_interrupts(void) {
+    struct sigaction action = {.sa_handler = on_interrupt, .sa_flags = SA_RESTART};
+    sigemptyset(&action.sa_mask);
+    sigaction(SIGINT, &action, NULL);
+}
+
 int main(void) {
     static char line[1 << 17];
+    take_interrupts();
     while (fgets(line, sizeof line, stdin) != NULL) {
         line[strcspn(line, "\n")] = 0;
         take_line(line);

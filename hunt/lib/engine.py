@@ -11,6 +11,7 @@ import hashlib
 import os
 from pathlib import Path
 import shutil
+import signal
 import subprocess
 import tempfile
 
@@ -30,7 +31,8 @@ Turn = namedtuple("Turn", "actor steps value end")
 # thread that is live its commits until it is back in this state, as (size, Input or None), or None. answers: (thread, Input).
 Told = namedtuple("Told", "leaf turns log account loops answers")
 Bound = namedtuple("Bound", "bound tries states places shared seconds")
-# how: found, bound (all up to the greatest bound are done), all (there are no more orders), tries, seconds or states.
+# how: found, bound (all up to the greatest bound are done), all (there are no more orders), tries, seconds or states (a limit was
+# met), or stopped (by Ctrl-C).
 Search = namedtuple("Search", "how bounds tries ended hung limited spent places bound told")
 # threads: the most that there may be, or None for as many as the version has.
 Options = namedtuple("Options", "seed input tick turn steps raises version threads",
@@ -143,7 +145,14 @@ class Engine:
     # ------------------------------------------------------------ what it does
 
     def search(self, switches, tries, states, seconds, on_bound=lambda bound: None):
-        self.send("search %d %d %d %f" % (switches, tries, states, seconds))
+        before = signal.signal(signal.SIGINT, lambda *_: self.process.send_signal(signal.SIGINT))
+        try:
+            self.send("search %d %d %d %f" % (switches, tries, states, seconds))
+            return self.read_search(on_bound)
+        finally:
+            signal.signal(signal.SIGINT, before)
+
+    def read_search(self, on_bound):
         bounds, told = [], None
         while (words := self.line())[0] == "bound":
             bounds.append(Bound(*map(int, words[1:10:2]), float(words[11])))

@@ -23,7 +23,7 @@ def run(name, main):
         try:
             status = main()
         finally:
-            sys.stdout.flush()
+            print(end="", flush=True)
     except KeyboardInterrupt:
         signal.signal(signal.SIGINT, signal.SIG_IGN)
         print("%s: stopped" % name, file=sys.stderr)
