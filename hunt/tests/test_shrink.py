@@ -19,7 +19,7 @@ from lib.logtext import packed
 from lib.recording import Recording
 from lib.symbols import Names
 from recordings_of_seeds import FAILING, gone_on, recorded, sphere_of
-from small_programs import SHARED, addi, beq, call, lw, sw
+from small_programs import LR, SC, SHARED, addi, atomic, beq, call, lw, sw
 from test_search import CAN_BUILD, NO_COMPILER, command, laid, written
 
 
@@ -213,6 +213,23 @@ class Idle(Shrunk):
                              [line for line in before.state if " live " not in line], example.folder.name)
             steps = [sum(turn.steps for turn in turns if turn.actor < 63) for turns in (recording.turns, useful)]
             self.assertLessEqual(steps[1], steps[0])
+
+    def test_reservation_is_of_one_chunk(self):
+        """Thread 0 reserves again and again, and stores as soon as thread 1 says so. Its last reservation isn't idle, although the
+        thread was in that state before, since that was in another chunk."""
+        code = laid(addi(10, 0, 256), addi(11, 0, 0), addi(12, 0, 0), *call(1), addi(6, 0, SHARED), addi(13, 0, SHARED + 4),
+                    atomic(LR, 7, 6, 0), lw(8, SHARED + 8), beq(8, 0, 20), atomic(SC, 9, 6, 6), addi(10, 9, 0), *call(0),
+                    atomic(SC, 9, 13, 6), beq(0, 0, -32))
+        code |= {256 + at: word for at, word in laid(addi(7, 0, 1), sw(7, SHARED + 8), addi(10, 0, 0), *call(0)).items()}
+        sizes = (0, 4), (0, 0), (0, 12), (1, 4), (1, 0), (0, 6), (0, 0)
+        text = "log 1 order-size 4096 7\n" + "".join("p %d %d %d\n" % (j, *size) for j, size in enumerate(sizes))
+        with written(code) as file:
+            job = self.job(file.name, 4096)
+            recording = Recording(job, write_log(packed(text)))
+            self.assertEqual(recording.at_log_end.threads, [("ended", 0)] * 2)
+            with job.engine(condition=[]) as engine:
+                useful = engine.without_idle_steps(recording.turns)
+                self.assertEqual(Ended(engine.told(useful, EXACTLY, TO_LAST_TURN)[1].account).threads, [("ended", 0)] * 2)
 
     @staticmethod
     def job(image, memory):
