@@ -66,11 +66,12 @@ class Tries:
     def found(self, aim):
         """The aim, the measure of the least run that it led to, and that run as Told."""
         with self.job.engine(self.recording.answers, self.recording.dmas, aim.condition) as engine:
-            self.shrinkers.append(Shrinker(engine, aim.until, self.deadline))
-            least = self.shrinkers[-1].shrunk(self.recording.turns)
+            shrinker = Shrinker(engine, aim.until, self.deadline)
+            self.shrinkers.append(shrinker)
+            least = shrinker.shrunk(self.recording.turns)
             if least is None:
                 raise Differs("the engine loses the log's end")
-            return aim, measure(least.turns), self.shrinkers[-1].told(least)
+            return aim, measure(least), shrinker.told()
 
     def least(self, aims):
         """Of the first aim, or of a later one if that has fewer forced switches."""
@@ -86,5 +87,5 @@ class Tries:
         least = [shrinker.least for shrinker in self.shrinkers if shrinker.least]
         if not least:
             return "nothing was tried yet, and nothing is written"
-        forced, switches, *_ = min(measure(run.turns) for run in least)
+        forced, switches, *_ = min(map(measure, least))
         return "in %s it came down to %s, %d forced; nothing is written" % (runs, counted(switches, "switch"), forced)
