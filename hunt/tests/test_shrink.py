@@ -11,7 +11,7 @@ from unittest import mock
 import support
 from lib import searching
 from lib.conditions import Ended, read_condition
-from lib.engine import EXACTLY, TO_LAST_TURN, Engine
+from lib.engine import EXACTLY, TO_LAST_TURN, Engine, Turn
 from lib.image import read_image
 from lib.judge import Judge
 from lib.logs import read_log, write_log
@@ -19,7 +19,7 @@ from lib.logtext import packed
 from lib.recording import Recording
 from lib.symbols import Names
 from recordings_of_seeds import FAILING, gone_on, recorded, sphere_of
-from small_programs import LR, SC, SHARED, addi, atomic, beq, call, lw, sw
+from small_programs import ADD, LR, SC, SHARED, addi, atomic, beq, call, lw, sw
 from test_search import CAN_BUILD, NO_COMPILER, command, laid, written
 
 
@@ -213,6 +213,22 @@ class Idle(Shrunk):
                              [line for line in before.state if " live " not in line], example.folder.name)
             steps = [sum(turn.steps for turn in turns if turn.actor < 63) for turns in (recording.turns, useful)]
             self.assertLessEqual(steps[1], steps[0])
+
+    def test_rounds_that_change_something(self):
+        """A thread that comes back to where it was isn't idle if it has stored or printed meanwhile."""
+        stores = laid(addi(6, 0, SHARED), addi(7, 0, 1), atomic(ADD, 0, 6, 7), addi(0, 0, 0), beq(0, 0, -8))
+        prints = laid(addi(10, 0, 8), addi(11, 0, 0), addi(12, 0, 1), *call(2), addi(10, 0, 0), beq(0, 0, -24))
+        waits = laid(lw(7, SHARED), beq(7, 0, -4))
+        for code, idle in (stores, 0), (prints, 0), (waits, 59):
+            with written(code) as file:
+                job = self.job(file.name, 4096)
+                with job.engine(condition=[]) as engine:
+                    told = engine.told([Turn(0, 60, 0, "forced")], EXACTLY, TO_LAST_TURN)[1]
+                    recording = Recording(job, write_log(told.log))
+                    useful = engine.without_idle_steps(recording.turns)
+                    again = Ended(engine.told(useful, EXACTLY, TO_LAST_TURN)[1].account)
+                self.assertEqual((again.rows, again.console), (recording.at_log_end.rows, recording.at_log_end.console))
+                self.assertLessEqual(sum(turn.steps for turn in useful), 60 - idle)
 
     def test_reservation_is_of_one_chunk(self):
         """Thread 0 reserves again and again, and stores as soon as thread 1 says so. Its last reservation isn't idle, although the
