@@ -81,14 +81,13 @@ void end_turn(struct run *r, enum turn_end end) {
     r->current = NO_ONE;
 }
 
-/* Where interrupts may come, a handler may find a lock that its own thread holds, so there marks say nothing. */
 static bool is_acquire(const struct run *r, const struct thread *t) {
     const struct setup *s = r->machine.setup;
-    return s->acquires != NULL && r->raise_count == 0 && t->pc < s->size && s->acquires[t->pc / 4];
+    return r->minds_marks && s->acquires != NULL && t->pc < s->size && s->acquires[t->pc / 4];
 }
 
 static bool is_blocked(struct run *r, const struct thread *t) {
-    if (r->tries_locks || t->status != LIVE || !is_acquire(r, t))
+    if (t->status != LIVE || !is_acquire(r, t))
         return false;
     struct next next = next_of(&r->machine, t);
     return next.kind == MEMORY && word_at(&r->machine, next.address) != 0;
@@ -276,6 +275,18 @@ enum stop go_steps(struct run *r, uint64_t steps) {
     return AT_PLACE;
 }
 
+enum stop go_exactly(struct run *r, uint64_t steps) {
+    struct machine *m = &r->machine;
+    for (uint64_t j = 0; j < steps; j++) {
+        if (m->time >= r->step_limit)
+            return AT_LIMIT;
+        take_step(r, next_of(m, &m->threads[r->current]));
+        if (m->threads[r->current].status != LIVE)
+            return AT_STOP;
+    }
+    return AT_PLACE;
+}
+
 bool some_are_blocked(struct run *r) {
     for (uint32_t k = 0; k < r->machine.thread_count; k++)
         if (is_blocked(r, &r->machine.threads[k]))
@@ -287,11 +298,11 @@ void try_locks(struct run *r) {
     for (uint32_t k = 0; k < r->machine.thread_count; k++) {
         if (!is_blocked(r, &r->machine.threads[k]))
             continue;
-        r->tries_locks = true;
+        r->minds_marks = false;
         begin_turn(r, k);
         enum stop stop = go_steps(r, r->turn_limit);
         end_turn(r, stop == AT_WAIT ? WAITS : stop == AT_STOP ? STOPPED : SPENT);
-        r->tries_locks = false;
+        r->minds_marks = true;
     }
 }
 

@@ -25,7 +25,7 @@ struct turn {
 struct run {
     struct machine machine;
     bool all_places;  /* each access to a shared word is a place */
-    bool tries_locks; /* threads go on at locks that are held */
+    bool minds_marks; /* a thread before a marked instruction whose lock is held waits */
     struct raise raises[MOST_RAISES];
     uint32_t raise_count;
     uint64_t raised; /* which of them have come, as bits */
@@ -55,6 +55,8 @@ void end_turn(struct run *r, enum turn_end end);
 enum stop go_on(struct run *r, bool past);
 /* The current thread goes on for so many steps at most. */
 enum stop go_steps(struct run *r, uint64_t steps);
+/* The current thread does so many steps, also if it waits meanwhile. */
+enum stop go_exactly(struct run *r, uint64_t steps);
 /* A thread at a marked instruction whose lock is held is blocked: it waits, without having done it. */
 bool some_are_blocked(struct run *r);
 /* No thread goes on. Those that are blocked go on to the loops in which they wait. */

@@ -7,6 +7,7 @@
 #include "seen.h"
 #include "segments.h"
 
+#include <signal.h>
 #include <stdio.h>
 #include <string.h>
 
@@ -195,11 +196,14 @@ static enum result at_leaf(void) {
     bool blocked = some_are_blocked(run);
     if (blocked) {
         keep_run(&kept, run);
+        learn(false); /* what comes now is for the log alone */
         try_locks(run);
     }
     enum result result = judge_leaf();
-    if (blocked && result != IS_BAD)
+    if (blocked && result != IS_BAD) {
         take_back_run(&kept, run);
+        learn(true);
+    }
     return result;
 }
 
@@ -320,8 +324,14 @@ static enum result try_first(void) {
 
 /* ---------------------------------------------------------------- families */
 
+static volatile sig_atomic_t interrupted;
+
+void interrupt_search(void) { interrupted = 1; }
+
 static bool limit_is_met(enum finish *which) {
-    if (tally->tries >= limits->tries)
+    if (interrupted)
+        *which = INTERRUPTED;
+    else if (tally->tries >= limits->tries)
         *which = OUT_OF_TRIES;
     else if (seen_is_full())
         *which = OUT_OF_STATES;
@@ -424,8 +434,10 @@ enum finish search(struct run *r, const struct condition *bad_, const struct lim
     limits = limits_;
     tally = tally_;
     ends_at = started + limits->seconds;
+    learn(true);
     start_seen(limits->states);
     every_shared_word_is_a_place(run->all_places || run->raise_count > 0);
+    run->minds_marks = !run->all_places && run->raise_count == 0;
     send_scouts(run, limits->seconds / 10);
     uint32_t known = knowledge();
     for (start_over();;) {
