@@ -86,11 +86,12 @@ static bool is_acquire(const struct run *r, const struct thread *t) {
     return r->minds_marks && s->acquires != NULL && t->pc < s->size && s->acquires[t->pc / 4];
 }
 
+static bool is_blocked_at(const struct run *r, const struct thread *t, struct next next) {
+    return is_acquire(r, t) && next.kind == MEMORY && word_at(&r->machine, next.address) != 0;
+}
+
 static bool is_blocked(struct run *r, const struct thread *t) {
-    if (t->status != LIVE || !is_acquire(r, t))
-        return false;
-    struct next next = next_of(&r->machine, t);
-    return next.kind == MEMORY && word_at(&r->machine, next.address) != 0;
+    return t->status == LIVE && is_acquire(r, t) && is_blocked_at(r, t, next_of(&r->machine, t));
 }
 
 static bool is_place(const struct run *r, const struct thread *t, struct next next) {
@@ -110,10 +111,10 @@ static bool is_place(const struct run *r, const struct thread *t, struct next ne
     }
 }
 
-static void take_step(struct run *r, struct next next) {
+static void do_step(struct run *r, struct next next, bool at_place) {
     struct served served;
     present(r)->steps++;
-    if (is_place(r, &r->machine.threads[r->current], next))
+    if (at_place)
         begin_segment(r->current);
     else
         go_on_in_segment();
@@ -123,6 +124,10 @@ static void take_step(struct run *r, struct next next) {
         run_access(&r->machine, r->current, next.address, NULL);
     else
         serve(&r->machine, r->current, next, &served);
+}
+
+static void take_step(struct run *r, struct next next) {
+    do_step(r, next, is_place(r, &r->machine.threads[r->current], next));
 }
 
 static bool same_thread(const struct thread *t, const struct thread *u) { return memcmp(t, u, sizeof *t) == 0; }
@@ -227,9 +232,9 @@ static bool is_spent(const struct run *r) {
 }
 
 /* One step, then how it stands. AT_PLACE means that nothing has ended. */
-static enum stop step_on(struct run *r, struct next next) {
+static enum stop step_on(struct run *r, struct next next, bool at_place) {
     struct machine *m = &r->machine;
-    take_step(r, next);
+    do_step(r, next, at_place);
     if (m->threads[r->current].status != LIVE)
         return AT_STOP;
     if (comes_again(r)) {
@@ -252,13 +257,14 @@ enum stop go_on(struct run *r, bool past) {
     for (;; past = false) {
         const struct thread *t = &r->machine.threads[r->current];
         struct next next = next_of(&r->machine, t);
-        if (is_blocked(r, t))
+        bool at_place = is_place(r, t, next);
+        if (is_blocked_at(r, t, next))
             return AT_WAIT;
-        if (!past && is_place(r, t, next))
+        if (!past && at_place)
             return AT_PLACE;
         if (!past && is_interruptible(r))
             return AT_INTERRUPTIBLE;
-        enum stop stop = step_on(r, next);
+        enum stop stop = step_on(r, next, at_place);
         if (stop != AT_PLACE)
             return stop;
     }
@@ -266,9 +272,11 @@ enum stop go_on(struct run *r, bool past) {
 
 enum stop go_steps(struct run *r, uint64_t steps) {
     for (uint64_t j = 0; j < steps; j++) {
-        if (is_blocked(r, &r->machine.threads[r->current]))
+        const struct thread *t = &r->machine.threads[r->current];
+        struct next next = next_of(&r->machine, t);
+        if (is_blocked_at(r, t, next))
             return AT_WAIT;
-        enum stop stop = step_on(r, next_of(&r->machine, &r->machine.threads[r->current]));
+        enum stop stop = step_on(r, next, is_place(r, t, next));
         if (stop != AT_PLACE && stop != AT_SPENT)
             return stop;
     }
