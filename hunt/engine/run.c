@@ -98,7 +98,7 @@ static bool is_place(const struct run *r, const struct thread *t, struct next ne
     switch (next.kind) {
     case LOCAL:
         return is_place_word(t->pc);
-    case MEMORY: /* whoever is left after an LR loses the reservation, so an LR, and an SC that has it, can't be moved over a switch */
+    case MEMORY: /* whoever is left loses the reservation, so neither an LR nor an SC that has it can be moved over a switch */
         return is_place_word(next.address) || is_place_word(t->pc) || is_acquire(r, t) || is_load_reserved(&r->machine, t)
                || (is_store_conditional(&r->machine, t) && has_reserved(&r->machine, t, next.address));
     case CALL: { /* an interrupt may come before any, and leaves another number in a7 */
@@ -166,7 +166,7 @@ static void look_around(struct run *r, uint64_t length, struct looks *looks) {
     }
 }
 
-/* It goes on to that state of the loop in which it waits, before the place of the least pc. The answer is how many places there are. */
+/* It goes on to that state of the loop in which it waits, before the place of the least pc. The answer is how many places it has. */
 static uint32_t settle(struct run *r, uint64_t length) {
     struct machine *m = &r->machine;
     struct thread *t = &m->threads[r->current];
