@@ -11,10 +11,10 @@ use Rattle.spec_play.specs.Epochs.{Epoch, Epochs, with_epoch, given_up}
 use Rattle.spec_play.specs.Noted.{Recorded, as_log}
 use Rattle.spec_play.specs.Progress.{position}
 use Rattle.spec_play.specs.declared.used.Used.{Used}
-use Rattle.spec_protocol.specs.machine.Epochs as protocol
-use Rattle.spec_protocol.specs.machine.Epochs.{epoch_at, state_in, trimmed_by, epoch_begun}
-use Rattle.spec_protocol.specs.machine.Spheres.{Sphere, Role, Record}
-use Rattle.spec_protocol.specs.promises.Sound.{AreFresh}
+use Rattle.spec_sphere.specs.sphere.Epochs as protocol
+use Rattle.spec_sphere.specs.sphere.Epochs.{epoch_at, state_in, trimmed_by, epoch_begun}
+use Rattle.spec_sphere.specs.sphere.Spheres.{Sphere, Role, Record}
+use Rattle.spec_sphere.specs.promises.Sound.{AreFresh}
 use Rattle.dl_record.specs.Epochs as recorder
 use Rattle.dl_record.specs.Epochs.{InEpochs, base, due_in, left_of}
 use Rattle.dl_kernel.specs.declared.past.Past.{Past}

@@ -3,8 +3,8 @@ use Rattle.std.proofs.Common.{◌≡◌, ℕ, ◌+◌, ◌%◌, false, not, ◌&
 use Rattle.spec_play.specs.Epochs as play
 use Rattle.spec_play.specs.Epochs.{Epoch, Epochs}
 use Rattle.spec_play.specs.declared.used.Used.{Used}
-use Rattle.spec_protocol.specs.machine.Epochs as protocol
-use Rattle.spec_protocol.specs.promises.Kept.{is_due_if, has_due}
+use Rattle.spec_sphere.specs.sphere.Epochs as protocol
+use Rattle.spec_sphere.specs.promises.Kept.{is_due_if, has_due}
 use Rattle.dl_kernel.specs.declared.past.Past.{Past}
 use Rattle.dl_kernel.specs.InOrder.{listed}
 use Rattle.dl_record.specs.Epochs.{due_in}

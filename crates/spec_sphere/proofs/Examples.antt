@@ -1,0 +1,2 @@
+-- Small machines, event by event, and a setup within the limits.
+pub mod Spawning

@@ -1,0 +1,11 @@
+-- Within the limits of a setup every world is sound: its words, threads, chunks, devices and logs.
+pub mod Words
+pub mod Threads
+pub mod Devices
+pub mod Limits
+pub mod Commits
+pub mod Moves
+pub mod Transfers
+pub mod Plays
+pub mod Between
+pub mod Instructions
