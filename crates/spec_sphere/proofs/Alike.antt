@@ -1,4 +1,4 @@
--- What recordings in epochs have of earlier commits makes no difference to events.
+-- What a recording in epochs has of earlier commits makes no difference to its sphere.
 pub mod Forgetting
 pub mod Beginning
 pub mod Sound

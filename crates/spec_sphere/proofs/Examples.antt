@@ -1,2 +1,2 @@
--- Small machines, event by event, and a setup within the limits.
+-- A small sphere that is asked for one thread more than a log of version 1 can have.
 pub mod Spawning

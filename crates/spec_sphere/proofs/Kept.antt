@@ -2,5 +2,3 @@
 pub mod Cutting
 pub mod Shortening
 pub mod Masked
-pub mod Showing
-pub mod Roles

@@ -1,3 +1,3 @@
--- What memory shows while words fly: stores laid over it, what signatures cover, and what chunks see.
+-- Stores laid over a memory, and what runs see of it.
 pub mod Laying
 pub mod Running

@@ -1,4 +1,4 @@
--- What an event can come to; and what one move makes of its sphere, its threads and the devices, and what it leaves alone.
+-- What one move makes of its sphere, its threads and the devices, and what it leaves alone.
 pub mod Joining
 pub mod Granted
 pub mod AnyMemory

@@ -1,4 +1,4 @@
--- The play of a recorded log does as the recording did.
+-- The play of a recorded log does as the recording did: move by move, in one sphere.
 pub mod Following
 pub mod Commits
 pub mod Verdicts

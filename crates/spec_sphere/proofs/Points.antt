@@ -1,4 +1,4 @@
--- Points done one at a time leave what the machine leaves: its spheres, its logs and its console.
+-- What points tell of one sphere: its log and what it puts on the console.
 pub mod OneMore
 pub mod Noted
 pub mod KeptLogs

@@ -1,5 +1,4 @@
--- How a replayed sphere stands to its log: whose turn it is, what is used of the log, and the pieces of a commit.
-pub mod Pieces
+-- How a replayed sphere stands to its log: whose turn it is, and what is used of the log.
 pub mod Order
 pub mod Turns
 pub mod Uses

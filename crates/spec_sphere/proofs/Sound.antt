@@ -1,4 +1,4 @@
--- Within the limits of a setup every world is sound: its words, threads, chunks, devices and logs.
+-- What each move leaves of a sound sphere is sound: its words, threads, devices and logs.
 pub mod Words
 pub mod Threads
 pub mod Devices

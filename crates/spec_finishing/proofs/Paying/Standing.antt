@@ -18,7 +18,7 @@ use Rattle.spec_finishing.specs.Rank.{price, spheres_rank}
 use Rattle.spec_finishing.proofs.Paying.GoingOn.{GoesOn, dma-next}
 use Rattle.spec_finishing.proofs.Paying.Serial.{dma-pays}
 use Rattle.spec_finishing.proofs.Paying.Moves.{what_most, sphere_most, move_most, what_more, what_own, chunk_paid, serial_paid, dma_paid}
-use Rattle.spec_sphere.proofs.Replays.Pieces.{no_raise}
+use Rattle.spec_sphere.proofs.Replays.Turns.{no_raise}
 
 -- every sphere has its image, and every replay that goes on is beside its play
 pub record AllGoOn (s : Setup) (x : SerialState) : Type 0 where

@@ -12,8 +12,6 @@ use Rattle.spec_sphere.specs.promises.Alike.{forgotten}
 use Rattle.spec_protocol.specs.promises.Alike.{AreAlike, HaveAllBegun}
 use Rattle.spec_sphere.proofs.Alike.Beginning.{epoch-alike, HasBegun}
 
--- ---- in all
-
 rows_alike : (slots : List (Option Flight)) (i : ℕ) (ps : List Sphere) → All HasBegun ps → map forgotten (begun_from slots i ps) ≡ map forgotten ps
 rows_alike slots i [] h = refl
 rows_alike slots i (p ∷ ps) h =

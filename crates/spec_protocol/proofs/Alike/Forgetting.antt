@@ -1,4 +1,4 @@
--- A sphere that has forgotten what it recorded acts as before.
+-- In a world whose spheres have forgotten what they recorded chunks begin as before.
 use Rattle.std.proofs.Common.{◌≡◌, ℕ, List, Option, Some, None, refl}
 use Rattle.std.specs.Prelude.{slice_get}
 use Rattle.std.proofs.Math.ListN.{get_or-map}
@@ -12,7 +12,7 @@ use Rattle.spec_sphere.specs.promises.Alike.{role_without, forgotten}
 use Rattle.spec_protocol.specs.promises.Alike.{all_forgotten}
 use Rattle.spec_sphere.proofs.Alike.Forgetting.{rows-twice}
 
--- ---- rows
+-- ---- one sphere of a world
 
 -- a sphere among those that have forgotten is the sphere, which has forgotten
 pub sphere-forgotten : (w : World) (i : ℕ) → sphere_at (all_forgotten w) i ≡ forgotten (sphere_at w i)
@@ -24,7 +24,7 @@ sphere-forgotten w i = get_or-map forgotten w.spheres i no_sphere
 pub all-twice : (w : World) → all_forgotten (all_forgotten w) ≡ all_forgotten w
 all-twice w = (λ j. record w { spheres = rows-twice w.spheres j })
 
--- ---- what roles say
+-- ---- where a chunk begins
 
 younger_in : (z : Numbers) (n : ℕ) (r : Role) (h : Occupant) (o : Option Chunk) → younger_for z (role_without n r) h o ≡ younger_for z r h o
 unfolding limit_after

@@ -1,4 +1,4 @@
--- Two spheres that are alike are the same if they aren't recorded in epochs; and what worlds that are alike show is alike.
+-- What worlds that are alike show is alike.
 use Rattle.std.proofs.Common.{◌≡◌, ℕ, suc, zero, List, [], ◌∷◌, map, Option, Some, refl, ap, subst}
 use Rattle.std.specs.Prelude.{slice_get}
 use Rattle.std.proofs.lemmas.Option.{none-some, same_Some}
@@ -11,8 +11,6 @@ use Rattle.spec_protocol.specs.machine.World.{World}
 use Rattle.spec_sphere.specs.promises.Alike.{forgotten}
 use Rattle.spec_protocol.specs.promises.Alike.{AreAlike}
 use Rattle.spec_sphere.proofs.Alike.Shown.{IsShownAs, head_same, tail_same}
-
--- ---- what is shown
 
 shown_as : (slots : List (Option Flight)) (i : ℕ) (p q : Sphere) → forgotten p ≡ forgotten q → forgotten (shown slots i p) ≡ forgotten (shown slots i q)
 unfolding shown

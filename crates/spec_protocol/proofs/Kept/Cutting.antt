@@ -1,4 +1,4 @@
--- The points up to a number of commits of a sphere, and those after it.
+-- The points up to a number of commits of a sphere, and those after it, done one at a time.
 use Rattle.std.proofs.Common.{◌≡◌, ◌≢◌, ℕ, suc, ◌+◌, inl, inr, Bool, true, false, cond, List, [], ◌∷◌, ◌++◌, length, refl, sym, ap, ◌∙◌, arith}
 use Rattle.std.specs.Prelude.{slice_get}
 use Rattle.std.proofs.lemmas.Bool.{true≢false, cases_Bool, eq-eqb}
@@ -11,8 +11,6 @@ use Rattle.spec_protocol.proofs.Invariants.Preserved.{sphere_of_point}
 use Rattle.spec_sphere.proofs.Points.OneMore.{points_so}
 use Rattle.spec_protocol.proofs.Points.OneByOne.{supplied_at, point-away, of-sphere, one-more}
 use Rattle.spec_sphere.proofs.Kept.Cutting.{commits_among, own_commit, other_commit, actors_first, one_counted}
-
--- ---- done one at a time
 
 -- points done after others
 pub do-append : (x : SerialState) (ps qs : List Point) → do_points x (ps ++ qs) ≡ do_points (do_points x ps) qs

@@ -17,7 +17,7 @@ use Rattle.spec_sphere.specs.sphere.Spheres.{Cursor, Role, Plain, Record, Replay
 use Rattle.spec_sphere.specs.sphere.Commits.{MovedSphere, joined, by_verdict, replayed_chunk, chunk_in, chunk_moved, serial_in, serial_moved, live_dma, dma_log, dma_by_verdict, dma_in, dma_moved, role_raised, raised, laid}
 use Rattle.spec_engine.specs.Closing.{is_piece, is_short}
 use Rattle.spec_protocol.specs.machine.World.{Numbers, World, MoveKind, OfChunk, OfSerial, OfDma, OfRaise, Move, sphere_at}
-use Rattle.spec_sphere.specs.sphere.Setups.{RoleSetup, IsPlain, IsRecorded, IsReplayed, SphereSetup, sphere_as, sphere_of}
+use Rattle.spec_sphere.specs.sphere.Setups.{RoleSetup, IsPlain, IsRecorded, IsReplayed, SphereSetup, sphere_as, sphere_of, new_epochs}
 use Rattle.spec_protocol.specs.machine.Machine.{Setup, world_of, moves}
 use Rattle.spec_protocol.specs.machine.Serial.{SerialState, serial_start, do_serial, do_dma, do_raise}
 use Rattle.spec_protocol.specs.machine.Moves.{move_chunk, do_by_kind, do_at, do_move, do_moves}
@@ -25,7 +25,6 @@ use Rattle.spec_protocol.specs.machine.Shown.{shown, shown_from}
 use Rattle.spec_protocol.specs.promises.Promises.{IsSetup, after}
 use Rattle.spec_sphere.specs.promises.Alike.{epochs_in}
 use Rattle.spec_protocol.proofs.Invariants.Schedules.{moves_are, start-sphere}
-use Rattle.spec_sphere.proofs.Kept.Roles.{epochs_of_role}
 
 -- ---- a move keeps what a sphere's role is
 
@@ -135,6 +134,12 @@ shown_keeps slots i [] = refl
 shown_keeps slots i (p ∷ ps) = (λ j. shown_at slots i p j ∷ shown_keeps slots (suc i) ps j)
 
 -- ---- after any events
+
+-- the epochs that a role begins with
+abbrev pub epochs_of_role : RoleSetup → Option Epochs
+epochs_of_role IsPlain = None
+epochs_of_role (IsRecorded asked) = new_epochs asked.epochs
+epochs_of_role (IsReplayed asked) = None
 
 start_at : (z : ℕ) (image : SphereSetup) (r : RoleSetup) → epochs_at (sphere_as z image r) ≡ epochs_of_role r
 start_at z image IsPlain = refl

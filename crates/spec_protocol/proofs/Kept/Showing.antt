@@ -24,7 +24,6 @@ use Rattle.spec_protocol.proofs.Points.Serial.{Agrees}
 use Rattle.spec_protocol.proofs.Points.OneByOne.{HoldsIn, supplied_at, of-sphere, one-more}
 use Rattle.spec_sphere.proofs.Points.KeptLogs.{Keeping, Keeps}
 use Rattle.spec_protocol.proofs.Alike.Good.{sphere-alike}
-use Rattle.spec_sphere.proofs.Kept.Showing.{AsksAs}
 
 -- ---- alike
 
@@ -48,6 +47,12 @@ holds-shown how i cs x y p a e k =
     ]
 
 -- ---- what comes from outside
+
+-- spheres that get the same from outside
+pub record AsksAs (p q : Sphere) : Type 0 where
+  pub memory : p.memory ≡ q.memory
+  pub threads : p.threads ≡ q.threads
+  pub request : p.progress.request ≡ q.progress.request
 
 answer_same : (d : Devices) (moment : ℕ) (p q : Sphere) (o : Option Parts) → p.memory ≡ q.memory → answer_to d moment p o ≡ answer_to d moment q o
 answer_same d moment p q None same = refl

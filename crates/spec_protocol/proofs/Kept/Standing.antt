@@ -37,7 +37,7 @@ use Rattle.spec_protocol.proofs.Points.Logs.{how_kept, log_kept}
 use Rattle.spec_protocol.proofs.Alike.Good.{sphere-alike, spheres-alike, good-alike}
 use Rattle.spec_sphere.proofs.Kept.Cutting.{commits_among}
 use Rattle.spec_protocol.proofs.Kept.Cutting.{told-commits}
-use Rattle.spec_sphere.proofs.Kept.Showing.{position-alike}
+use Rattle.spec_sphere.proofs.Alike.Shown.{position-alike}
 use Rattle.spec_protocol.proofs.Kept.Showing.{memory-shown}
 
 -- ---- the whole sphere counts from 0

@@ -36,8 +36,7 @@ use Rattle.spec_protocol.proofs.Kept.Cutting.{do-append, supplied-append}
 use Rattle.spec_protocol.proofs.Kept.Tails.{done-among, among-since}
 use Rattle.spec_protocol.proofs.Kept.Dropping.{cut_at, recorded_so, IsCutIn, point-cut}
 use Rattle.spec_protocol.proofs.Kept.Holding.{how_since, keeps-since}
-use Rattle.spec_protocol.proofs.Kept.Showing.{holds-shown, supplied-same}
-use Rattle.spec_sphere.proofs.Kept.Showing.{AsksAs}
+use Rattle.spec_protocol.proofs.Kept.Showing.{holds-shown, supplied-same, AsksAs}
 use Rattle.spec_protocol.proofs.Kept.Standing.{Stand}
 
 -- ---- points more

@@ -49,8 +49,7 @@ use Rattle.spec_protocol.proofs.Kept.Due.{IsInLast, base-is, is-due, not-due}
 use Rattle.spec_protocol.proofs.Kept.Standing.{Stand, stands}
 use Rattle.spec_protocol.proofs.Kept.Stepping.{count-kept, held-since, base-among}
 use Rattle.spec_protocol.proofs.Kept.Events.{IsEarly, epoch-commits, early-in, event-kept}
-use Rattle.spec_sphere.proofs.Kept.Roles.{epochs_of_role}
-use Rattle.spec_protocol.proofs.Kept.Roles.{epochs-stay}
+use Rattle.spec_protocol.proofs.Kept.Roles.{epochs-stay, epochs_of_role}
 use Rattle.spec_protocol.proofs.Kept.Begun.{begun-kept}
 use Rattle.spec_protocol.proofs.Kept.Holding.{how_since}
 use Rattle.spec_protocol.proofs.Kept.Sound.{sound-forgotten}

@@ -1,4 +1,4 @@
--- Instructions and runs look at memory only by the words that they fetch and load.
+-- A running chunk looks at memory only by the words that it fetches and loads.
 use Rattle.std.proofs.Common.{ℕ, Bool, List, Option, Some, None, sym, ◌∙◌, subst}
 use Rattle.std.specs.Prelude.{IsSome}
 use Rattle.spec_isa.specs.Words.{lays}
@@ -10,8 +10,6 @@ use Rattle.spec_play.proofs.Local.Laying.{Agree-lays}
 use Rattle.spec_protocol.specs.promises.Currency.{Meets, seen_by, IsCurrent}
 use Rattle.spec_play.proofs.Local.Running.{one_local, kind_local, run_local}
 use Rattle.spec_sphere.proofs.Memory.Running.{Touches_local, RunTouches_local}
-
--- ---- a chunk
 
 Meets_local : (seen : ℕ → Bool) (m n : List ℕ) (r : Run) (o : Option How) → Agree seen (lays m r.words) (lays n r.words) → Meets seen m r o → Meets seen n r o
 Meets_local seen m n r None g meets = tt

@@ -1,4 +1,4 @@
--- What each move makes of a recorded sphere and of its log; and that the play of the log, in the end, follows it.
+-- What a chunk that the machine has run makes of a recorded sphere and of its log.
 use Rattle.std.proofs.Common.{◌≡◌, ℕ, ◌<◌, inl, inr, false, length, Some, None, refl, sym, ap, ◌∙◌, arith}
 use Rattle.std.specs.Prelude.{slice_get}
 use Rattle.std.proofs.lemmas.Bool.{true≢false, cases_eq}
@@ -18,8 +18,6 @@ use Rattle.spec_sphere.proofs.Logs.Growing.{commit_of}
 use Rattle.spec_sphere.proofs.PlayingBack.Commits.{commit-size}
 use Rattle.spec_sphere.proofs.PlayingBack.Verdicts.{run-stops, chunk-goes}
 use Rattle.spec_sphere.proofs.PlayingBack.Moves.{Grown, commit_grown, taken_turn, not_less, chunk-committed}
-
--- ---- a chunk
 
 some_ran : (z : Numbers) (recording : Recording) (p : Sphere) (k : ℕ) (t : Parts) (how : How) (n limit : ℕ) → p.role ≡ Record recording → 0 < z.capacity → ChunkFits z p k t how n limit → 0 < n
 some_ran z recording p k t How.Limit n limit role buffer f = let a = f.full refl in let b = f.positive in omega arith

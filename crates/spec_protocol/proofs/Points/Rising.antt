@@ -1,4 +1,4 @@
--- The interrupts of a recorded log rise: thread by thread, and for one thread each after more commits than the one before.
+-- The interrupts of every recorded log of a world rise.
 use Rattle.std.proofs.Common.{◌≡◌, ℕ, suc, List, [], Some, arith}
 use Rattle.std.specs.Prelude.{slice_get}
 use Rattle.dl_entry.specs.Numbers.{most_threads}
@@ -13,8 +13,6 @@ use Rattle.spec_sphere.proofs.Points.OneMore.{points_so, commits_of, are-ints}
 use Rattle.spec_protocol.proofs.Points.OneByOne.{HoldsIn, points-kept}
 use Rattle.spec_protocol.proofs.Points.Logs.{how_kept, start-kept}
 use Rattle.spec_sphere.proofs.Points.Rising.{KeepsRising, rising-by_points, rising-from}
-
--- ---- of all threads
 
 -- the interrupts of a recorded sphere's log rise
 pub recorded-rising : (s : Setup) (i : ℕ) (image : SphereSetup) (asked : RecordSetup) → slice_get s.spheres i ≡ Some image → image.role ≡ IsRecorded asked

@@ -29,7 +29,7 @@ use Rattle.spec_sphere.proofs.Moves.Joining.{may_go, joins-whole}
 use Rattle.spec_strata.proofs.Shares.Steps.{get-set_other, get-set_same}
 use Rattle.spec_protocol.proofs.Invariants.Preserved.{shown-get}
 use Rattle.spec_protocol.proofs.Invariants.Schedules.{happens-preserved, moves_are, invariants_hold}
-use Rattle.spec_sphere.proofs.Replays.Pieces.{no_raise}
+use Rattle.spec_sphere.proofs.Replays.Turns.{no_raise}
 
 -- ---- whose turn it is
 

@@ -1,5 +1,4 @@
--- A thread between two commits: it has no reservation, it has saved something only if it handles an interrupt, and if it has
--- faulted, there is such a cause.
+-- In every sphere of a world each thread is between two commits.
 use Rattle.std.proofs.Common.{◌≡◌, ℕ, List, [], length, Some, refl, sym, ap, ◌∙◌, subst}
 use Rattle.std.specs.Prelude.{slice_get}
 use Rattle.std.proofs.lemmas.Option.{get_or_from_slice_get}
@@ -12,8 +11,6 @@ use Rattle.spec_sphere.specs.sphere.Spheres.{Record, no_sphere}
 use Rattle.spec_protocol.proofs.Invariants.Schedules.{start-sphere}
 use Rattle.spec_protocol.proofs.Points.OneByOne.{HoldsIn, points-kept}
 use Rattle.spec_sphere.proofs.Sound.Between.{KeepsResting, resting-by_points, start-rest}
-
--- ---- all threads of a sphere
 
 -- so it is between two points
 pub sphere-rests : (s : Setup) (i : ℕ) (image : SphereSetup) (asked : RecordSetup) → slice_get s.spheres i ≡ Some image → image.role ≡ IsRecorded asked

@@ -1,5 +1,4 @@
--- Epochs of recordings: one begins at each multiple of their size, and the earliest is given up if there are too many. Between
--- two events, so that no event sees what is given up.
+-- Epochs begin between two events, in each sphere where one is due, so that no event sees what is given up.
 use Rattle.std.specs.Prelude.{ℕ, suc, ◌-◌, List, [], ◌∷◌, Option}
 use Rattle.spec_isa.specs.Words.{lays}
 use Rattle.spec_engine.specs.Flights.{Flight}
@@ -7,8 +6,6 @@ use Rattle.spec_sphere.specs.sphere.Spheres.{Sphere}
 use Rattle.spec_protocol.specs.machine.World.{World, sphere_at, with_sphere}
 use Rattle.spec_engine.specs.Flying.{flying}
 use Rattle.spec_sphere.specs.sphere.Epochs.{epoch_begun}
-
--- ---- an epoch begins
 
 -- in sphere i of a world alone
 abbrev pub begun_at : (i : ℕ) → World → World

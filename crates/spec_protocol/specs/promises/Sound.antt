@@ -1,4 +1,4 @@
--- What is sound: sizes and ranges that hold of every world which a setup within its limits comes to, beside the invariant.
+-- What is sound of a world: sizes and ranges that hold of every world which a setup within its limits comes to, beside the invariant.
 use Rattle.std.specs.Prelude.{◌≡◌, ℕ, ◌^◌, ◌<◌, ◌≤◌, true, List, length, slice_get, slice_index, slice_index_or, All, Some}
 use Rattle.dl_entry.specs.Numbers.{most_chunk}
 use Rattle.spec_isa.specs.Threads.{IsThread}

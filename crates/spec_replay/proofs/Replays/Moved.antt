@@ -33,7 +33,7 @@ use Rattle.spec_replay.proofs.Commits.Standing.{set_here}
 use Rattle.spec_replay.proofs.Commits.Judging.{alike_same}
 use Rattle.spec_replay.proofs.Commits.Done.{done_in, InOrder, Reaches, Beside, HasTurn, commit-reaches, transfer-reaches}
 use Rattle.spec_replay.proofs.Commits.LastParts.{chunk-reaches}
-use Rattle.spec_sphere.proofs.Replays.Pieces.{no_raise}
+use Rattle.spec_sphere.proofs.Replays.Turns.{no_raise}
 use Rattle.spec_replay.proofs.Replays.Keeping.{Stands}
 
 -- ---- whose turn it is

@@ -29,7 +29,7 @@ use Rattle.spec_protocol.specs.machine.Serial.{SerialState, do_moved, do_serial,
 use Rattle.spec_protocol.specs.machine.Moves.{move_chunk, do_by_kind, FitsChunk, ChunkFits, FitsSerial, DmaFits, FitsWhat}
 use Rattle.spec_sphere.proofs.Moves.Joining.{MayGo}
 use Rattle.spec_sphere.proofs.PlayingBack.Verdicts.{run-first}
-use Rattle.spec_sphere.proofs.Replays.Pieces.{no_raise}
+use Rattle.spec_sphere.proofs.Replays.Turns.{no_raise}
 use Rattle.spec_replay.specs.Following.{IsWhole}
 use Rattle.spec_replay.specs.InStrata.{stratum_at}
 use Rattle.spec_replay.proofs.Replays.Keeping.{Stands, Keeps}

@@ -1,4 +1,4 @@
--- An epoch that begins, and one that is given up, leave a world that is alike.
+-- An epoch that begins, and one that is given up, leave a sphere that is alike.
 use Rattle.std.proofs.Common.{◌≡◌, ℕ, ◌+◌, ◌-◌, ◌≤◌, Bool, true, false, cond, List, [], ◌∷◌, ◌++◌, length, drop, Option, Some, None, refl, arith}
 use Rattle.std.proofs.lemmas.List.{length-drop}
 use Rattle.std.proofs.lemmas.List.Elements.{All-head, All-tail}
@@ -84,7 +84,7 @@ pub epoch-alike : (n : List ℕ) (p : Sphere) → HaveBegunIf p.progress (epochs
 unfolding epoch_begun
 epoch-alike n p h = by_role p.memory n p.threads p.progress p.role h
 
--- ---- in all
+-- ---- whether an epoch has begun
 
 abbrev pub HasBegun : Sphere → Type 0
 HasBegun p = HaveBegunIf p.progress (epochs_in p.role)

@@ -1,4 +1,4 @@
--- Two spheres that are alike are the same if they aren't recorded in epochs; and what worlds that are alike show is alike.
+-- Two spheres that are alike are the same if they aren't recorded in epochs, and they have done as many commits.
 use Rattle.std.proofs.Common.{◌≡◌, ℕ, true, List, ◌∷◌, Option, Some, None, refl, sym, ap, ◌∙◌}
 use Rattle.std.proofs.lemmas.Bool.{true≢false}
 use Rattle.std.proofs.lemmas.Option.{none-some}
@@ -63,7 +63,7 @@ position-alike p q same =
 pub replays-alike : (p q : Sphere) → forgotten p ≡ forgotten q → replays p.role ≡ replays q.role
 replays-alike p q same = sym (replays-without _ p.role) ∙ ap (λ (x : Sphere). replays x.role) same ∙ replays-without _ q.role
 
--- ---- what is shown
+-- ---- in rows of spheres
 
 abbrev pub IsShownAs : Option Sphere → Sphere → Type 0
 IsShownAs o p = (q : Sphere) × (o ≡ Some q) × (forgotten p ≡ forgotten q)

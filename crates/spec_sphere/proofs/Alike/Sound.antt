@@ -1,4 +1,4 @@
--- A world that is sound is sound if its recordings in epochs have forgotten what came before.
+-- A sphere that is sound is sound if its recording in epochs has forgotten what came before.
 use Rattle.std.proofs.Common.{◌≡◌, ℕ, ◌≤◌, List, [], length, Option, Some, None, refl, sym, subst, arith}
 use Rattle.spec_isa.specs.declared.thread.Parts.{Parts}
 use Rattle.spec_log.specs.declared.LogParts.{LogParts}

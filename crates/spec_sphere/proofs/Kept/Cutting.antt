@@ -1,4 +1,4 @@
--- The points up to a number of commits of a sphere, and those after it.
+-- The points up to a number of commits of a sphere, and those after it: how they are counted and cut.
 use Rattle.std.proofs.Common.{◌≡◌, ℕ, zero, suc, ◌+◌, ◌≤◌, inl, inr, Bool, true, false, cond, List, [], ◌∷◌, ◌++◌, length, refl, sym, ap, ◌∙◌, arith}
 use Rattle.std.proofs.lemmas.Bool.{cases_Bool}
 use Rattle.dl_entry.specs.declared.Point.{Point}

@@ -1,4 +1,4 @@
--- Instructions and runs look at memory only by the words that they fetch and load.
+-- Instructions and runs look at memory only by the words that they fetch and load; so does what comes after a closed run.
 use Rattle.std.proofs.Common.{◌≡◌, ℕ, Bool, true, List, sym, ap, ◌∙◌, subst, arith}
 use Rattle.spec_isa.specs.declared.thread.Parts.{Parts}
 use Rattle.spec_isa.specs.Words.{lays, is_inside}

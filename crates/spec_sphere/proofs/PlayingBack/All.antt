@@ -1,4 +1,4 @@
--- The play of a recorded log follows the recording from its start to its end.
+-- The play of a recorded log begins where the recording does.
 use Rattle.std.proofs.Common.{◌≡◌, ℕ, zero, suc, ◌+◌, inl, inr, [], ◌∷◌, Some, None, refl, sym, ap, ◌∙◌, arith}
 use Rattle.std.specs.Prelude.{slice_get}
 use Rattle.std.proofs.lemmas.Bool.{true≢false}
@@ -18,8 +18,6 @@ use Rattle.spec_sphere.specs.promises.Standing.{OrderStands, SizesStand, Stands}
 use Rattle.spec_sphere.proofs.Logs.Growing.{Ahead}
 use Rattle.spec_sphere.proofs.PlayingBack.Following.{early_same, pending, pending_same, sum-zero}
 use Rattle.spec_sphere.proofs.PlayingBack.Moves.{Reaches}
-
--- ---- the start
 
 no_commits : (entry k : ℕ) → commits_in (started entry ∷ []) k ≡ 0
 no_commits entry zero = refl

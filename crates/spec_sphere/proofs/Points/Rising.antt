@@ -1,4 +1,5 @@
--- The interrupts of a recorded log rise: thread by thread, and for one thread each after more commits than the one before.
+-- The interrupts of a recorded log rise: thread by thread, and for one thread each after more commits than the one before. Each
+-- move keeps this.
 use Rattle.std.proofs.Common.{◌≡◌, ℕ, zero, suc, ◌+◌, ◌<◌, ◌≤◌, inl, inr, List, [], ◌∷◌, ◌++◌, None, sym, ap, ◌∙◌, subst, arith}
 use Rattle.std.specs.Prelude.{find}
 use Rattle.std.specs.List.{flat_map}

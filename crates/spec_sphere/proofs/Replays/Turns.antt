@@ -16,8 +16,9 @@ use Rattle.spec_play.specs.Turns.{TurnOrEnd, Turn, TurnOfDma, Ended, has_left_ov
 use Rattle.spec_play.specs.declared.interval.Interval.{Interval}
 use Rattle.spec_play.specs.Intervals.{at_end_of_log, now_in}
 use Rattle.spec_strata.specs.Standing.{Standing, head_standing}
-use Rattle.spec_sphere.specs.sphere.Spheres.{is_over, actor_of}
+use Rattle.spec_sphere.specs.sphere.Spheres.{is_over, actor_of, Cursor, Replay, Sphere, replays}
 use Rattle.spec_sphere.specs.sphere.Commits.{between, now_by, turned}
+use Rattle.spec_sphere.specs.sphere.Moves.{FitsRaise}
 use Rattle.spec_sphere.specs.promises.Sound.{IsDoneInOrder, due, IsSoundCursor}
 use Rattle.spec_play.proofs.Threads.{branch}
 use Rattle.spec_sphere.proofs.Sound.Limits.{whole-positive}
@@ -171,3 +172,10 @@ pub turned-sound : (log : LogParts) (i : Option Interval) (o : Option Standing) 
     → IsSoundCursor (position p) threads (turned log i o p u threads)
 turned-sound log i o p u threads is within done inputs dmas interrupts =
     between-sound log i o (position p) u threads (now_by o log p u threads) (whole-sound log o p u threads is within done inputs dmas interrupts)
+
+-- ---- interrupts
+
+-- no interrupt can be raised in a replay
+pub no_raise : (p : Sphere) (b : Cursor) (o : Option Parts) → p.role ≡ Replay b → FitsRaise p o → ⊥
+no_raise p b None role fits = fits
+no_raise p b (Some t) role fits = true≢false (sym (ap replays role) ∙ fits.live)

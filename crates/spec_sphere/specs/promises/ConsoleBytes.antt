@@ -1,4 +1,4 @@
--- The bytes of the console: what commits put out on its channel, in the order of the points.
+-- The bytes that a commit puts out on the console's channel.
 use Rattle.std.specs.Prelude.{ℕ, nat_eq, List, [], if◌then◌else◌}
 use Rattle.std.specs.List.{flat_map}
 use Rattle.dl_entry.specs.declared.Commit.{Commit}

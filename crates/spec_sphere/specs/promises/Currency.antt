@@ -1,5 +1,4 @@
--- When a running chunk is current: if no flight of its sphere that its core wasn't told of hits what it has read, it is what its
--- instructions do on the current memory, for a younger chunk with the older's stores over it.
+-- What comes after the run of a chunk that was closed early: a serial instruction, or a store to one word more.
 use Rattle.std.specs.Prelude.{◌≡◌, ℕ, Bool, false, List, Option, Some, IsSome}
 use Rattle.spec_isa.specs.declared.thread.Parts.{Parts}
 use Rattle.spec_isa.specs.declared.thread.Load.{Load}
@@ -8,8 +7,6 @@ use Rattle.spec_isa.specs.Instruction.{Next, one}
 use Rattle.spec_isa.specs.Runs.{Run}
 use Rattle.spec_kernel.specs.Needs.{next_kind}
 use Rattle.spec_play.specs.Touching.{Touches}
-
--- ---- a current chunk
 
 -- on this memory the next instruction of a thread is run, and stores to a word that is not among these
 pub record StoresAnew (t : Parts) (m : List ℕ) (ws : List Stored) : Type 0 where

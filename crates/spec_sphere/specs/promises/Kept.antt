@@ -1,4 +1,4 @@
--- What a world shows whose recordings in epochs give up their earliest commits: what it has is the end of what the points tell.
+-- When an epoch of a recording is due, and what is sound of one that gives up its earliest commits.
 use Rattle.std.specs.Prelude.{◌≡◌, ℕ, ◌≤◌, Bool, false, length, slice_get, Option, Some, None}
 use Rattle.spec_log.specs.declared.LogParts.{LogParts}
 use Rattle.spec_play.specs.Progress.{position}

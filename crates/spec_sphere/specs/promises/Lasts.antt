@@ -1,4 +1,4 @@
--- Of every sphere, except one in strata, the thread that committed last is the last one among its commits, or before them.
+-- Of a sphere that isn't in strata, the thread that committed last is the last one among its commits, or before them.
 use Rattle.std.specs.Prelude.{◌≡◌, ℕ, Option, None}
 use Rattle.std.specs.Option.{option_or}
 use Rattle.spec_play.specs.Progress.{Progress, last_thread}

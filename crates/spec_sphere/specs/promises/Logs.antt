@@ -1,4 +1,4 @@
--- What holds of every log that is kept: it has what its sphere has done, and nothing of what comes next.
+-- What holds of a log that is kept: it has what its sphere has done, and nothing of what comes next.
 use Rattle.std.specs.Prelude.{◌≡◌, ℕ, ◌<◌, false, slice_get, Some, None}
 use Rattle.spec_isa.specs.declared.thread.Parts.{Parts}
 use Rattle.spec_log.specs.declared.LogParts.{LogParts}

@@ -1,4 +1,4 @@
--- What is noted of commits, and what comes for them from outside, fits a log.
+-- What comes for a commit from outside, and whether it fits a log.
 use Rattle.std.specs.Prelude.{◌≡◌, ℕ, ◌<◌, slice_get, Option, Some, None}
 use Rattle.dl_entry.specs.declared.Input.{Input}
 use Rattle.dl_entry.specs.declared.Request.{Request}

@@ -1,4 +1,4 @@
--- What is promised of recorded logs: that they play back what was recorded.
+-- What is promised of a recorded log: that it plays back what was recorded.
 use Rattle.std.specs.Prelude.{◌≡◌}
 use Rattle.spec_log.specs.declared.LogParts.{LogParts}
 use Rattle.spec_play.specs.Plays.{FitsImage}

@@ -2,8 +2,6 @@
 use Rattle.std.specs.Prelude.{ℕ, zero, suc, Bool, false, nat_eq, List, [], ◌∷◌, if◌then◌else◌}
 use Rattle.dl_entry.specs.declared.Point.{Point}
 
--- ---- a number of commits
-
 abbrev pub is_commit_of : (i : ℕ) → Point → Bool
 is_commit_of i (Point.Commit moment j actor kind size short) = nat_eq j i
 is_commit_of i (Point.Raise moment j k value) = false

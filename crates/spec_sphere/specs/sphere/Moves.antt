@@ -1,12 +1,10 @@
--- All that takes effect done whole, one at a time, in replayed spheres too: pieces and divergences beside the points.
+-- Whether a serial step or an interrupt can be done in a sphere as it is said.
 use Rattle.std.specs.Prelude.{◌≡◌, ℕ, true, false, Option, Some, None, IsSome}
 use Rattle.dl_entry.specs.declared.Actor.{Actor}
 use Rattle.spec_isa.specs.declared.thread.Parts.{Parts}
 use Rattle.spec_kernel.specs.Needs.{next_kind}
 use Rattle.spec_kernel.specs.Interrupts.{is_live, takes_interrupt}
 use Rattle.spec_sphere.specs.sphere.Spheres.{turn_against, Sphere, is_stopped, is_in_pieces, replays}
-
--- ---- whether a move can be done as it says
 
 -- a serial step of thread k, which is t
 pub record SerialFits (p : Sphere) (k : ℕ) (t : Parts) : Type 0 where
