@@ -17,8 +17,8 @@ class Fields:
     def take(self, width, what):
         end = self.at + width
         if end > len(self.data):
-            raise Broken((SHORT, len(self.data)), "the file ends inside %s, which begins at byte %s and has %s"
-                         % (what, number(self.at), count(width, "byte")), "byte %s" % number(len(self.data)))
+            raise Broken((SHORT, len(self.data)), "the file ends inside %s (%s from byte %d on)"
+                         % (what, count(width, "byte"), self.at), "byte %d" % len(self.data))
         self.at = end
         return self.data[end - width : end]
 
@@ -40,9 +40,12 @@ class Fields:
 
     def beginning(self, wanted):
         """The four letters with which such a file begins."""
-        found = self.take(len(wanted), "its first word")
+        start = self.at
+        found = self.take(len(wanted), "the word %s" % wanted.decode())
         if found != wanted:
-            raise Broken((MAGIC, 0), "it doesn't begin with %s" % wanted.decode(), "byte 0", looks_like(self.data, found))
+            what = "a log that begins with %s should be here" if start else "it doesn't begin with %s"
+            raise Broken((MAGIC, start), what % wanted.decode(), "byte %d" % start,
+                         "The file is damaged: copy it again." if start else looks_like(found))
 
     def rising(self, what, entry):
         """A counted section of entries. `entry(name)` reads one and gives its key; the keys have to rise."""
@@ -52,18 +55,18 @@ class Fields:
             key = entry("entry %d of %s" % (i, what))
             if last is not None and key <= last:
                 raise Broken((NOT_SORTED, start), "entry %d of %s doesn't come after the one before it" % (i, what),
-                             "byte %s" % number(start))
+                             "byte %d" % start)
             last = key
 
     def end(self):
         more = len(self.data) - self.at
         if more:
             raise Broken((TRAILING, self.at), "%s %s its end" % (count(more, "byte"), "follows" if more == 1 else "follow"),
-                         "byte %s" % number(self.at), "Something was appended: `head -c %d` gives the part before it." % self.at)
+                         "byte %d" % self.at, "Something was appended: `head -c %d` gives the part before it." % self.at)
 
 
 def bad(wrong, start, what, v, wanted):
-    return Broken((wrong, start), "%s is %s, but it has to be %s" % (what, number(v), wanted), "byte %s" % number(start))
+    return Broken((wrong, start), "%s is %s, but it has to be %s" % (what, number(v), wanted), "byte %d" % start)
 
 
 def any_of(values):
@@ -71,7 +74,7 @@ def any_of(values):
     return texts[0] if len(texts) == 1 else ", ".join(texts[:-1]) + " or " + texts[-1]
 
 
-def looks_like(data, found):
+def looks_like(found):
     """What another file may be, as a sentence, or None."""
     if found == b"DLRN":
         return "It is a log, which most commands read; `tail` reads tails, and `strata` of a plan strata."

@@ -134,10 +134,19 @@ def where(name, beside):
 
 
 def neighbour(name):
-    """A file in the same folder whose name is nearly the same."""
+    """A file in the same folder whose name is nearly the same, with its suffix and without."""
     folder, last = os.path.split(name)
     try:
-        near = difflib.get_close_matches(last, os.listdir(folder or "."), 1, 0.7)
+        near = difflib.get_close_matches(last, os.listdir(folder or "."), 3, 0.75)
     except OSError:
         return None
-    return os.path.join(folder, near[0]) if near else None
+    found = next((other for other in near if is_alike(stem(other), stem(last))), None)
+    return os.path.join(folder, found) if found else None
+
+
+def stem(name):
+    return os.path.splitext(name)[0].lower()
+
+
+def is_alike(a, b):
+    return difflib.SequenceMatcher(None, a, b).ratio() > 0.6

@@ -60,5 +60,4 @@ def wanted(key, keys):
         return listed(map(number, SIGNATURES))
     if key == "seed":
         return "0 to 2^63 - 1"
-    least, most = keys[key].limits
-    return "%d or %d" % (least, most) if most - least == 1 else range_of(least, most, keys[key].step)
+    return range_of(*keys[key].limits, keys[key].step)

@@ -4,7 +4,6 @@ from array import array
 import sys
 
 from explain.fields import FIELD, MODE, VERSION, Fields, bad
-from explain.shown import number
 from explain.words import MOST_COMMITS, range_of
 
 ORDER_SIZE, PICOLOG = 0, 2
@@ -71,7 +70,7 @@ def read_order(f, entries, threads):
     wrong = there.translate(None, bytes([*range(threads), DMA]))
     if wrong:
         at = start + min(there.index(byte) for byte in set(wrong))
-        raise bad(FIELD, at, "the actor of commit %s" % number(at - start), f.data[at], "a thread, 0 to %d, or %d for a DMA" % (threads - 1, DMA))
+        raise bad(FIELD, at, "the actor of commit %d" % (at - start), f.data[at], "a thread, 0 to %d, or %d for a DMA" % (threads - 1, DMA))
     f.take(entries, "the order")
 
 
@@ -92,7 +91,7 @@ def read_all_sizes(f, width, s, commits):
         there.byteswap()
     if there and max(there) > s:
         i = next(i for i, size in enumerate(there) if size > s)
-        raise bad(FIELD, start + i * width, "the size of commit %s" % number(i), there[i], range_of(0, s))
+        raise bad(FIELD, start + i * width, "the size of commit %d" % i, there[i], range_of(0, s))
     f.take(commits * width, "the sizes")
 
 

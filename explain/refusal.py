@@ -19,4 +19,4 @@ class Broken(Exception):
 
 
 class Unreadable(Exception):
-    """A file can't be read once more as the program read it: it isn't a regular file, or is too large to look at."""
+    """A file can't be read as the program read it: it isn't a regular file, is too large to look at, or has newer TOML."""

@@ -64,7 +64,7 @@ def check_epochs(document):
         there = [key for key in ("epoch", "keep") if key in sphere]
         if there and (sphere["role"] != "record" or sphere.get("version", 1) != 2):
             raise Broken((10,), "%s for a sphere that is recorded in version 2" % only(there), document.place("sphere", i, there[0]),
-                         "Say `version = 2`." if sphere["role"] == "record" else "Take them out.")
+                         "Say `version = 2`." if sphere["role"] == "record" else "Take %s out." % ("it" if len(there) == 1 else "them"))
         if len(there) == 1:
             other = "keep" if there == ["epoch"] else "epoch"
             raise Broken((10,), "%s is there without %s" % (quoted(there[0]), quoted(other)), document.place("sphere", i, there[0]),

@@ -14,6 +14,7 @@ SYNTAX, MNEMONIC, OPERANDS, RANGE, LABEL_TWICE, NO_LABEL, TOO_LONG = range(1, 8)
 
 NAME = r"[A-Za-z_][A-Za-z0-9_]*"
 LABEL = re.compile(rb"[ \t]*([A-Za-z_][A-Za-z0-9_]*):")
+BLANK_BEFORE_COLON = re.compile(rb"[ \t]*[A-Za-z_][A-Za-z0-9_]*[ \t]+:")
 LINE = re.compile(r"[ \t]*(?:(%s):)?[ \t]*(?:([A-Za-z_.][A-Za-z0-9_.]*)(?:[ \t]+(.*?))?)?[ \t]*(?:#.*)?" % NAME, re.ASCII)
 VALUE = r"-?0x[0-9A-Fa-f]{1,8}|-?(?:0|[1-9][0-9]*)|" + NAME
 OPERAND = re.compile(r"(%s)?(?:[ \t]*\([ \t]*(%s)[ \t]*\))?" % (VALUE, VALUE), re.ASCII)
@@ -72,6 +73,8 @@ def read_line(text):
     odd = next((byte for byte in text if not (32 <= byte < 127 or byte == 9)), None)
     if odd is not None:
         return Line(label, None, [], odd_character(odd))
+    if BLANK_BEFORE_COLON.match(text):
+        return Line(label, None, [], ("a blank is before the label's colon", "Take it out."))
     found = LINE.fullmatch(text.decode("ascii"))
     if not found:
         return Line(label, None, [], ("it doesn't have the form of a line", None))
@@ -191,10 +194,12 @@ def wrong_value(kind, text, address, labels):
     v = value_of(kind, text, address, labels)
     if v is None or in_range(kind, v):
         return None
-    found = "%s is %d from here" % (quoted(text), v) if is_name(text) and kind in DISTANCES else quoted(text)
-    found += ", the address %d" % v if is_name(text) and kind not in DISTANCES else ""
-    wanted = range_of(kind.least, kind.most) + (" and even" if kind.step == 2 else "")
-    return "%s is out of range: it has to be %s" % (found, wanted), "" if not is_name(text) else "Change the order of the lines, or jump in two steps."
+    wanted = "%s%s" % (range_of(kind.least, kind.most), " and even" if kind.step == 2 else "")
+    found, to_do = quoted(text), ""
+    if is_name(text):
+        found = "the %s %s, %d," % ("distance to" if kind in DISTANCES else "address of", quoted(text), v)
+        to_do = "Bring them closer, or jump in two steps." if kind in DISTANCES else "Build it with `lui` and `addi`."
+    return "%s is out of range: it has to be %s" % (found, wanted), to_do
 
 
 def value_of(kind, text, address, labels):

@@ -5,7 +5,6 @@ from collections import namedtuple
 from explain.fields import FIELD, VERSION, Fields
 from explain.log import read_records, read_short_sizes
 from explain.refusal import Broken
-from explain.shown import number
 from explain.words import MOST_COMMITS
 
 CHUNKS, SERIAL, DMA = range(3)
@@ -46,6 +45,6 @@ def read_stratum(f, name, counted):
 
 def check_stratum(start, i, stratum, commits):
     if stratum.kind == CHUNKS and not any(stratum.counts):
-        raise Broken((FIELD, start), "stratum %d has no chunks" % i, "byte %s" % number(start))
+        raise Broken((FIELD, start), "stratum %d has no chunks" % i, "byte %d" % start)
     if commits > MOST_COMMITS:
-        raise Broken((FIELD, start), "with stratum %d the commits are over 16,777,216" % i, "byte %s" % number(start))
+        raise Broken((FIELD, start), "with stratum %d the commits are over 16,777,216" % i, "byte %d" % start)

@@ -53,7 +53,7 @@ def read_thread(f, k, base):
     f.number(4, "the saved program counter %s" % name, saved, step=4)
     f.number(4, "the saved a0 %s" % name, saved)
     f.number(4, "the saved a1 %s" % name, saved)
-    f.number(4, "the commits %s" % name, base)
+    f.number(4, "the number of commits %s" % name, base)
     for register in range(1, 32):
         f.number(4, "x%d %s" % (register, name))
 

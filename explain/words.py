@@ -115,5 +115,7 @@ def one_number(name, key, word, least, most, step):
 
 
 def range_of(least, most, step=1):
+    if most - least == 1:
+        return "%d or %d" % (least, most)
     multiple = "" if step == 1 else "a multiple of %s from " % number(step)
     return "%s%s to %s" % (multiple, number(least), number(most))
