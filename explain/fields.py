@@ -16,6 +16,8 @@ class Fields:
 
     def take(self, width, what):
         end = self.at + width
+        if not self.data:
+            raise Broken((SHORT, 0), "it is empty", "", "Is it the file that you mean?")
         if end > len(self.data):
             raise Broken((SHORT, len(self.data)), "the file ends inside %s (%s from byte %d on)"
                          % (what, count(width, "byte"), self.at), "byte %d" % len(self.data))
@@ -77,11 +79,11 @@ def any_of(values):
 def looks_like(found):
     """What another file may be, as a sentence, or None."""
     if found == b"DLRN":
-        return "It is a log, which most commands read; `tail` reads tails, and `strata` of a plan strata."
+        return "It is a log: `delorean walk` plays it, and a replayed sphere takes it by the key `log`."
     if found == b"DLRT":
         return "It is a tail: `delorean tail` plays it, and no other command takes it."
     if found == b"DLRS":
-        return "It is strata, which only a replayed sphere of a plan takes."
+        return "It is strata, which only a replayed sphere takes, by the key `strata`."
     if found == b"\x7fELF":
         return "It is an ELF file: are the names in the right order?"
     if found[:2] in (b"c ", b"t ", b"l ", b"en"):

@@ -65,7 +65,7 @@ def looks_like(data):
     if not data:
         return "It is empty: is it the file that you mean?"
     if all(byte in b"\t\n\r" or 32 <= byte < 127 for byte in data[:200]):
-        return "It is a text: is it the file that you mean? A source has to be assembled or compiled first."
+        return "It is a text: a source has to be assembled or compiled first."
     return None
 
 

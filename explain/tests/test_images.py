@@ -28,8 +28,8 @@ class Images(Explained):
         no_elf = ", byte 0: it doesn't begin with 7F 45 4C 46, so it isn't an ELF file."
         self.refused(with_bytes(0, b"\0"), 2, no_elf + LINKED)
         self.refused(with_bytes(0, b"DLRN"), 2, no_elf + " It begins like a log: is it the file that you mean?")
-        self.refused(b"int main(void) { return 0; }\n" * 3, 2, no_elf + " It is a text: is it the file that you mean? A source has to "
-                     "be assembled or compiled first.")
+        self.refused(b"int main(void) { return 0; }\n" * 3, 2, no_elf + " It is a text: a source has to be assembled or compiled "
+                     "first.")
         self.refused(with_bytes(6, b"\2"), 2, ", byte 6: the version of ELF isn't 1. The file is damaged: link it again.")
         self.refused(with_bytes(20, b"\2"), 2, ", byte 20: the version of ELF isn't 1. The file is damaged: link it again.")
 

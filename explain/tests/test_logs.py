@@ -39,7 +39,8 @@ class Logs(Explained):
         self.means("inspect a.log", 5, "refused log 0 %d %d" % (number, offset), "a.log, byte " + text)
 
     def test_cut_short(self):
-        self.refused(b"", 1, 0, "0: the file ends inside the word DLRN (4 bytes from byte 0 on)." + CUT)
+        self.put("a.log", b"")
+        self.means("inspect a.log", 5, "refused log 0 1 0", "a.log: it is empty. Is it the file that you mean?")
         self.refused(LOG[:18], 1, 18, "18: the file ends inside the number of entries of the order (4 bytes from byte 16 on)." + CUT)
         self.refused(LOG[:28], 1, 28, "28: the file ends inside the sizes (4 bytes from byte 25 on)." + CUT)
 
@@ -47,7 +48,7 @@ class Logs(Explained):
         begins = "0: it doesn't begin with DLRN. "
         self.refused(b"XLRN" + LOG[4:], 2, 0, begins + "Is it the file that you mean?")
         self.refused(b"DLRT" + LOG[4:], 2, 0, begins + "It is a tail: `delorean tail` plays it, and no other command takes it.")
-        self.refused(b"DLRS" + LOG[4:], 2, 0, begins + "It is strata, which only a replayed sphere of a plan takes.")
+        self.refused(b"DLRS" + LOG[4:], 2, 0, begins + "It is strata, which only a replayed sphere takes, by the key `strata`.")
         self.refused(IMAGE, 2, 0, begins + "It is an ELF file: are the names in the right order?")
         self.refused("c 0 0 2\nend complete 1\n", 2, 0, begins + "Is it an account?")
 

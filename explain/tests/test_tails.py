@@ -49,8 +49,8 @@ class Tails(Explained):
                      "the file ends inside the bytes of entry 0 of the rows (32 bytes from byte %d on)." % (ROWS + 8) + CUT)
 
     def test_another_file(self):
-        self.refused(INNER, 2, 0, "it doesn't begin with DLRT. It is a log, which most commands read; `tail` reads tails, and `strata` of "
-                     "a plan strata.")
+        self.refused(INNER, 2, 0, "it doesn't begin with DLRT. It is a log: `delorean walk` plays it, and a replayed sphere takes it by "
+                     "the key `log`.")
 
     def test_header(self):
         self.refused(header(version=2), 3, 4, "the version is 2, but it has to be 1." + DAMAGED)
