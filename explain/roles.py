@@ -1,0 +1,75 @@
+"""What a sphere of each role has to have, and may not: rules 6, 8, 9 and 10 of plans."""
+
+from explain.refusal import Broken
+from explain.shown import listed, number, quoted
+
+NEEDS = {"record": ("mode", "log"), "replay": (), "plain": ()}
+FORBIDS = {"record": ("strata",), "replay": ("mode", "version"), "plain": ("mode", "version", "log", "strata")}
+ROLES = {"record": "a recorded sphere", "replay": "a replayed sphere", "plain": "a plain sphere"}
+MOST_RECORDED = 4096  # the most instructions of a chunk in a log of version 1
+
+
+def spheres(document):
+    return enumerate(document.top["sphere"])
+
+
+def check_roles(document):
+    for i, sphere in spheres(document):
+        role = sphere["role"]
+        for key in NEEDS[role]:
+            if key not in sphere:
+                raise Broken((6,), "sphere %d is recorded, and has no %s" % (i, quoted(key)), document.place("sphere", i), "Add it.")
+        for key in FORBIDS[role]:
+            if key in sphere:
+                raise Broken((6,), "%s has no %s" % (ROLES[role], quoted(key)), document.place("sphere", i, key), without(role))
+        if role == "replay":
+            check_replayed(document, i, sphere)
+
+
+def without(role):
+    if role == "replay":
+        return "Take it out: a replay has the mode and the version of its log."
+    return "Take it out."
+
+
+def check_replayed(document, i, sphere):
+    if "log" in sphere and "strata" in sphere:
+        raise Broken((6,), "a replayed sphere has a log or strata, and not both", document.place("sphere", i, "strata"),
+                     "Take one of them out.")
+    if "log" not in sphere and "strata" not in sphere:
+        raise Broken((6,), "sphere %d is replayed, and has neither a log nor strata" % i, document.place("sphere", i), "Add `log`.")
+
+
+def check_chunk(document):
+    chunk = document.top["chunk"]
+    for i, sphere in spheres(document):
+        if chunk > MOST_RECORDED and sphere["role"] == "record" and sphere.get("version", 1) == 1:
+            raise Broken((8,), "`chunk` is %s, and sphere %d is recorded in version 1, whose chunks have at most 4,096 instructions"
+                         % (number(chunk), i), document.place("chunk"), "Say `version = 2` in the sphere, or take a smaller chunk.")
+
+
+def check_intervals(document):
+    for i, sphere in spheres(document):
+        there = [key for key in ("from", "to") if key in sphere]
+        if there and (sphere["role"] != "replay" or "strata" in sphere):
+            raise Broken((9,), "%s is only for a sphere that replays a log" % quoted(there[0]),
+                         document.place("sphere", i, there[0]))
+        if len(there) == 2 and sphere["from"] > sphere["to"]:
+            raise Broken((9,), "`from` is %d, and over `to`, which is %d" % (sphere["from"], sphere["to"]),
+                         document.place("sphere", i, "from"), "Exchange them, or change one.")
+
+
+def check_epochs(document):
+    for i, sphere in spheres(document):
+        there = [key for key in ("epoch", "keep") if key in sphere]
+        if there and (sphere["role"] != "record" or sphere.get("version", 1) != 2):
+            raise Broken((10,), "%s for a sphere that is recorded in version 2" % only(there), document.place("sphere", i, there[0]),
+                         "Say `version = 2`." if sphere["role"] == "record" else "Take %s out." % ("it" if len(there) == 1 else "them"))
+        if len(there) == 1:
+            other = "keep" if there == ["epoch"] else "epoch"
+            raise Broken((10,), "%s is there without %s" % (quoted(there[0]), quoted(other)), document.place("sphere", i, there[0]),
+                         "Add it.")
+
+
+def only(there):
+    return "%s %s only" % (listed(map(quoted, there), "and"), "is" if len(there) == 1 else "are")
