@@ -23,6 +23,7 @@ show_progress() {
                 echo "delorean: proved ${name%%:*} ($done of at most $count)" >&2
             fi
             ;;
+        *': error'*) printf '%s\n' "$line" >&2 ;;
         esac
     done
     [ ! -t 2 ] || printf '\r\033[K' >&2
