@@ -90,11 +90,11 @@ def read_segments(data):
 def check_in_file(segments, length, _):
     for s in segments:
         if s.offset + s.filled > length:
-            raise Broken((9,), "segment %d has bytes up to %s of the file, which has %s" % (s.number, number(s.offset + s.filled),
-                                                                                        number(length)))
+            raise Broken((9,), "the bytes of segment %d end at %s, but the file has %s"
+                         % (s.number, number(s.offset + s.filled), count(length, "byte")))
         if s.filled > s.length:
-            raise Broken((9,), "segment %d has %s in the file, and only %s in memory" % (s.number, count(s.filled, "byte"),
-                                                                                    number(s.length)))
+            raise Broken((9,), "segment %d has %s in the file, and only %s in memory"
+                         % (s.number, count(s.filled, "byte"), number(s.length)))
 
 
 def check_in_memory(segments, _, size):

@@ -5,7 +5,7 @@ from explain.shown import listed, number, quoted
 
 NEEDS = {"record": ("mode", "log"), "replay": (), "plain": ()}
 FORBIDS = {"record": ("strata",), "replay": ("mode", "version"), "plain": ("mode", "version", "log", "strata")}
-ROLES = {"record": "a recorded sphere", "replay": "a replayed sphere", "plain": "a plain sphere"}
+ROLES = {"record": "recorded", "replay": "replayed", "plain": "plain"}
 MOST_RECORDED = 4096  # the most instructions of a chunk in a log of version 1
 
 
@@ -21,7 +21,8 @@ def check_roles(document):
                 raise Broken((6,), "sphere %d is recorded, and has no %s" % (i, quoted(key)), document.place("sphere", i), "Add it.")
         for key in FORBIDS[role]:
             if key in sphere:
-                raise Broken((6,), "%s has no %s" % (ROLES[role], quoted(key)), document.place("sphere", i, key), without(role))
+                raise Broken((6,), "%s doesn't belong in a %s sphere" % (quoted(key), ROLES[role]), document.place("sphere", i, key),
+                             without(role))
         if role == "replay":
             check_replayed(document, i, sphere)
 
@@ -34,7 +35,7 @@ def without(role):
 
 def check_replayed(document, i, sphere):
     if "log" in sphere and "strata" in sphere:
-        raise Broken((6,), "a replayed sphere has a log or strata, and not both", document.place("sphere", i, "strata"),
+        raise Broken((6,), "sphere %d has both `log` and `strata`" % i, document.place("sphere", i, "strata"),
                      "Take one of them out.")
     if "log" not in sphere and "strata" not in sphere:
         raise Broken((6,), "sphere %d is replayed, and has neither a log nor strata" % i, document.place("sphere", i), "Add `log`.")

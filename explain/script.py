@@ -35,11 +35,11 @@ def wrong_in(line):
     form = "%s %s" % (word, " ".join(EVENTS[word]))
     if len(numbers) != len(EVENTS[word]):
         found = "%s has %s, but it takes %d" % (quoted(word), count(len(numbers), "number"), len(EVENTS[word]))
-        return found, "It is `%s`." % form
+        return found, "Write it as `%s`." % form
     for key, text in zip(EVENTS[word], numbers):
         wrong = wrong_number(key, text)
         if wrong:
-            return wrong, "It is `%s`." % form
+            return wrong, "Write it as `%s`." % form
     return None
 
 

@@ -119,7 +119,7 @@ def wrong_mnemonic(line):
 def wrong_operands(line):
     if line.mnemonic is None:
         return None
-    kinds, to_do = STATEMENTS[line.mnemonic], "It is `%s`." % form(line.mnemonic)
+    kinds, to_do = STATEMENTS[line.mnemonic], "Write it as `%s`." % form(line.mnemonic)
     if len(kinds) != len(line.operands):
         return "%s has %s, but it takes %d" % (quoted(line.mnemonic), count(len(line.operands), "operand"), len(kinds)), to_do
     for kind, operand in zip(kinds, line.operands):

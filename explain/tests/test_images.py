@@ -55,7 +55,7 @@ class Images(Explained):
         self.refused(IMAGE[:83], 8, ", byte 28: its program headers end at 84, but the file has 83 bytes." + DAMAGED)
 
     def test_segments_in_the_file(self):
-        self.refused(IMAGE[:95], 9, ": segment 0 has bytes up to 96 of the file, which has 95." + DAMAGED)
+        self.refused(IMAGE[:95], 9, ": the bytes of segment 0 end at 96, but the file has 95 bytes." + DAMAGED)
         self.refused(elf_header() + program_header(length=8) + CODE, 9,
                      ": segment 0 has 12 bytes in the file, and only 8 in memory." + DAMAGED)
 

@@ -110,12 +110,12 @@ class Logs(Explained):
                      "44: entry 1 of the DMA doesn't come after the one before it." + DAMAGED)
 
     def test_bytes_after_the_end(self):
-        self.refused(LOG + b"\n", 7, 41, "41: 1 byte follows its end. Something was appended: `head -c 41` gives the part before it.")
-        self.refused(LOG + b"12", 7, 41, "41: 2 bytes follow its end. Something was appended: `head -c 41` gives the part before it.")
+        self.refused(LOG + b"\n", 7, 41, "41: 1 byte follows the last section. Something was appended: `head -c 41` gives the part before it.")
+        self.refused(LOG + b"12", 7, 41, "41: 2 bytes follow the last section. Something was appended: `head -c 41` gives the part before it.")
 
     def test_each_command(self):
         self.put("a.log", LOG + b"\n")
-        text = "a.log, byte 41: 1 byte follows its end. Something was appended: `head -c 41` gives the part before it."
+        text = "a.log, byte 41: 1 byte follows the last section. Something was appended: `head -c 41` gives the part before it."
         self.put("plan.toml", REPLAY)
         for words in ("walk a.elf 4096 a.log", "interval a.elf 4096 a.log 1 0 1", "watch a.elf 4096 a.log 0", "who a.elf 4096 a.log 0 1",
                       "when a.elf 4096 a.log 0 0", "strata a.elf 4096 a.log x", "migrate a.log x", "run plan.toml"):

@@ -102,20 +102,20 @@ class Plans(Explained):
     def test_recorded_spheres(self):
         self.refused(changed(('mode = "order-size"\n', "")), 6, ", line 8: sphere 0 is recorded, and has no `mode`. Add it.")
         self.refused(changed(('log = "a.log"\n', "")), 6, ", line 8: sphere 0 is recorded, and has no `log`. Add it.")
-        self.refused(PLAN + 'strata = "a.strata"\n', 6, ", line 15: a recorded sphere has no `strata`. Take it out.")
+        self.refused(PLAN + 'strata = "a.strata"\n', 6, ", line 15: `strata` doesn't belong in a recorded sphere. Take it out.")
 
     def test_replayed_spheres(self):
         taken_out = " Take it out: a replay has the mode and the version of its log."
-        self.refused(changed(('"record"', '"replay"')), 6, ", line 12: a replayed sphere has no `mode`." + taken_out)
-        self.refused(REPLAY + "version = 2\n", 6, ", line 14: a replayed sphere has no `version`." + taken_out)
+        self.refused(changed(('"record"', '"replay"')), 6, ", line 12: `mode` doesn't belong in a replayed sphere." + taken_out)
+        self.refused(REPLAY + "version = 2\n", 6, ", line 14: `version` doesn't belong in a replayed sphere." + taken_out)
         self.refused(REPLAY + 'strata = "a.strata"\n', 6,
-                     ", line 14: a replayed sphere has a log or strata, and not both. Take one of them out.")
+                     ", line 14: sphere 0 has both `log` and `strata`. Take one of them out.")
         self.refused(REPLAY.replace('log = "a.log"\n', ""), 6,
                      ", line 8: sphere 0 is replayed, and has neither a log nor strata. Add `log`.")
 
     def test_plain_spheres(self):
         for key in ("version = 1", 'mode = "picolog"', 'log = "b.log"', 'strata = "b.strata"'):
-            self.refused(PLAN + SPHERE + key + "\n", 6, ", line 19: a plain sphere has no `%s`. Take it out." % key.split()[0])
+            self.refused(PLAN + SPHERE + key + "\n", 6, ", line 19: `%s` doesn't belong in a plain sphere. Take it out." % key.split()[0])
 
     def test_names(self):
         self.refused(changed(('"r.txt"', '""')), 7, ", line 7: `report` is an empty name. Give the file a name.")
@@ -153,7 +153,7 @@ class Plans(Explained):
 
     def test_keys_without_a_line_of_their_own(self):
         spheres = 'sphere = [\n{image = "a.elf", memory = 4096, role = "plain", log = "x"}]\n'
-        self.refused(PLAN.partition("[[")[0] + spheres, 6, ": a plain sphere has no `log`. Take it out.")
+        self.refused(PLAN.partition("[[")[0] + spheres, 6, ": `log` doesn't belong in a plain sphere. Take it out.")
 
     def test_what_only_a_newer_toml_has(self):
         """Python doesn't read it, so without the program's line it isn't known which rule is broken."""

@@ -19,16 +19,16 @@ class Scripts(Explained):
 
     def test_numbers(self):
         for line, text in (
-                ("step", "`step` has 0 numbers, but it takes 1. It is `step C`."),
-                ("dma 0 0", "`dma` has 2 numbers, but it takes 1. It is `dma S`."),
-                ("step x", "`x` isn't a number of decimal digits. It is `step C`."),
-                ("deliver 0 -1", "`-1` isn't a number of decimal digits. It is `deliver C K`."),
-                ("cut 00000000000", "`00000000000` has over 10 digits. It is `cut C`."),
-                ("step 256", "`256` is over 255, the most that a core can be. It is `step C`."),
-                ("retire 256", "`256` is over 255, the most that a slot can be. It is `retire K`."),
-                ("place 0 256 0", "`256` is over 255, the most that a sphere can be. It is `place C S T`."),
-                ("place 0 0 999", "`999` is over 255, the most that a thread can be. It is `place C S T`."),
-                ("raise 0 0 4294967296", "`4294967296` is over 4294967295, the most that a value can be. It is `raise S T V`.")):
+                ("step", "`step` has 0 numbers, but it takes 1. Write it as `step C`."),
+                ("dma 0 0", "`dma` has 2 numbers, but it takes 1. Write it as `dma S`."),
+                ("step x", "`x` isn't a number of decimal digits. Write it as `step C`."),
+                ("deliver 0 -1", "`-1` isn't a number of decimal digits. Write it as `deliver C K`."),
+                ("cut 00000000000", "`00000000000` has over 10 digits. Write it as `cut C`."),
+                ("step 256", "`256` is over 255, the most that a core can be. Write it as `step C`."),
+                ("retire 256", "`256` is over 255, the most that a slot can be. Write it as `retire K`."),
+                ("place 0 256 0", "`256` is over 255, the most that a sphere can be. Write it as `place C S T`."),
+                ("place 0 0 999", "`999` is over 255, the most that a thread can be. Write it as `place C S T`."),
+                ("raise 0 0 4294967296", "`4294967296` is over 4294967295, the most that a value can be. Write it as `raise S T V`.")):
             with self.subTest(line):
                 self.refused(line + "\n", 1, text)
 

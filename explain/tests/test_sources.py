@@ -29,14 +29,14 @@ class Sources(Explained):
 
     def test_operands(self):
         for line, text in (
-                ("addi x1, x2", "`addi` has 2 operands, but it takes 3. It is `addi x1, x2, V`."),
-                ("ecall x0", "`ecall` has 1 operand, but it takes 0. It is `ecall`."),
-                ("add x1, x2, 3", "`3` doesn't fit there. It is `add x1, x2, x3`."),
-                ("lw x1, x2", "`x2` doesn't fit there. It is `lw x1, V(x2)`."),
-                ("lr.w x1, 0(x2)", "`0(x2)` doesn't fit there. It is `lr.w x1, (x2)`."),
-                ("sc.w.rl x1, x2, x3", "`x3` doesn't fit there. It is `sc.w.rl x1, x2, (x3)`."),
+                ("addi x1, x2", "`addi` has 2 operands, but it takes 3. Write it as `addi x1, x2, V`."),
+                ("ecall x0", "`ecall` has 1 operand, but it takes 0. Write it as `ecall`."),
+                ("add x1, x2, 3", "`3` doesn't fit there. Write it as `add x1, x2, x3`."),
+                ("lw x1, x2", "`x2` doesn't fit there. Write it as `lw x1, V(x2)`."),
+                ("lr.w x1, 0(x2)", "`0(x2)` doesn't fit there. Write it as `lr.w x1, (x2)`."),
+                ("sc.w.rl x1, x2, x3", "`x3` doesn't fit there. Write it as `sc.w.rl x1, x2, (x3)`."),
                 ("add a0, x2, x3", "`a0` doesn't fit there. Registers are `x0` to `x31`."),
-                (".zero a", "`a` doesn't fit there. It is `.zero N`.")):
+                (".zero a", "`a` doesn't fit there. Write it as `.zero N`.")):
             with self.subTest(line):
                 self.refused(line + "\n", 1, 3, text)
 

@@ -91,7 +91,7 @@ class Tails(Explained):
         start = header() + thread()
         self.bad(start + rows(row(128)), ROWS + 4, "the number of entry 0 of the rows is 128, but it has to be 0 to 127")
         self.bad(start + rows(row(0, bytes(32))), ROWS + 8,
-                 "each byte of entry 0 of the rows is 0, but it has to be another in at least one place")
+                 "the bytes of entry 0 of the rows are all 0, and such a row is left out")
         self.refused(start + rows(row(1), row(1)), 6, ROWS + 40, "entry 1 of the rows doesn't come after the one before it." + DAMAGED)
 
     def test_the_log_inside(self):
@@ -102,7 +102,7 @@ class Tails(Explained):
         self.bad(many + INNER, len(many) + 6, "the number of threads that the log may have is 15, but it has to be 63")
         late = header(base=16777216) + thread() + rows(row(0))
         self.bad(late + INNER, len(late) + 12, "the number of commits is 1, but it has to be 0")
-        self.refused(GOOD + b"x", 7, len(GOOD), "1 byte follows its end. Something was appended: `head -c %d` gives the part before it."
+        self.refused(GOOD + b"x", 7, len(GOOD), "1 byte follows the last section. Something was appended: `head -c %d` gives the part before it."
                      % len(GOOD))
 
 
