@@ -18,11 +18,12 @@ def check_roles(document):
         role = sphere["role"]
         for key in NEEDS[role]:
             if key not in sphere:
-                raise Broken((6,), "sphere %d is recorded, and has no %s" % (i, quoted(key)), document.place("sphere", i), "Add it.")
+                found = "sphere %d is recorded, and has no %s" % (i, quoted(key))
+                raise Broken((6,), found, document.place("sphere", i), "Add it.")
         for key in FORBIDS[role]:
             if key in sphere:
-                raise Broken((6,), "%s doesn't belong in a %s sphere" % (quoted(key), ROLES[role]), document.place("sphere", i, key),
-                             without(role))
+                found = "%s doesn't belong in a %s sphere" % (quoted(key), ROLES[role])
+                raise Broken((6,), found, document.place("sphere", i, key), without(role))
         if role == "replay":
             check_replayed(document, i, sphere)
 
@@ -64,13 +65,17 @@ def check_epochs(document):
     for i, sphere in spheres(document):
         there = [key for key in ("epoch", "keep") if key in sphere]
         if there and (sphere["role"] != "record" or sphere.get("version", 1) != 2):
-            raise Broken((10,), "%s for a sphere that is recorded in version 2" % only(there), document.place("sphere", i, there[0]),
-                         "Say `version = 2`." if sphere["role"] == "record" else "Take %s out." % ("it" if len(there) == 1 else "them"))
+            found, taken_out = only_in_version_2(there)
+            to_do = "Say `version = 2`." if sphere["role"] == "record" else taken_out
+            raise Broken((10,), found, document.place("sphere", i, there[0]), to_do)
         if len(there) == 1:
             other = "keep" if there == ["epoch"] else "epoch"
-            raise Broken((10,), "%s is there without %s" % (quoted(there[0]), quoted(other)), document.place("sphere", i, there[0]),
-                         "Add it.")
+            found = "%s is there without %s" % (quoted(there[0]), quoted(other))
+            raise Broken((10,), found, document.place("sphere", i, there[0]), "Add the other.")
 
 
-def only(there):
-    return "%s %s only" % (listed(map(quoted, there), "and"), "is" if len(there) == 1 else "are")
+def only_in_version_2(there):
+    """What is wrong with these keys, and what to do in a sphere that isn't recorded."""
+    is_one = len(there) == 1
+    found = "%s %s only for a sphere that is recorded in version 2" % (listed(map(quoted, there), "and"), "is" if is_one else "are")
+    return found, "Take %s out." % ("it" if is_one else "them")

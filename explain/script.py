@@ -6,7 +6,9 @@ from explain.refusal import Broken
 from explain.shown import count, listed, quoted
 from explain.words import MOST_COMMITS
 
-EVENTS = {"step": "C", "cut": "C", "ask": "C", "drain": "K", "deliver": "CK", "retire": "K", "place": "CST", "raise": "STV", "dma": "S"}
+# Each event, and which numbers follow it.
+EVENTS = {"step": "C", "cut": "C", "ask": "C", "drain": "K", "deliver": "CK", "retire": "K", "place": "CST", "raise": "STV",
+          "dma": "S"}
 NAMES = {"C": "a core", "K": "a slot", "S": "a sphere", "T": "a thread", "V": "a value"}
 MOST, MOST_VALUE = 255, (1 << 32) - 1
 

@@ -81,8 +81,8 @@ def read_line(text):
     operands = [read_operand(part.strip(" \t")) for part in found[3].split(",")] if found[3] else []
     for operand in operands:
         if operand.value is None and operand.register is None:
-            return Line(label, None, [], ("%s has the form of no operand" % (quoted(operand.text) if operand.text else "an empty part"),
-                                          "An operand is a register, a number, a label, or as `4(x2)` or `(x2)`."))
+            found = "%s has the form of no operand" % (quoted(operand.text) if operand.text else "an empty part")
+            return Line(label, None, [], (found, "An operand is a register, a number, a label, or as `4(x2)` or `(x2)`."))
     return Line(label, found[2], operands, None)
 
 

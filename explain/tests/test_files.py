@@ -27,10 +27,12 @@ class Absent(Explained):
         os.mkdir("there")
         for name in ("plan.toml", "s.txt", "a.elf"):
             os.rename(name, "there/" + name)
-        self.means("run there/plan.toml", 10, "absent s.txt", "`s.txt` isn't there. It is in the plan's folder, but names count from the "
+        self.means("run there/plan.toml", 10, "absent s.txt", "`s.txt` isn't there. It is in the plan's folder, but names "
+                   "count from the "
                    "folder of the command: `cd there` first.")
         os.remove("there/s.txt")
-        self.means("run there/plan.toml", 10, "absent s.txt", "`s.txt` isn't there. Names count from the folder of the command, and not "
+        self.means("run there/plan.toml", 10, "absent s.txt", "`s.txt` isn't there. Names count from the folder of the "
+                   "command, and not "
                    "from the plan's.")
 
 
@@ -53,7 +55,8 @@ class Reading(Explained):
         writer = os.open("pipe", os.O_RDWR)
         self.addCleanup(os.close, writer)
         os.write(writer, b"DLRN")
-        self.fault("inspect pipe", "pipe", "isn't a regular file: a log is opened again for each of its pieces, so it can't come through "
+        self.fault("inspect pipe", "pipe", "isn't a regular file: a log is opened again for each of its pieces, so it can't "
+                   "come through "
                    "a pipe")
 
     def test_a_large_file(self):
@@ -88,7 +91,8 @@ class Writing(Explained):
             self.assertEqual(explain(6, ["make", "1", "m.elf"]), "`m.elf` can't be written: its disk is full.")
 
     def test_what_does_not_show(self):
-        self.assertEqual(explain(6, ["make", "1", "m.elf"]), "A file could not be read or written. Look at its folder, its permissions, "
+        self.assertEqual(explain(6, ["make", "1", "m.elf"]), "A file could not be read or written. Look at its folder, its "
+                         "permissions, "
                          "and the room on its disk.")
 
 
@@ -114,7 +118,8 @@ class Permission(Explained):
         os.chmod("a.s", 0o444)
         self.means_to_nobody("make 1 a.s", "fault a.s", "`a.s` may not be written: you have no permission.")
         os.mkdir("closed", 0o555)
-        self.means_to_nobody("make 1 closed/m.elf", "fault closed/m.elf", "`closed/m.elf` can't be made: you have no permission to write "
+        self.means_to_nobody("make 1 closed/m.elf", "fault closed/m.elf", "`closed/m.elf` can't be made: you have no "
+                             "permission to write "
                              "in the folder `closed`.")
 
     def test_reaching(self):
@@ -122,7 +127,8 @@ class Permission(Explained):
         os.rename("a.log", "hidden/a.log")
         os.chmod("hidden", 0)
         self.addCleanup(os.chmod, "hidden", 0o755)
-        self.means_to_nobody("inspect hidden/a.log", "fault hidden/a.log", "`hidden/a.log` may not be reached: you have no permission for "
+        self.means_to_nobody("inspect hidden/a.log", "fault hidden/a.log", "`hidden/a.log` may not be reached: you have no "
+                             "permission for "
                              "one of its folders.")
 
 

@@ -19,7 +19,8 @@ class Images(Explained):
         self.means("walk a.elf 4096 a.log", 4, "refused image 0 %d" % rule, "a.elf" + text)
 
     def test_length(self):
-        self.refused(IMAGE[:51], 1, ": it has 51 bytes, and the header of an ELF file has 52. It begins like an ELF file: is it the "
+        self.refused(IMAGE[:51], 1, ": it has 51 bytes, and the header of an ELF file has 52. It begins like an ELF file: is "
+                     "it the "
                      "file that you mean?")
         self.refused(b"", 1, ": it has 0 bytes, and the header of an ELF file has 52. It is empty: is it the file that you mean?")
         self.refused(b"\x90", 1, ": it has 1 byte, and the header of an ELF file has 52." + LINKED)
@@ -60,9 +61,11 @@ class Images(Explained):
                      ": segment 0 has 12 bytes in the file, and only 8 in memory." + DAMAGED)
 
     def test_segments_in_memory(self):
-        self.refused(elf_header() + program_header(at=4088, length=12) + CODE, 10, ": segment 0 ends at 00001004, past the memory's end "
+        self.refused(elf_header() + program_header(at=4088, length=12) + CODE, 10, ": segment 0 ends at 00001004, past the "
+                     "memory's end "
                      "at 00001000. A memory of 8192 bytes has room for all segments; the stack and heap need more.")
-        self.refused(elf_header() + program_header(at=0xFFFFFFFC) + CODE, 10, ": segment 0 ends at 100000008, past the memory's end at "
+        self.refused(elf_header() + program_header(at=0xFFFFFFFC) + CODE, 10, ": segment 0 ends at 100000008, past the "
+                     "memory's end at "
                      "00001000. No memory is larger than 16,777,216 bytes, so link the program to lower addresses.")
 
     def test_segments_that_overlap(self):
@@ -71,13 +74,16 @@ class Images(Explained):
                      ": segments 0 and 2 share the address 00000010. Mend the linker's script.")
 
     def test_entry(self):
-        self.refused(elf_header(entry=2) + program_header() + CODE, 12, ": the entry, 00000002, isn't a multiple of 4. Set it to the "
+        self.refused(elf_header(entry=2) + program_header() + CODE, 12, ": the entry, 00000002, isn't a multiple of 4. Set it "
+                     "to the "
                      "address of an instruction.")
-        self.refused(elf_header(entry=4096) + program_header() + CODE, 12, ": the entry, 00001000, isn't in the memory, which ends at "
+        self.refused(elf_header(entry=4096) + program_header() + CODE, 12, ": the entry, 00001000, isn't in the memory, which "
+                     "ends at "
                      "00001000. Raise the memory, or set the entry.")
 
     def test_nothing_to_load(self):
-        self.refused(elf_header() + program_header(kind=0) + CODE, 13, ": no segment is loaded: it has 1 program header, and none of "
+        self.refused(elf_header() + program_header(kind=0) + CODE, 13, ": no segment is loaded: it has 1 program header, and "
+                     "none of "
                      "type 1. Is it the linked program, and not empty?")
 
     def test_each_command(self):

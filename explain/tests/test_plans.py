@@ -49,8 +49,10 @@ class Plans(Explained):
         self.refused(changed(("cores = 1", 'cores = "1"')), 3,
                      ", line 1: `cores` is a string, but it has to be a whole number. Write it without quotes and point.")
         self.refused(changed(("window = 2", "window = 2.0")), 3,
-                     ", line 4: `window` is a number with a point, but it has to be a whole number. Write it without quotes and point.")
-        self.refused(changed(('"a.log"', "true")), 3, ", line 13: `log` is true or false, but it has to be a string. Write it in quotes.")
+                     ", line 4: `window` is a number with a point, but it has to be a whole number. Write it without quotes "
+                     "and point.")
+        self.refused(changed(('"a.log"', "true")), 3, ", line 13: `log` is true or false, but it has to be a string. Write it "
+                     "in quotes.")
         self.refused(changed(('"r.txt"', "1979-05-27")), 3,
                      ", line 7: `report` is a date or a time, but it has to be a string. Write it in quotes.")
         self.refused(changed(("[[sphere]]", "[sphere]")), 3,
@@ -115,7 +117,8 @@ class Plans(Explained):
 
     def test_plain_spheres(self):
         for key in ("version = 1", 'mode = "picolog"', 'log = "b.log"', 'strata = "b.strata"'):
-            self.refused(PLAN + SPHERE + key + "\n", 6, ", line 19: `%s` doesn't belong in a plain sphere. Take it out." % key.split()[0])
+            self.refused(PLAN + SPHERE + key + "\n", 6, ", line 19: `%s` doesn't belong in a plain sphere. Take it "
+                         "out." % key.split()[0])
 
     def test_names(self):
         self.refused(changed(('"r.txt"', '""')), 7, ", line 7: `report` is an empty name. Give the file a name.")
@@ -129,7 +132,8 @@ class Plans(Explained):
                      "`log` of sphere 0. Give what is written another name.")
 
     def test_long_chunks_in_version_1(self):
-        self.refused(changed(("chunk = 100", "chunk = 4097")), 8, ", line 2: `chunk` is 4,097, and sphere 0 is recorded in version 1, "
+        self.refused(changed(("chunk = 100", "chunk = 4097")), 8, ", line 2: `chunk` is 4,097, and sphere 0 is recorded in "
+                     "version 1, "
                      "whose chunks have at most 4,096 instructions. Say `version = 2` in the sphere, or take a smaller chunk.")
 
     def test_intervals(self):
@@ -145,8 +149,8 @@ class Plans(Explained):
                      ", line 15: `epoch` and `keep` are only for a sphere that is recorded in version 2. Say `version = 2`.")
         self.refused(REPLAY + "keep = 2\n", 10,
                      ", line 14: `keep` is only for a sphere that is recorded in version 2. Take it out.")
-        self.refused(PLAN + "version = 2\nepoch = 4\n", 10, ", line 16: `epoch` is there without `keep`. Add it.")
-        self.refused(PLAN + "version = 2\nkeep = 4\n", 10, ", line 16: `keep` is there without `epoch`. Add it.")
+        self.refused(PLAN + "version = 2\nepoch = 4\n", 10, ", line 16: `epoch` is there without `keep`. Add the other.")
+        self.refused(PLAN + "version = 2\nkeep = 4\n", 10, ", line 16: `keep` is there without `epoch`. Add the other.")
 
     def test_the_first_rule_of_the_whole_plan(self):
         self.refused("core = 1\n" + changed(('"r.txt"', '""')), 2, ", line 1: `core` isn't a key of the top. Did you mean `cores`?")

@@ -14,7 +14,8 @@ class Scripts(Explained):
     def test_words(self):
         self.refused("step 0\nstpe 0\n", 2, "`stpe` is no event. Did you mean `step`?")
         self.refused("Step 0\n", 1, "`Step` is no event. Did you mean `step`?")
-        self.refused("# x\n\nxyz 0\n", 3, "`xyz` is no event. The events are `step`, `cut`, `ask`, `drain`, `deliver`, `retire`, `place`, "
+        self.refused("# x\n\nxyz 0\n", 3, "`xyz` is no event. The events are `step`, `cut`, `ask`, `drain`, `deliver`, "
+                     "`retire`, `place`, "
                      "`raise` and `dma`.")
 
     def test_numbers(self):
@@ -28,7 +29,8 @@ class Scripts(Explained):
                 ("retire 256", "`256` is over 255, the most that a slot can be. Write it as `retire K`."),
                 ("place 0 256 0", "`256` is over 255, the most that a sphere can be. Write it as `place C S T`."),
                 ("place 0 0 999", "`999` is over 255, the most that a thread can be. Write it as `place C S T`."),
-                ("raise 0 0 4294967296", "`4294967296` is over 4294967295, the most that a value can be. Write it as `raise S T V`.")):
+                ("raise 0 0 4294967296", "`4294967296` is over 4294967295, the most that a value can be. Write it as `raise S "
+                 "T V`.")):
             with self.subTest(line):
                 self.refused(line + "\n", 1, text)
 
