@@ -73,11 +73,9 @@ class Logs(Explained):
         self.refused(log(1, 0, EMPTY, EMPTY), 5, 16, "16: the number of entries of the order is 0, but it has to be 1." + DAMAGED)
         self.refused(log(1, 2, ONE, EMPTY), 5, 16, "16: the number of entries of the order is 1, but it has to be 0." + DAMAGED)
         self.refused(log(1, 0, section(b"\x10"), EMPTY), 5, 20, "20: the last byte of the order, whose high half is spare, is "
-                     "16, but it "
-                     "has to be 0 to 15." + DAMAGED)
+                     "16, but it has to be 0 to 15." + DAMAGED)
         self.refused(log(2, 0, section(b"\0", b"\x0f"), EMPTY, commits=2), 5, 21, "21: the actor of commit 1 is 15, but it has "
-                     "to be a "
-                     "thread, 0 to 14, or 63 for a DMA." + DAMAGED)
+                     "to be a thread, 0 to 14, or 63 for a DMA." + DAMAGED)
 
     def test_sizes_in_order_size(self):
         self.refused(log(1, 0, ONE, EMPTY), 5, 21, "21: the number of entries of the sizes is 0, but it has to be 1." + DAMAGED)
@@ -123,9 +121,9 @@ class Logs(Explained):
         self.put("a.log", LOG + b"\n")
         text = "a.log, byte 41: 1 byte follows the last section. Something was appended: `head -c 41` gives the part before it."
         self.put("plan.toml", REPLAY)
-        for words in ("walk a.elf 4096 a.log", "interval a.elf 4096 a.log 1 0 1", "watch a.elf 4096 a.log 0", "who a.elf 4096 "
-                      "a.log 0 1",
-                      "when a.elf 4096 a.log 0 0", "strata a.elf 4096 a.log x", "migrate a.log x", "run plan.toml"):
+        for words in ("walk a.elf 4096 a.log", "interval a.elf 4096 a.log 1 0 1", "watch a.elf 4096 a.log 0",
+                      "who a.elf 4096 a.log 0 1", "when a.elf 4096 a.log 0 0", "strata a.elf 4096 a.log x", "migrate a.log x",
+                      "run plan.toml"):
             self.means(words, 5, "refused log 0 7 41", text)
 
 

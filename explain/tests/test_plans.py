@@ -38,8 +38,8 @@ class Plans(Explained):
         self.refused(PLAN + "seed = 1\n", 2,
                      ", line 15: `seed` isn't a key of a sphere. It is one of the top: put it before the first `[[sphere]]`.")
         self.refused(PLAN + "zz = 1\n", 2,
-                     ", line 15: `zz` isn't a key of a sphere. The keys are `image`, `memory`, `role`, `mode`, `version`, `log`, "
-                     "`strata`, `from`, `to`, `epoch`, `keep` and `account`.")
+                     ", line 15: `zz` isn't a key of a sphere. The keys are `image`, `memory`, `role`, `mode`, `version`, "
+                     "`log`, `strata`, `from`, `to`, `epoch`, `keep` and `account`.")
 
     def test_missing_keys(self):
         self.refused(changed(("cores = 1\n", "")), 3, ": the key `cores` is missing. Add it.")
@@ -98,8 +98,8 @@ class Plans(Explained):
 
     def test_schedules(self):
         self.refused("events = 1\n" + PLAN, 5, ", line 7: `events` and `script` are both there. Take one of them out.")
-        self.refused(changed(('script = "s.txt"\n', "")), 5, ": neither `events` nor `script` is there. Say how many events are "
-                     "drawn, or name a script; `events = 0` will do for a replay.")
+        self.refused(changed(('script = "s.txt"\n', "")), 5, ": neither `events` nor `script` is there. Say how many events "
+                     "are drawn, or name a script; `events = 0` will do for a replay.")
 
     def test_recorded_spheres(self):
         self.refused(changed(('mode = "order-size"\n', "")), 6, ", line 8: sphere 0 is recorded, and has no `mode`. Add it.")
@@ -133,8 +133,8 @@ class Plans(Explained):
 
     def test_long_chunks_in_version_1(self):
         self.refused(changed(("chunk = 100", "chunk = 4097")), 8, ", line 2: `chunk` is 4,097, and sphere 0 is recorded in "
-                     "version 1, "
-                     "whose chunks have at most 4,096 instructions. Say `version = 2` in the sphere, or take a smaller chunk.")
+                     "version 1, whose chunks have at most 4,096 instructions. Say `version = 2` in the sphere, or take a "
+                     "smaller chunk.")
 
     def test_intervals(self):
         advice = " To see a part of a recording, record it whole and replay the part of its log."
@@ -165,8 +165,8 @@ class Plans(Explained):
         self.assertEqual(self.answer("run", "plan.toml"), (3, "refused plan 4"))
         self.assertEqual(explain(3, ["run", "plan.toml"], "refused plan 4"),
                          "A number is out of its range, or there are no spheres or over 8. Change the number.")
-        self.assertEqual(explain(3, ["run", "plan.toml"]), "The number is that of the first rule of plans that the plan breaks. "
-                         "The rules in words are in docs/answers.md, or in `man delorean`.")
+        self.assertEqual(explain(3, ["run", "plan.toml"]), "The number is that of the first rule of plans that the plan "
+                         "breaks. The rules in words are in docs/answers.md, or in `man delorean`.")
 
 
 if __name__ == "__main__":

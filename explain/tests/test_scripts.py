@@ -15,8 +15,7 @@ class Scripts(Explained):
         self.refused("step 0\nstpe 0\n", 2, "`stpe` is no event. Did you mean `step`?")
         self.refused("Step 0\n", 1, "`Step` is no event. Did you mean `step`?")
         self.refused("# x\n\nxyz 0\n", 3, "`xyz` is no event. The events are `step`, `cut`, `ask`, `drain`, `deliver`, "
-                     "`retire`, `place`, "
-                     "`raise` and `dma`.")
+                     "`retire`, `place`, `raise` and `dma`.")
 
     def test_numbers(self):
         for line, text in (
@@ -45,8 +44,8 @@ class Scripts(Explained):
         """With a smaller limit, because so long a script takes seconds."""
         self.put("s.txt", "dma 0\n# x\ncut 0\nstep 0\n")
         with mock.patch("explain.script.MOST_COMMITS", 2):
-            self.assertEqual(explain(5, ["run", "plan.toml"]), "s.txt, line 4: it is the event after the 2^24th. A run has at most "
-                             "16,777,216 events.")
+            self.assertEqual(explain(5, ["run", "plan.toml"]), "s.txt, line 4: it is the event after the 2^24th. A run has at "
+                             "most 16,777,216 events.")
 
 
 if __name__ == "__main__":

@@ -31,8 +31,8 @@ class Strata(Explained):
         self.refused(strata(chunks(1, 0))[:18], 1, 18, "the file ends inside the numbers of chunks in stratum 0 (2 bytes from "
                      "byte 17 on)."
                      + CUT)
-        self.refused(b"DLRN" + bytes(12), 2, 0, "it doesn't begin with DLRS. It is a log: `delorean walk` plays it, and a replayed "
-                     "sphere takes it by the key `log`.")
+        self.refused(b"DLRN" + bytes(12), 2, 0, "it doesn't begin with DLRS. It is a log: `delorean walk` plays it, and a "
+                     "replayed sphere takes it by the key `log`.")
         self.refused(strata(version=2), 3, 4, "the version is 2, but it has to be 1." + DAMAGED)
         self.bad(strata(counted=64), 5, "the number of threads that are counted is 64, but it has to be 1 to 63")
         self.bad(strata(counted=16), 6, "the number of threads that the sphere may have is 15, but it has to be 63")

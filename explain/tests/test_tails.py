@@ -51,8 +51,7 @@ class Tails(Explained):
 
     def test_another_file(self):
         self.refused(INNER, 2, 0, "it doesn't begin with DLRT. It is a log: `delorean walk` plays it, and a replayed sphere "
-                     "takes it by "
-                     "the key `log`.")
+                     "takes it by the key `log`.")
 
     def test_header(self):
         self.refused(header(version=2), 3, 4, "the version is 2, but it has to be 1." + DAMAGED)
@@ -72,8 +71,7 @@ class Tails(Explained):
         self.bad(header(length=1), 20, "the length of the DMA request is 1, but it has to be 0")
         self.bad(header(is_asked=1, length=4097), 20, "the length of the DMA request is 4,097, but it has to be 0 to 4,096")
         self.bad(header(is_asked=1, buffer=4092, length=4), 24, "the size of the memory is 4,096, but it has to be a multiple "
-                 "of 4,096 "
-                 "from 4,100 to 16,777,216")
+                 "of 4,096 from 4,100 to 16,777,216")
 
     def test_threads(self):
         for at, text, fields in (
