@@ -57,7 +57,8 @@ def decoded(data):
     except UnicodeDecodeError as error:
         before = data[: error.start]
         line, column = before.count(b"\n") + 1, len(before) - before.rfind(b"\n")
-        raise Broken((1,), "a byte isn't UTF-8, and a TOML file is", "line %d, byte %d" % (line, column), "Save it as UTF-8.") from None
+        place = "line %d, byte %d" % (line, column)
+        raise Broken((1,), "a byte isn't UTF-8, and a TOML file is", place, "Save it as UTF-8.") from None
     return text[1:] if text.startswith("\ufeff") else text
 
 

@@ -77,5 +77,5 @@ def out_of_memory():
     limit = resource.getrlimit(resource.RLIMIT_AS)[0]
     if limit == resource.RLIM_INFINITY:
         return sentence(OTHERS[8])
-    return "Memory ran out: `ulimit -v` allows %s KiB. Raise that, or take fewer spheres, smaller memories or fewer events." % number(
-        limit // 1024)
+    found = "Memory ran out: `ulimit -v` allows %s KiB." % number(limit // 1024)
+    return found + " Raise that, or take fewer spheres, smaller memories or fewer events."

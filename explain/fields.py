@@ -63,8 +63,9 @@ class Fields:
     def end(self):
         more = len(self.data) - self.at
         if more:
-            raise Broken((TRAILING, self.at), "%s %s its end" % (count(more, "byte"), "follows" if more == 1 else "follow"),
-                         "byte %d" % self.at, "Something was appended: `head -c %d` gives the part before it." % self.at)
+            found = "%s %s the last section" % (count(more, "byte"), "follows" if more == 1 else "follow")
+            raise Broken((TRAILING, self.at), found, "byte %d" % self.at,
+                         "Something was appended: `head -c %d` gives the part before it." % self.at)
 
 
 def bad(wrong, start, what, v, wanted):

@@ -126,7 +126,7 @@ def where(name, beside):
     """Where the file may be instead, as a sentence."""
     folder = os.path.dirname(beside) if beside else ""
     if folder and not os.path.isabs(name) and os.path.exists(os.path.join(folder, name)):
-        return "It is in the plan's folder, but names count from the folder of the command: `cd %s` first." % quoted(folder).strip("`")
+        return "It is in the plan's folder, but names count from the folder of the command: %s first." % quoted("cd " + folder)
     near = neighbour(name)
     if near:
         return "Did you mean %s?" % quoted(near)

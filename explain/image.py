@@ -29,8 +29,8 @@ def read_image(data, size):
     if entry >= size:
         raise Broken((12,), "the entry, %s, isn't in the memory, which ends at %s" % (address(entry), address(size)))
     if not segments:
-        raise Broken((13,), "no segment is loaded: it has %s, and none of type 1" % count(struct.unpack_from("<H", data, 44)[0],
-                                                                                         "program header"))
+        headers = struct.unpack_from("<H", data, 44)[0]
+        raise Broken((13,), "no segment is loaded: it has %s, and none of type 1" % count(headers, "program header"))
 
 
 def address(v):
@@ -39,16 +39,19 @@ def address(v):
 
 def check_header(data):
     if len(data) < HEADER:
-        raise Broken((1,), "it has %s, and the header of an ELF file has %d" % (count(len(data), "byte"), HEADER), "", looks_like(data))
+        found = "it has %s, and the header of an ELF file has %d" % (count(len(data), "byte"), HEADER)
+        raise Broken((1,), found, "", looks_like(data))
     kind, machine, version, _, _, _, flags = struct.unpack_from("<HHIIIII", data, 16)
     if data[:4] != b"\x7fELF":
         raise Broken((2,), "it doesn't begin with 7F 45 4C 46, so it isn't an ELF file", "byte 0", looks_like(data))
     if data[6] != 1 or version != 1:
-        raise Broken((2,), "the version of ELF isn't 1", "byte %d" % (6 if data[6] != 1 else 20), "The file is damaged: link it again.")
+        place = "byte %d" % (6 if data[6] != 1 else 20)
+        raise Broken((2,), "the version of ELF isn't 1", place, "The file is damaged: link it again.")
     if data[4] != 1:
         raise Broken((3,), "it is %s" % ("of 64 bits" if data[4] == 2 else "of no known number of bits"), "byte 4")
     if data[5] != 1:
-        raise Broken((4,), "its numbers have their %s" % ("high byte first" if data[5] == 2 else "bytes in no known order"), "byte 5")
+        order = "high byte first" if data[5] == 2 else "bytes in no known order"
+        raise Broken((4,), "its numbers have their %s" % order, "byte 5")
     if kind != 2:
         raise Broken((5,), "it is %s" % KINDS.get(kind, "a file of type %d" % kind), "byte 16")
     if machine != 243:
@@ -82,26 +85,31 @@ def read_segments(data):
         raise Broken((8,), "its program headers have %s each, and not 32" % count(header_size, "byte"), "byte 42")
     end = headers + PROGRAM_HEADER * many
     if end > len(data):
-        raise Broken((8,), "its program headers end at %s, but the file has %s" % (number(end), count(len(data), "byte")), "byte 28")
-    programs = [struct.unpack_from("<6I", data, headers + PROGRAM_HEADER * j) for j in range(many)]
-    return [Segment(j, offset, at, filled, length) for j, (kind, offset, at, _, filled, length) in enumerate(programs) if kind == LOADED]
+        found = "its program headers end at %s, but the file has %s" % (number(end), count(len(data), "byte"))
+        raise Broken((8,), found, "byte 28")
+    segments = []
+    for j in range(many):
+        kind, offset, at, _, filled, length = struct.unpack_from("<6I", data, headers + PROGRAM_HEADER * j)
+        if kind == LOADED:
+            segments.append(Segment(j, offset, at, filled, length))
+    return segments
 
 
 def check_in_file(segments, length, _):
     for s in segments:
         if s.offset + s.filled > length:
-            raise Broken((9,), "segment %d has bytes up to %s of the file, which has %s" % (s.number, number(s.offset + s.filled),
-                                                                                        number(length)))
+            raise Broken((9,), "the bytes of segment %d end at %s, but the file has %s"
+                         % (s.number, number(s.offset + s.filled), count(length, "byte")))
         if s.filled > s.length:
-            raise Broken((9,), "segment %d has %s in the file, and only %s in memory" % (s.number, count(s.filled, "byte"),
-                                                                                    number(s.length)))
+            raise Broken((9,), "segment %d has %s in the file, and only %s in memory"
+                         % (s.number, count(s.filled, "byte"), number(s.length)))
 
 
 def check_in_memory(segments, _, size):
     for s in segments:
         if s.at + s.length > size:
-            raise Broken((10,), "segment %d ends at %s, past the memory's end at %s" % (s.number, address(s.at + s.length), address(size)),
-                         "", room_for(segments))
+            found = "segment %d ends at %s, past the memory's end at %s" % (s.number, address(s.at + s.length), address(size))
+            raise Broken((10,), found, "", room_for(segments))
 
 
 def room_for(segments):

@@ -70,7 +70,8 @@ def read_order(f, entries, threads):
     wrong = there.translate(None, bytes([*range(threads), DMA]))
     if wrong:
         at = start + min(there.index(byte) for byte in set(wrong))
-        raise bad(FIELD, at, "the actor of commit %d" % (at - start), f.data[at], "a thread, 0 to %d, or %d for a DMA" % (threads - 1, DMA))
+        wanted = "a thread, 0 to %d, or %d for a DMA" % (threads - 1, DMA)
+        raise bad(FIELD, at, "the actor of commit %d" % (at - start), f.data[at], wanted)
     f.take(entries, "the order")
 
 

@@ -23,28 +23,32 @@ some seconds, only what is certain is said: the rule in words, as it is here.
 SECTIONS = (
     ("Plans", "`refused plan RULE`, status 3. RULE is the first rule that the whole plan breaks.", "RULE", PLAN),
     ("Images", "`refused image SPHERE RULE`, status 4.", "RULE", IMAGE),
-    ("Logs and tails", "`refused log SPHERE NUMBER OFFSET`, status 5. OFFSET is the first byte of the field or entry that isn't good; with "
-     "1 it is the length of the file. A tail is refused in the same way, by `tail`.", "NUMBER", LOG),
-    ("Strata", "`refused strata SPHERE NUMBER OFFSET`, status 5. With 8 and 9 the last number is that of a commit.", "NUMBER", STRATA),
+    ("Logs and tails", "`refused log SPHERE NUMBER OFFSET`, status 5. OFFSET is the first byte of the field or entry that isn't\n"
+     "good; with 1 it is the length of the file. A tail is refused in the same way, by `tail`.", "NUMBER", LOG),
+    ("Strata", "`refused strata SPHERE NUMBER OFFSET`, status 5. With 8 and 9 the last number is that of a commit.",
+     "NUMBER", STRATA),
     ("Scripts", "`refused script LINE`, status 5. LINE is the first wrong line.", "", {"": SCRIPT}),
     ("Sources", "`refused source LINE RULE`, status 9. LINE is the first line that breaks a rule.", "RULE", SOURCE),
 )
+COLUMNS = ["What is wrong", "What to do"]
 LINES = {2: "`usage`", 6: "`fault NAME`", 7: "what got through", 8: "nothing, or a beginning", 10: "`absent NAME`"}
 
-ENDING = """A replay that diverges isn't an error: its status is 1, and the [reasons](delorean.1.md#reasons-to-diverge) are in the manual.
+ENDING = """A replay that diverges isn't an error: its status is 1, and the [reasons](delorean.1.md#reasons-to-diverge) are in the
+manual.
 """
 
 
 def page():
     parts = [INTRODUCTION]
     for title, text, number, rules in SECTIONS:
-        head = ("| %s | What is wrong | What to do |\n|---|---|---|" % number if number else "| What is wrong | What to do |\n|---|---|")
-        parts.append("## %s\n\n%s\n\n%s\n" % (title, text, "\n".join([head, *map(row, rules.items())])))
-    parts.append("## Other answers\n\n| Status | Line | What is wrong | What to do |\n|---|---|---|---|\n%s\n" % "\n".join(
-        "| %d | %s | %s | %s |" % (status, LINES[status], *rule) for status, rule in OTHERS.items()))
+        columns = [number, *COLUMNS] if number else COLUMNS
+        rows = [[str(n), *rule] if number else rule for n, rule in rules.items()]
+        parts.append("## %s\n\n%s\n\n%s" % (title, text, table(columns, rows)))
+    rows = [[str(status), LINES[status], *rule] for status, rule in OTHERS.items()]
+    parts.append("## Other answers\n\n" + table(["Status", "Line", *COLUMNS], rows))
     return "\n".join([*parts, ENDING])
 
 
-def row(item):
-    number, rule = item
-    return "| %s | %s |" % rule if number == "" else "| %d | %s | %s |" % (number, *rule)
+def table(columns, rows):
+    lines = [columns, len(columns) * ["---"], *rows]
+    return "".join("| %s |\n" % " | ".join(line) for line in lines).replace("| --- ", "|---").replace("|--- |", "|---|")

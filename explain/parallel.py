@@ -57,7 +57,7 @@ def play_commit(player, kind):
     if len(player.commits) == number:
         raise unfit(player, "the play diverges there, for reason %d" % player.end[2])
     if player.commits[-1].kind != kind:
-        raise Broken((UNFIT, number), "it is %s, and its stratum is for %s" % (NAMES[player.commits[-1].kind], NAMES[kind]),
+        raise Broken((UNFIT, number), "it is %s, but its stratum is for %s" % (NAMES[player.commits[-1].kind], NAMES[kind]),
                      "commit %d" % number)
 
 
@@ -82,7 +82,7 @@ class Seen:
         if not found:
             return None
         word, thread, earlier = found
-        return Broken((CONFLICT, number), "of thread %d, it conflicts with commit %d, of thread %d, on the word at %08X"
+        return Broken((CONFLICT, number), "a chunk of thread %d conflicts with commit %d, of thread %d, on the word at %08X"
                       % (actor, earlier, thread, word), "commit %d" % number)
 
     @staticmethod

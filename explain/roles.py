@@ -5,7 +5,7 @@ from explain.shown import listed, number, quoted
 
 NEEDS = {"record": ("mode", "log"), "replay": (), "plain": ()}
 FORBIDS = {"record": ("strata",), "replay": ("mode", "version"), "plain": ("mode", "version", "log", "strata")}
-ROLES = {"record": "a recorded sphere", "replay": "a replayed sphere", "plain": "a plain sphere"}
+ROLES = {"record": "recorded", "replay": "replayed", "plain": "plain"}
 MOST_RECORDED = 4096  # the most instructions of a chunk in a log of version 1
 
 
@@ -18,10 +18,12 @@ def check_roles(document):
         role = sphere["role"]
         for key in NEEDS[role]:
             if key not in sphere:
-                raise Broken((6,), "sphere %d is recorded, and has no %s" % (i, quoted(key)), document.place("sphere", i), "Add it.")
+                found = "sphere %d is recorded, and has no %s" % (i, quoted(key))
+                raise Broken((6,), found, document.place("sphere", i), "Add it.")
         for key in FORBIDS[role]:
             if key in sphere:
-                raise Broken((6,), "%s has no %s" % (ROLES[role], quoted(key)), document.place("sphere", i, key), without(role))
+                found = "%s doesn't belong in a %s sphere" % (quoted(key), ROLES[role])
+                raise Broken((6,), found, document.place("sphere", i, key), without(role))
         if role == "replay":
             check_replayed(document, i, sphere)
 
@@ -34,7 +36,7 @@ def without(role):
 
 def check_replayed(document, i, sphere):
     if "log" in sphere and "strata" in sphere:
-        raise Broken((6,), "a replayed sphere has a log or strata, and not both", document.place("sphere", i, "strata"),
+        raise Broken((6,), "sphere %d has both `log` and `strata`" % i, document.place("sphere", i, "strata"),
                      "Take one of them out.")
     if "log" not in sphere and "strata" not in sphere:
         raise Broken((6,), "sphere %d is replayed, and has neither a log nor strata" % i, document.place("sphere", i), "Add `log`.")
@@ -63,13 +65,17 @@ def check_epochs(document):
     for i, sphere in spheres(document):
         there = [key for key in ("epoch", "keep") if key in sphere]
         if there and (sphere["role"] != "record" or sphere.get("version", 1) != 2):
-            raise Broken((10,), "%s for a sphere that is recorded in version 2" % only(there), document.place("sphere", i, there[0]),
-                         "Say `version = 2`." if sphere["role"] == "record" else "Take %s out." % ("it" if len(there) == 1 else "them"))
+            found, taken_out = only_in_version_2(there)
+            to_do = "Say `version = 2`." if sphere["role"] == "record" else taken_out
+            raise Broken((10,), found, document.place("sphere", i, there[0]), to_do)
         if len(there) == 1:
             other = "keep" if there == ["epoch"] else "epoch"
-            raise Broken((10,), "%s is there without %s" % (quoted(there[0]), quoted(other)), document.place("sphere", i, there[0]),
-                         "Add it.")
+            found = "%s is there without %s" % (quoted(there[0]), quoted(other))
+            raise Broken((10,), found, document.place("sphere", i, there[0]), "Add the other.")
 
 
-def only(there):
-    return "%s %s only" % (listed(map(quoted, there), "and"), "is" if len(there) == 1 else "are")
+def only_in_version_2(there):
+    """What is wrong with these keys, and what to do in a sphere that isn't recorded."""
+    is_one = len(there) == 1
+    found = "%s %s only for a sphere that is recorded in version 2" % (listed(map(quoted, there), "and"), "is" if is_one else "are")
+    return found, "Take %s out." % ("it" if is_one else "them")

@@ -22,6 +22,7 @@ PLAN = {
              "Say `version = 2` in the recorded sphere, and give both."),
 }
 
+_CUT_IMAGE = "The file is cut or damaged: link it again."
 IMAGE = {
     1: Rule("the file is shorter than the header of an ELF file", "Is it the linked program?"),
     2: Rule("the file isn't an ELF file", "Is it the linked program?"),
@@ -31,9 +32,8 @@ IMAGE = {
     6: Rule("the program isn't for RISC-V", "Compile it for riscv32."),
     7: Rule("the program has compressed instructions, passes floating point in registers, or is for RV32E",
             "Compile it with -march=rv32ima -mabi=ilp32."),
-    8: Rule("the program headers don't have 32 bytes each, or end past the file's end", "The file is cut or damaged: link it again."),
-    9: Rule("a segment's bytes end past the file's end, or are more than it has in memory",
-            "The file is cut or damaged: link it again."),
+    8: Rule("the program headers don't have 32 bytes each, or end past the file's end", _CUT_IMAGE),
+    9: Rule("a segment's bytes end past the file's end, or are more than it has in memory", _CUT_IMAGE),
     10: Rule("a segment ends past the memory's end", "Raise the memory, or link the program to lower addresses."),
     11: Rule("two segments share an address", "Mend the linker's script."),
     12: Rule("the entry isn't a multiple of 4, or not in the memory", "Raise the memory, or set the entry."),

@@ -6,7 +6,9 @@ from explain.refusal import Broken
 from explain.shown import count, listed, quoted
 from explain.words import MOST_COMMITS
 
-EVENTS = {"step": "C", "cut": "C", "ask": "C", "drain": "K", "deliver": "CK", "retire": "K", "place": "CST", "raise": "STV", "dma": "S"}
+# Each event, and which numbers follow it.
+EVENTS = {"step": "C", "cut": "C", "ask": "C", "drain": "K", "deliver": "CK", "retire": "K", "place": "CST", "raise": "STV",
+          "dma": "S"}
 NAMES = {"C": "a core", "K": "a slot", "S": "a sphere", "T": "a thread", "V": "a value"}
 MOST, MOST_VALUE = 255, (1 << 32) - 1
 
@@ -35,11 +37,11 @@ def wrong_in(line):
     form = "%s %s" % (word, " ".join(EVENTS[word]))
     if len(numbers) != len(EVENTS[word]):
         found = "%s has %s, but it takes %d" % (quoted(word), count(len(numbers), "number"), len(EVENTS[word]))
-        return found, "It is `%s`." % form
+        return found, "Write it as `%s`." % form
     for key, text in zip(EVENTS[word], numbers):
         wrong = wrong_number(key, text)
         if wrong:
-            return wrong, "It is `%s`." % form
+            return wrong, "Write it as `%s`." % form
     return None
 
 

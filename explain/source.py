@@ -81,8 +81,8 @@ def read_line(text):
     operands = [read_operand(part.strip(" \t")) for part in found[3].split(",")] if found[3] else []
     for operand in operands:
         if operand.value is None and operand.register is None:
-            return Line(label, None, [], ("%s has the form of no operand" % (quoted(operand.text) if operand.text else "an empty part"),
-                                          "An operand is a register, a number, a label, or as `4(x2)` or `(x2)`."))
+            found = "%s has the form of no operand" % (quoted(operand.text) if operand.text else "an empty part")
+            return Line(label, None, [], (found, "An operand is a register, a number, a label, or as `4(x2)` or `(x2)`."))
     return Line(label, found[2], operands, None)
 
 
@@ -119,7 +119,7 @@ def wrong_mnemonic(line):
 def wrong_operands(line):
     if line.mnemonic is None:
         return None
-    kinds, to_do = STATEMENTS[line.mnemonic], "It is `%s`." % form(line.mnemonic)
+    kinds, to_do = STATEMENTS[line.mnemonic], "Write it as `%s`." % form(line.mnemonic)
     if len(kinds) != len(line.operands):
         return "%s has %s, but it takes %d" % (quoted(line.mnemonic), count(len(line.operands), "operand"), len(kinds)), to_do
     for kind, operand in zip(kinds, line.operands):

@@ -2,6 +2,7 @@
 
 from explain.fields import FIELD, VERSION, Fields, bad
 from explain.log import read_tail_log
+from explain.refusal import Broken
 from explain.words import MOST_COMMITS, MOST_MEMORY, range_of
 
 NO_THREAD, ROW, MOST_THREADS, MOST_LENGTH, MOST_CAUSE = 255, 32, 63, 4096, 7
@@ -62,5 +63,5 @@ def read_row(f, name, memory):
     number = f.number(4, "the number of %s" % name, memory // ROW - 1)
     start = f.at
     if not any(f.take(ROW, "the bytes of %s" % name)):
-        raise bad(FIELD, start, "each byte of %s" % name, 0, "another in at least one place")
+        raise Broken((FIELD, start), "the bytes of %s are all 0, and such a row is left out" % name, "byte %d" % start)
     return number

@@ -73,7 +73,8 @@ def operands(name, words):
         if not is_escaped and word == "--":
             is_escaped = True
         elif not is_escaped and word.startswith("-") and word != "-":
-            raise of(name, "%s isn't an operand: there are no options, and a name that begins with - is given after `--`" % quoted(word))
+            found = "%s isn't an operand: there are no options, and a name that begins with - is given after `--`"
+            raise of(name, found % quoted(word))
         else:
             taken.append(word)
     wanted = COMMANDS[name]

@@ -17,10 +17,9 @@ SILENT = {**os.environ, "DELOREAN_EXPLAIN": "0"}
 
 
 def program():
-    """The program, called without looking at the times of all sources, if it is where bin/delorean leaves it."""
-    subprocess.run([TOP / "bin/delorean"], stdout=subprocess.DEVNULL, env=SILENT)
-    built = TOP / "out/delorean"
-    return built if built.is_file() else TOP / "bin/delorean"
+    """The program that bin/delorean takes, so that it looks for it once only; or bin/delorean, if that doesn't say."""
+    found = subprocess.run([TOP / "bin/delorean", "--path"], stdout=subprocess.PIPE, env=SILENT, text=True)
+    return found.stdout.rstrip("\n") if found.returncode == 0 else TOP / "bin/delorean"
 
 
 PROGRAM = program()

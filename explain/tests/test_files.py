@@ -27,11 +27,11 @@ class Absent(Explained):
         os.mkdir("there")
         for name in ("plan.toml", "s.txt", "a.elf"):
             os.rename(name, "there/" + name)
-        self.means("run there/plan.toml", 10, "absent s.txt", "`s.txt` isn't there. It is in the plan's folder, but names count from the "
-                   "folder of the command: `cd there` first.")
+        self.means("run there/plan.toml", 10, "absent s.txt", "`s.txt` isn't there. It is in the plan's folder, but names "
+                   "count from the folder of the command: `cd there` first.")
         os.remove("there/s.txt")
-        self.means("run there/plan.toml", 10, "absent s.txt", "`s.txt` isn't there. Names count from the folder of the command, and not "
-                   "from the plan's.")
+        self.means("run there/plan.toml", 10, "absent s.txt", "`s.txt` isn't there. Names count from the folder of the "
+                   "command, and not from the plan's.")
 
 
 class Reading(Explained):
@@ -53,8 +53,8 @@ class Reading(Explained):
         writer = os.open("pipe", os.O_RDWR)
         self.addCleanup(os.close, writer)
         os.write(writer, b"DLRN")
-        self.fault("inspect pipe", "pipe", "isn't a regular file: a log is opened again for each of its pieces, so it can't come through "
-                   "a pipe")
+        self.fault("inspect pipe", "pipe", "isn't a regular file: a log is opened again for each of its pieces, so it can't "
+                   "come through a pipe")
 
     def test_a_large_file(self):
         with open("large", "wb") as file:
@@ -88,8 +88,8 @@ class Writing(Explained):
             self.assertEqual(explain(6, ["make", "1", "m.elf"]), "`m.elf` can't be written: its disk is full.")
 
     def test_what_does_not_show(self):
-        self.assertEqual(explain(6, ["make", "1", "m.elf"]), "A file could not be read or written. Look at its folder, its permissions, "
-                         "and the room on its disk.")
+        self.assertEqual(explain(6, ["make", "1", "m.elf"]), "A file could not be read or written. Look at its folder, its "
+                         "permissions, and the room on its disk.")
 
 
 class Permission(Explained):
@@ -114,16 +114,16 @@ class Permission(Explained):
         os.chmod("a.s", 0o444)
         self.means_to_nobody("make 1 a.s", "fault a.s", "`a.s` may not be written: you have no permission.")
         os.mkdir("closed", 0o555)
-        self.means_to_nobody("make 1 closed/m.elf", "fault closed/m.elf", "`closed/m.elf` can't be made: you have no permission to write "
-                             "in the folder `closed`.")
+        self.means_to_nobody("make 1 closed/m.elf", "fault closed/m.elf", "`closed/m.elf` can't be made: you have no "
+                             "permission to write in the folder `closed`.")
 
     def test_reaching(self):
         os.mkdir("hidden")
         os.rename("a.log", "hidden/a.log")
         os.chmod("hidden", 0)
         self.addCleanup(os.chmod, "hidden", 0o755)
-        self.means_to_nobody("inspect hidden/a.log", "fault hidden/a.log", "`hidden/a.log` may not be reached: you have no permission for "
-                             "one of its folders.")
+        self.means_to_nobody("inspect hidden/a.log", "fault hidden/a.log", "`hidden/a.log` may not be reached: you have no "
+                             "permission for one of its folders.")
 
 
 if __name__ == "__main__":

@@ -19,8 +19,8 @@ class Images(Explained):
         self.means("walk a.elf 4096 a.log", 4, "refused image 0 %d" % rule, "a.elf" + text)
 
     def test_length(self):
-        self.refused(IMAGE[:51], 1, ": it has 51 bytes, and the header of an ELF file has 52. It begins like an ELF file: is it the "
-                     "file that you mean?")
+        self.refused(IMAGE[:51], 1, ": it has 51 bytes, and the header of an ELF file has 52. It begins like an ELF file: is "
+                     "it the file that you mean?")
         self.refused(b"", 1, ": it has 0 bytes, and the header of an ELF file has 52. It is empty: is it the file that you mean?")
         self.refused(b"\x90", 1, ": it has 1 byte, and the header of an ELF file has 52." + LINKED)
 
@@ -28,8 +28,8 @@ class Images(Explained):
         no_elf = ", byte 0: it doesn't begin with 7F 45 4C 46, so it isn't an ELF file."
         self.refused(with_bytes(0, b"\0"), 2, no_elf + LINKED)
         self.refused(with_bytes(0, b"DLRN"), 2, no_elf + " It begins like a log: is it the file that you mean?")
-        self.refused(b"int main(void) { return 0; }\n" * 3, 2, no_elf + " It is a text: a source has to be assembled or compiled "
-                     "first.")
+        self.refused(b"int main(void) { return 0; }\n" * 3, 2, no_elf + " It is a text: a source has to be assembled or "
+                     "compiled first.")
         self.refused(with_bytes(6, b"\2"), 2, ", byte 6: the version of ELF isn't 1. The file is damaged: link it again.")
         self.refused(with_bytes(20, b"\2"), 2, ", byte 20: the version of ELF isn't 1. The file is damaged: link it again.")
 
@@ -55,15 +55,16 @@ class Images(Explained):
         self.refused(IMAGE[:83], 8, ", byte 28: its program headers end at 84, but the file has 83 bytes." + DAMAGED)
 
     def test_segments_in_the_file(self):
-        self.refused(IMAGE[:95], 9, ": segment 0 has bytes up to 96 of the file, which has 95." + DAMAGED)
+        self.refused(IMAGE[:95], 9, ": the bytes of segment 0 end at 96, but the file has 95 bytes." + DAMAGED)
         self.refused(elf_header() + program_header(length=8) + CODE, 9,
                      ": segment 0 has 12 bytes in the file, and only 8 in memory." + DAMAGED)
 
     def test_segments_in_memory(self):
-        self.refused(elf_header() + program_header(at=4088, length=12) + CODE, 10, ": segment 0 ends at 00001004, past the memory's end "
-                     "at 00001000. A memory of 8192 bytes has room for all segments; the stack and heap need more.")
-        self.refused(elf_header() + program_header(at=0xFFFFFFFC) + CODE, 10, ": segment 0 ends at 100000008, past the memory's end at "
-                     "00001000. No memory is larger than 16,777,216 bytes, so link the program to lower addresses.")
+        self.refused(elf_header() + program_header(at=4088, length=12) + CODE, 10, ": segment 0 ends at 00001004, past the "
+                     "memory's end at 00001000. A memory of 8192 bytes has room for all segments; the stack and heap need more.")
+        self.refused(elf_header() + program_header(at=0xFFFFFFFC) + CODE, 10, ": segment 0 ends at 100000008, past the "
+                     "memory's end at 00001000. No memory is larger than 16,777,216 bytes, so link the program to lower "
+                     "addresses.")
 
     def test_segments_that_overlap(self):
         headers = program_header(at=16, offset=148) + program_header(kind=4) + program_header(at=8, offset=148)
@@ -71,14 +72,14 @@ class Images(Explained):
                      ": segments 0 and 2 share the address 00000010. Mend the linker's script.")
 
     def test_entry(self):
-        self.refused(elf_header(entry=2) + program_header() + CODE, 12, ": the entry, 00000002, isn't a multiple of 4. Set it to the "
-                     "address of an instruction.")
-        self.refused(elf_header(entry=4096) + program_header() + CODE, 12, ": the entry, 00001000, isn't in the memory, which ends at "
-                     "00001000. Raise the memory, or set the entry.")
+        self.refused(elf_header(entry=2) + program_header() + CODE, 12, ": the entry, 00000002, isn't a multiple of 4. Set it "
+                     "to the address of an instruction.")
+        self.refused(elf_header(entry=4096) + program_header() + CODE, 12, ": the entry, 00001000, isn't in the memory, which "
+                     "ends at 00001000. Raise the memory, or set the entry.")
 
     def test_nothing_to_load(self):
-        self.refused(elf_header() + program_header(kind=0) + CODE, 13, ": no segment is loaded: it has 1 program header, and none of "
-                     "type 1. Is it the linked program, and not empty?")
+        self.refused(elf_header() + program_header(kind=0) + CODE, 13, ": no segment is loaded: it has 1 program header, and "
+                     "none of type 1. Is it the linked program, and not empty?")
 
     def test_each_command(self):
         self.put("a.elf", with_bytes(5, b"\2"))

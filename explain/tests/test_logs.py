@@ -41,7 +41,8 @@ class Logs(Explained):
     def test_cut_short(self):
         self.put("a.log", b"")
         self.means("inspect a.log", 5, "refused log 0 1 0", "a.log: it is empty. Is it the file that you mean?")
-        self.refused(LOG[:18], 1, 18, "18: the file ends inside the number of entries of the order (4 bytes from byte 16 on)." + CUT)
+        self.refused(LOG[:18], 1, 18, "18: the file ends inside the number of entries of the order (4 bytes from byte 16 "
+                     "on)." + CUT)
         self.refused(LOG[:28], 1, 28, "28: the file ends inside the sizes (4 bytes from byte 25 on)." + CUT)
 
     def test_another_file(self):
@@ -61,7 +62,8 @@ class Logs(Explained):
                      "6: the field of two bytes after the mode is 1, but it has to be 0." + DAMAGED)
         self.refused(log(2, 0, EMPTY, EMPTY, threads=16), 5, 6,
                      "6: the number of threads that the log may have is 16, but it has to be 15 or 63." + DAMAGED)
-        self.refused(log(1, 0, EMPTY, EMPTY, s=15), 5, 8, "8: the standard size of a chunk is 15, but it has to be 16 to 4,096." + DAMAGED)
+        self.refused(log(1, 0, EMPTY, EMPTY, s=15), 5, 8, "8: the standard size of a chunk is 15, but it has to be 16 to "
+                     "4,096." + DAMAGED)
         self.refused(log(2, 0, EMPTY, EMPTY, s=65537), 5, 8,
                      "8: the standard size of a chunk is 65,537, but it has to be 16 to 65,536." + DAMAGED)
         self.refused(log(1, 0, EMPTY, EMPTY, commits=16777217), 5, 12,
@@ -70,10 +72,10 @@ class Logs(Explained):
     def test_order(self):
         self.refused(log(1, 0, EMPTY, EMPTY), 5, 16, "16: the number of entries of the order is 0, but it has to be 1." + DAMAGED)
         self.refused(log(1, 2, ONE, EMPTY), 5, 16, "16: the number of entries of the order is 1, but it has to be 0." + DAMAGED)
-        self.refused(log(1, 0, section(b"\x10"), EMPTY), 5, 20, "20: the last byte of the order, whose high half is spare, is 16, but it "
-                     "has to be 0 to 15." + DAMAGED)
-        self.refused(log(2, 0, section(b"\0", b"\x0f"), EMPTY, commits=2), 5, 21, "21: the actor of commit 1 is 15, but it has to be a "
-                     "thread, 0 to 14, or 63 for a DMA." + DAMAGED)
+        self.refused(log(1, 0, section(b"\x10"), EMPTY), 5, 20, "20: the last byte of the order, whose high half is spare, is "
+                     "16, but it has to be 0 to 15." + DAMAGED)
+        self.refused(log(2, 0, section(b"\0", b"\x0f"), EMPTY, commits=2), 5, 21, "21: the actor of commit 1 is 15, but it has "
+                     "to be a thread, 0 to 14, or 63 for a DMA." + DAMAGED)
 
     def test_sizes_in_order_size(self):
         self.refused(log(1, 0, ONE, EMPTY), 5, 21, "21: the number of entries of the sizes is 0, but it has to be 1." + DAMAGED)
@@ -110,15 +112,18 @@ class Logs(Explained):
                      "44: entry 1 of the DMA doesn't come after the one before it." + DAMAGED)
 
     def test_bytes_after_the_end(self):
-        self.refused(LOG + b"\n", 7, 41, "41: 1 byte follows its end. Something was appended: `head -c 41` gives the part before it.")
-        self.refused(LOG + b"12", 7, 41, "41: 2 bytes follow its end. Something was appended: `head -c 41` gives the part before it.")
+        self.refused(LOG + b"\n", 7, 41, "41: 1 byte follows the last section. Something was appended: `head -c 41` gives the "
+                     "part before it.")
+        self.refused(LOG + b"12", 7, 41, "41: 2 bytes follow the last section. Something was appended: `head -c 41` gives the "
+                     "part before it.")
 
     def test_each_command(self):
         self.put("a.log", LOG + b"\n")
-        text = "a.log, byte 41: 1 byte follows its end. Something was appended: `head -c 41` gives the part before it."
+        text = "a.log, byte 41: 1 byte follows the last section. Something was appended: `head -c 41` gives the part before it."
         self.put("plan.toml", REPLAY)
-        for words in ("walk a.elf 4096 a.log", "interval a.elf 4096 a.log 1 0 1", "watch a.elf 4096 a.log 0", "who a.elf 4096 a.log 0 1",
-                      "when a.elf 4096 a.log 0 0", "strata a.elf 4096 a.log x", "migrate a.log x", "run plan.toml"):
+        for words in ("walk a.elf 4096 a.log", "interval a.elf 4096 a.log 1 0 1", "watch a.elf 4096 a.log 0",
+                      "who a.elf 4096 a.log 0 1", "when a.elf 4096 a.log 0 0", "strata a.elf 4096 a.log x", "migrate a.log x",
+                      "run plan.toml"):
             self.means(words, 5, "refused log 0 7 41", text)
 
 

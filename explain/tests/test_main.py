@@ -54,8 +54,8 @@ class Main(Explained):
     def test_a_plan_from_a_pipe(self):
         """It was used up by the program."""
         told = self.said("3", "run", "/dev/stdin", input=b"")
-        self.assertEqual(told, "delorean: The number is that of the first rule of plans that the plan breaks. The rules in words are in "
-                         "docs/answers.md, or in `man delorean`.\n")
+        self.assertEqual(told, "delorean: The number is that of the first rule of plans that the plan breaks. The rules in "
+                         "words are in docs/answers.md, or in `man delorean`.\n")
 
     def test_a_plan_from_a_file_as_standard_input(self):
         self.put("plan.toml", PLAN.replace("cores = 1", "cores = 9"))
@@ -63,7 +63,8 @@ class Main(Explained):
             self.assertEqual(self.said("3", "run", "/dev/stdin", stdin=plan), CORES.replace("plan.toml", "/dev/stdin"))
 
     def test_output_that_fails(self):
-        rest = " Standard output failed, so the text is cut or missing, but all files are written. Give the command again with another output."
+        rest = (" Standard output failed, so the text is cut or missing, but all files are written. Give the command again "
+                "with another output.")
         with open("/dev/full", "wb") as full:
             self.assertEqual(subprocess.run([PROGRAM, "drill", "1"], stdout=full, env=SILENT).returncode, 7)
             self.assertEqual(self.said("7", "drill", "1", stdout=full),
@@ -75,15 +76,15 @@ class Main(Explained):
 
     def test_memory(self):
         told = subprocess.run(["sh", "-c", 'ulimit -v 400000; exec "$0" 8 walk a.elf 16777216 a.log', MAIN], stderr=subprocess.PIPE)
-        self.assertEqual(told.stderr.decode(), "delorean: Memory ran out: `ulimit -v` allows 400,000 KiB. Raise that, or take fewer spheres, "
-                         "smaller memories or fewer events.\n")
-        self.assertEqual(self.said("8", "walk", "a.elf", "16777216", "a.log"), "delorean: Memory ran out. Take fewer spheres, smaller "
-                         "memories or fewer events, or raise a limit that is set.\n")
+        self.assertEqual(told.stderr.decode(), "delorean: Memory ran out: `ulimit -v` allows 400,000 KiB. Raise that, or take "
+                         "fewer spheres, smaller memories or fewer events.\n")
+        self.assertEqual(self.said("8", "walk", "a.elf", "16777216", "a.log"), "delorean: Memory ran out. Take fewer spheres, "
+                         "smaller memories or fewer events, or raise a limit that is set.\n")
 
     def test_names_that_a_terminal_would_act_on(self):
         self.put("plan.toml", PLAN.replace('"record"', '"\\u001b[31m"'))
-        self.assertEqual(self.said("3", "run", "plan.toml"), 'delorean: plan.toml, line 11: `role` is "\\u001b[31m", but it has to be '
-                         '"plain", "record" or "replay". Change it.\n')
+        self.assertEqual(self.said("3", "run", "plan.toml"), 'delorean: plan.toml, line 11: `role` is "\\u001b[31m", but it has '
+                         'to be "plain", "record" or "replay". Change it.\n')
         self.assertEqual(self.said("10", "inspect", "a\x1b[1m\n"),
                          "delorean: `a\\x1B[1m\\x0A` isn't there. Names count from the folder of the command.\n")
 

@@ -38,8 +38,8 @@ class Plans(Explained):
         self.refused(PLAN + "seed = 1\n", 2,
                      ", line 15: `seed` isn't a key of a sphere. It is one of the top: put it before the first `[[sphere]]`.")
         self.refused(PLAN + "zz = 1\n", 2,
-                     ", line 15: `zz` isn't a key of a sphere. The keys are `image`, `memory`, `role`, `mode`, `version`, `log`, "
-                     "`strata`, `from`, `to`, `epoch`, `keep` and `account`.")
+                     ", line 15: `zz` isn't a key of a sphere. The keys are `image`, `memory`, `role`, `mode`, `version`, "
+                     "`log`, `strata`, `from`, `to`, `epoch`, `keep` and `account`.")
 
     def test_missing_keys(self):
         self.refused(changed(("cores = 1\n", "")), 3, ": the key `cores` is missing. Add it.")
@@ -49,8 +49,10 @@ class Plans(Explained):
         self.refused(changed(("cores = 1", 'cores = "1"')), 3,
                      ", line 1: `cores` is a string, but it has to be a whole number. Write it without quotes and point.")
         self.refused(changed(("window = 2", "window = 2.0")), 3,
-                     ", line 4: `window` is a number with a point, but it has to be a whole number. Write it without quotes and point.")
-        self.refused(changed(('"a.log"', "true")), 3, ", line 13: `log` is true or false, but it has to be a string. Write it in quotes.")
+                     ", line 4: `window` is a number with a point, but it has to be a whole number. Write it without quotes "
+                     "and point.")
+        self.refused(changed(('"a.log"', "true")), 3, ", line 13: `log` is true or false, but it has to be a string. Write it "
+                     "in quotes.")
         self.refused(changed(('"r.txt"', "1979-05-27")), 3,
                      ", line 7: `report` is a date or a time, but it has to be a string. Write it in quotes.")
         self.refused(changed(("[[sphere]]", "[sphere]")), 3,
@@ -96,26 +98,27 @@ class Plans(Explained):
 
     def test_schedules(self):
         self.refused("events = 1\n" + PLAN, 5, ", line 7: `events` and `script` are both there. Take one of them out.")
-        self.refused(changed(('script = "s.txt"\n', "")), 5, ": neither `events` nor `script` is there. Say how many events are "
-                     "drawn, or name a script; `events = 0` will do for a replay.")
+        self.refused(changed(('script = "s.txt"\n', "")), 5, ": neither `events` nor `script` is there. Say how many events "
+                     "are drawn, or name a script; `events = 0` will do for a replay.")
 
     def test_recorded_spheres(self):
         self.refused(changed(('mode = "order-size"\n', "")), 6, ", line 8: sphere 0 is recorded, and has no `mode`. Add it.")
         self.refused(changed(('log = "a.log"\n', "")), 6, ", line 8: sphere 0 is recorded, and has no `log`. Add it.")
-        self.refused(PLAN + 'strata = "a.strata"\n', 6, ", line 15: a recorded sphere has no `strata`. Take it out.")
+        self.refused(PLAN + 'strata = "a.strata"\n', 6, ", line 15: `strata` doesn't belong in a recorded sphere. Take it out.")
 
     def test_replayed_spheres(self):
         taken_out = " Take it out: a replay has the mode and the version of its log."
-        self.refused(changed(('"record"', '"replay"')), 6, ", line 12: a replayed sphere has no `mode`." + taken_out)
-        self.refused(REPLAY + "version = 2\n", 6, ", line 14: a replayed sphere has no `version`." + taken_out)
+        self.refused(changed(('"record"', '"replay"')), 6, ", line 12: `mode` doesn't belong in a replayed sphere." + taken_out)
+        self.refused(REPLAY + "version = 2\n", 6, ", line 14: `version` doesn't belong in a replayed sphere." + taken_out)
         self.refused(REPLAY + 'strata = "a.strata"\n', 6,
-                     ", line 14: a replayed sphere has a log or strata, and not both. Take one of them out.")
+                     ", line 14: sphere 0 has both `log` and `strata`. Take one of them out.")
         self.refused(REPLAY.replace('log = "a.log"\n', ""), 6,
                      ", line 8: sphere 0 is replayed, and has neither a log nor strata. Add `log`.")
 
     def test_plain_spheres(self):
         for key in ("version = 1", 'mode = "picolog"', 'log = "b.log"', 'strata = "b.strata"'):
-            self.refused(PLAN + SPHERE + key + "\n", 6, ", line 19: a plain sphere has no `%s`. Take it out." % key.split()[0])
+            self.refused(PLAN + SPHERE + key + "\n", 6, ", line 19: `%s` doesn't belong in a plain sphere. Take it "
+                         "out." % key.split()[0])
 
     def test_names(self):
         self.refused(changed(('"r.txt"', '""')), 7, ", line 7: `report` is an empty name. Give the file a name.")
@@ -129,8 +132,9 @@ class Plans(Explained):
                      "`log` of sphere 0. Give what is written another name.")
 
     def test_long_chunks_in_version_1(self):
-        self.refused(changed(("chunk = 100", "chunk = 4097")), 8, ", line 2: `chunk` is 4,097, and sphere 0 is recorded in version 1, "
-                     "whose chunks have at most 4,096 instructions. Say `version = 2` in the sphere, or take a smaller chunk.")
+        self.refused(changed(("chunk = 100", "chunk = 4097")), 8, ", line 2: `chunk` is 4,097, and sphere 0 is recorded in "
+                     "version 1, whose chunks have at most 4,096 instructions. Say `version = 2` in the sphere, or take a "
+                     "smaller chunk.")
 
     def test_intervals(self):
         advice = " To see a part of a recording, record it whole and replay the part of its log."
@@ -145,15 +149,15 @@ class Plans(Explained):
                      ", line 15: `epoch` and `keep` are only for a sphere that is recorded in version 2. Say `version = 2`.")
         self.refused(REPLAY + "keep = 2\n", 10,
                      ", line 14: `keep` is only for a sphere that is recorded in version 2. Take it out.")
-        self.refused(PLAN + "version = 2\nepoch = 4\n", 10, ", line 16: `epoch` is there without `keep`. Add it.")
-        self.refused(PLAN + "version = 2\nkeep = 4\n", 10, ", line 16: `keep` is there without `epoch`. Add it.")
+        self.refused(PLAN + "version = 2\nepoch = 4\n", 10, ", line 16: `epoch` is there without `keep`. Add the other.")
+        self.refused(PLAN + "version = 2\nkeep = 4\n", 10, ", line 16: `keep` is there without `epoch`. Add the other.")
 
     def test_the_first_rule_of_the_whole_plan(self):
         self.refused("core = 1\n" + changed(('"r.txt"', '""')), 2, ", line 1: `core` isn't a key of the top. Did you mean `cores`?")
 
     def test_keys_without_a_line_of_their_own(self):
         spheres = 'sphere = [\n{image = "a.elf", memory = 4096, role = "plain", log = "x"}]\n'
-        self.refused(PLAN.partition("[[")[0] + spheres, 6, ": a plain sphere has no `log`. Take it out.")
+        self.refused(PLAN.partition("[[")[0] + spheres, 6, ": `log` doesn't belong in a plain sphere. Take it out.")
 
     def test_what_only_a_newer_toml_has(self):
         """Python doesn't read it, so without the program's line it isn't known which rule is broken."""
@@ -161,8 +165,8 @@ class Plans(Explained):
         self.assertEqual(self.answer("run", "plan.toml"), (3, "refused plan 4"))
         self.assertEqual(explain(3, ["run", "plan.toml"], "refused plan 4"),
                          "A number is out of its range, or there are no spheres or over 8. Change the number.")
-        self.assertEqual(explain(3, ["run", "plan.toml"]), "The number is that of the first rule of plans that the plan breaks. "
-                         "The rules in words are in docs/answers.md, or in `man delorean`.")
+        self.assertEqual(explain(3, ["run", "plan.toml"]), "The number is that of the first rule of plans that the plan "
+                         "breaks. The rules in words are in docs/answers.md, or in `man delorean`.")
 
 
 if __name__ == "__main__":

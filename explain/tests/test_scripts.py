@@ -14,21 +14,22 @@ class Scripts(Explained):
     def test_words(self):
         self.refused("step 0\nstpe 0\n", 2, "`stpe` is no event. Did you mean `step`?")
         self.refused("Step 0\n", 1, "`Step` is no event. Did you mean `step`?")
-        self.refused("# x\n\nxyz 0\n", 3, "`xyz` is no event. The events are `step`, `cut`, `ask`, `drain`, `deliver`, `retire`, `place`, "
-                     "`raise` and `dma`.")
+        self.refused("# x\n\nxyz 0\n", 3, "`xyz` is no event. The events are `step`, `cut`, `ask`, `drain`, `deliver`, "
+                     "`retire`, `place`, `raise` and `dma`.")
 
     def test_numbers(self):
         for line, text in (
-                ("step", "`step` has 0 numbers, but it takes 1. It is `step C`."),
-                ("dma 0 0", "`dma` has 2 numbers, but it takes 1. It is `dma S`."),
-                ("step x", "`x` isn't a number of decimal digits. It is `step C`."),
-                ("deliver 0 -1", "`-1` isn't a number of decimal digits. It is `deliver C K`."),
-                ("cut 00000000000", "`00000000000` has over 10 digits. It is `cut C`."),
-                ("step 256", "`256` is over 255, the most that a core can be. It is `step C`."),
-                ("retire 256", "`256` is over 255, the most that a slot can be. It is `retire K`."),
-                ("place 0 256 0", "`256` is over 255, the most that a sphere can be. It is `place C S T`."),
-                ("place 0 0 999", "`999` is over 255, the most that a thread can be. It is `place C S T`."),
-                ("raise 0 0 4294967296", "`4294967296` is over 4294967295, the most that a value can be. It is `raise S T V`.")):
+                ("step", "`step` has 0 numbers, but it takes 1. Write it as `step C`."),
+                ("dma 0 0", "`dma` has 2 numbers, but it takes 1. Write it as `dma S`."),
+                ("step x", "`x` isn't a number of decimal digits. Write it as `step C`."),
+                ("deliver 0 -1", "`-1` isn't a number of decimal digits. Write it as `deliver C K`."),
+                ("cut 00000000000", "`00000000000` has over 10 digits. Write it as `cut C`."),
+                ("step 256", "`256` is over 255, the most that a core can be. Write it as `step C`."),
+                ("retire 256", "`256` is over 255, the most that a slot can be. Write it as `retire K`."),
+                ("place 0 256 0", "`256` is over 255, the most that a sphere can be. Write it as `place C S T`."),
+                ("place 0 0 999", "`999` is over 255, the most that a thread can be. Write it as `place C S T`."),
+                ("raise 0 0 4294967296", "`4294967296` is over 4294967295, the most that a value can be. Write it as `raise S "
+                 "T V`.")):
             with self.subTest(line):
                 self.refused(line + "\n", 1, text)
 
@@ -43,8 +44,8 @@ class Scripts(Explained):
         """With a smaller limit, because so long a script takes seconds."""
         self.put("s.txt", "dma 0\n# x\ncut 0\nstep 0\n")
         with mock.patch("explain.script.MOST_COMMITS", 2):
-            self.assertEqual(explain(5, ["run", "plan.toml"]), "s.txt, line 4: it is the event after the 2^24th. A run has at most "
-                             "16,777,216 events.")
+            self.assertEqual(explain(5, ["run", "plan.toml"]), "s.txt, line 4: it is the event after the 2^24th. A run has at "
+                             "most 16,777,216 events.")
 
 
 if __name__ == "__main__":

@@ -28,10 +28,11 @@ class Strata(Explained):
         self.refused(data, 5, offset, text + "." + DAMAGED)
 
     def test_fields(self):
-        self.refused(strata(chunks(1, 0))[:18], 1, 18, "the file ends inside the numbers of chunks in stratum 0 (2 bytes from byte 17 on)."
+        self.refused(strata(chunks(1, 0))[:18], 1, 18, "the file ends inside the numbers of chunks in stratum 0 (2 bytes from "
+                     "byte 17 on)."
                      + CUT)
-        self.refused(b"DLRN" + bytes(12), 2, 0, "it doesn't begin with DLRS. It is a log: `delorean walk` plays it, and a replayed "
-                     "sphere takes it by the key `log`.")
+        self.refused(b"DLRN" + bytes(12), 2, 0, "it doesn't begin with DLRS. It is a log: `delorean walk` plays it, and a "
+                     "replayed sphere takes it by the key `log`.")
         self.refused(strata(version=2), 3, 4, "the version is 2, but it has to be 1." + DAMAGED)
         self.bad(strata(counted=64), 5, "the number of threads that are counted is 64, but it has to be 1 to 63")
         self.bad(strata(counted=16), 6, "the number of threads that the sphere may have is 15, but it has to be 63")
@@ -46,20 +47,22 @@ class Strata(Explained):
 
     def test_sections(self):
         twice = section(moment(0, 1, ("I", 9)), moment(0, 1, ("I", 9)))
-        self.refused(strata(sections=twice + 3 * EMPTY), 6, 29, "entry 1 of the sizes doesn't come after the one before it." + DAMAGED)
+        self.refused(strata(sections=twice + 3 * EMPTY), 6, 29, "entry 1 of the sizes doesn't come after the one before "
+                     "it." + DAMAGED)
         self.bad(strata(sections=section(moment(2, 1, ("I", 9))) + 3 * EMPTY), 20,
                  "the thread of entry 0 of the sizes is 2, but it has to be 0 or 1")
-        self.refused(strata() + b"x", 7, 32, "1 byte follows its end. Something was appended: `head -c 32` gives the part before it.")
+        self.refused(strata() + b"x", 7, 32, "1 byte follows the last section. Something was appended: `head -c 32` gives the "
+                     "part before it.")
 
     def test_commits_that_do_not_fit(self):
-        self.refused(strata(b"\1\0", b"\1\0"), 9, 0, "it is a chunk, and its stratum is for a serial step." + OTHER, "commit")
-        self.refused(strata(chunks(2, 0)), 9, 1, "it is a serial step, and its stratum is for a chunk." + OTHER, "commit")
+        self.refused(strata(b"\1\0", b"\1\0"), 9, 0, "it is a chunk, but its stratum is for a serial step." + OTHER, "commit")
+        self.refused(strata(chunks(2, 0)), 9, 1, "it is a serial step, but its stratum is for a chunk." + OTHER, "commit")
         self.refused(strata(chunks(0, 1)), 9, 0, "the play diverges there, for reason 1." + OTHER, "commit")
         left = section(moment(0, 9, ("I", 1))) + 3 * EMPTY
         self.refused(strata(chunks(1, 0), b"\1\0", sections=left), 9, 2, "the play diverges there, for reason 8." + OTHER, "commit")
 
     def test_commits_that_conflict(self):
-        """The strata of an example, with its third and its fourth merged, in which one thread stores a word and the other loads it."""
+        """The strata of an example, with its third and its fourth merged: one thread stores a word that the other loads."""
         example = TOP / "examples/two-threads"
         self.put("a.elf", (example / "a.elf").read_bytes())
         self.put("a.log", (example / "expected/a.log").read_bytes())
@@ -69,7 +72,8 @@ class Strata(Explained):
         third = 16 + 3 + 2
         self.assertEqual(data[third : third + 6], chunks(0, 1) + chunks(1, 0))
         merged = data[:12] + b"\5" + data[13:third] + chunks(1, 1) + data[third + 6 :]
-        self.refused(merged, 8, 3, "of thread 1, it conflicts with commit 2, of thread 0, on the word at 00000100." + CUT_AGAIN, "commit")
+        self.refused(merged, 8, 3, "a chunk of thread 1 conflicts with commit 2, of thread 0, on the word at "
+                     "00000100." + CUT_AGAIN, "commit")
 
 
 if __name__ == "__main__":

@@ -43,14 +43,15 @@ class Tails(Explained):
         self.assertIn(self.answer("tail", "a.tail")[0], (0, 1))
 
     def test_cut_short(self):
-        self.refused(GOOD[:30], 1, 30, "the file ends inside the field of two bytes after the mask of thread 0 (2 bytes from byte 30 on)."
+        self.refused(GOOD[:30], 1, 30, "the file ends inside the field of two bytes after the mask of thread 0 (2 bytes from "
+                     "byte 30 on)."
                      + CUT)
         self.refused(GOOD[: ROWS + 20], 1, ROWS + 20,
                      "the file ends inside the bytes of entry 0 of the rows (32 bytes from byte %d on)." % (ROWS + 8) + CUT)
 
     def test_another_file(self):
-        self.refused(INNER, 2, 0, "it doesn't begin with DLRT. It is a log: `delorean walk` plays it, and a replayed sphere takes it by "
-                     "the key `log`.")
+        self.refused(INNER, 2, 0, "it doesn't begin with DLRT. It is a log: `delorean walk` plays it, and a replayed sphere "
+                     "takes it by the key `log`.")
 
     def test_header(self):
         self.refused(header(version=2), 3, 4, "the version is 2, but it has to be 1." + DAMAGED)
@@ -59,7 +60,8 @@ class Tails(Explained):
         self.bad(header(base=16777217), 8, "the base is 16,777,217, but it has to be 0 to 16,777,216")
         self.bad(header(last=1), 12, "the last thread is 1, but it has to be 0, or 255 for none")
         self.bad(header(threads=3, last=7), 12, "the last thread is 7, but it has to be 0 to 2, or 255 for none")
-        self.bad(header(memory=4097), 24, "the size of the memory is 4,097, but it has to be a multiple of 4,096 from 4,096 to 16,777,216")
+        self.bad(header(memory=4097), 24, "the size of the memory is 4,097, but it has to be a multiple of 4,096 from 4,096 to "
+                 "16,777,216")
 
     def test_request(self):
         self.bad(header(is_asked=2), 13, "the mark of a DMA request is 2, but it has to be 0 or 1")
@@ -68,8 +70,8 @@ class Tails(Explained):
         self.bad(header(is_asked=1, buffer=2), 16, "the buffer of the DMA request is 2, but it has to be a multiple of 4")
         self.bad(header(length=1), 20, "the length of the DMA request is 1, but it has to be 0")
         self.bad(header(is_asked=1, length=4097), 20, "the length of the DMA request is 4,097, but it has to be 0 to 4,096")
-        self.bad(header(is_asked=1, buffer=4092, length=4), 24, "the size of the memory is 4,096, but it has to be a multiple of 4,096 "
-                 "from 4,100 to 16,777,216")
+        self.bad(header(is_asked=1, buffer=4092, length=4), 24, "the size of the memory is 4,096, but it has to be a multiple "
+                 "of 4,096 from 4,100 to 16,777,216")
 
     def test_threads(self):
         for at, text, fields in (
@@ -91,18 +93,21 @@ class Tails(Explained):
         start = header() + thread()
         self.bad(start + rows(row(128)), ROWS + 4, "the number of entry 0 of the rows is 128, but it has to be 0 to 127")
         self.bad(start + rows(row(0, bytes(32))), ROWS + 8,
-                 "each byte of entry 0 of the rows is 0, but it has to be another in at least one place")
-        self.refused(start + rows(row(1), row(1)), 6, ROWS + 40, "entry 1 of the rows doesn't come after the one before it." + DAMAGED)
+                 "the bytes of entry 0 of the rows are all 0, and such a row is left out")
+        self.refused(start + rows(row(1), row(1)), 6, ROWS + 40, "entry 1 of the rows doesn't come after the one before "
+                     "it." + DAMAGED)
 
     def test_the_log_inside(self):
         start = header(threads=1) + thread() + rows(row(0))
         self.refused(start + b"XLRN", 2, LOG_AT, "a log that begins with DLRN should be here. The file is damaged: copy it again.")
-        self.refused(start + log(1, 0, EMPTY, EMPTY), 3, LOG_AT + 4, "the version of the log in the tail is 1, but it has to be 2." + DAMAGED)
+        self.refused(start + log(1, 0, EMPTY, EMPTY), 3, LOG_AT + 4, "the version of the log in the tail is 1, but it has to "
+                     "be 2." + DAMAGED)
         many = header(threads=16) + 16 * thread() + rows(row(0))
         self.bad(many + INNER, len(many) + 6, "the number of threads that the log may have is 15, but it has to be 63")
         late = header(base=16777216) + thread() + rows(row(0))
         self.bad(late + INNER, len(late) + 12, "the number of commits is 1, but it has to be 0")
-        self.refused(GOOD + b"x", 7, len(GOOD), "1 byte follows its end. Something was appended: `head -c %d` gives the part before it."
+        self.refused(GOOD + b"x", 7, len(GOOD), "1 byte follows the last section. Something was appended: `head -c %d` gives "
+                     "the part before it."
                      % len(GOOD))
 
 
