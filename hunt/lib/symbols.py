@@ -12,6 +12,7 @@ Symbol = namedtuple("Symbol", "addr size name is_code")
 _NOTYPE, _OBJECT, _FUNCTION = 0, 1, 2
 _LOCAL = 0
 _EXECUTED = 4
+_ABSOLUTE = 0xFFF1
 
 
 class NoWord(Exception):
@@ -36,9 +37,9 @@ def _symbols(data):
             name, value, extent, info, _, section = struct.unpack_from("<IIIBBH", data, at)
             start = names + name
             text = printable(data[start : data.index(b"\0", start, names + names_length)])
-            if not text or text.startswith("$") or not 0 < section < len(sections):
+            if not text or text.startswith("$") or not (0 < section < len(sections) or section == _ABSOLUTE):
                 continue
-            is_code = bool(sections[section][2] & _EXECUTED)
+            is_code = section != _ABSOLUTE and bool(sections[section][2] & _EXECUTED)
             if info & 15 in (_OBJECT, _FUNCTION) or (info & 15 == _NOTYPE and info >> 4 != _LOCAL):
                 out.append(Symbol(value, extent, text, is_code))
     return out
@@ -88,6 +89,13 @@ class Names:
         self.data = [s for s in self.symbols if not s.is_code and s.size]
         self.code_at = [s.addr for s in self.code]
         self.data_at = [s.addr for s in self.data]
+
+    def has(self, name):
+        return name in self.by_name
+
+    def value(self, name):
+        """The value of a symbol: its address, or a number that the linker was given."""
+        return self.by_name[name].addr
 
     def function(self, pc):
         """The function of a pc, for example `work`, or None. Of `work.isra.0`, a compiler's name, it is `work` too."""

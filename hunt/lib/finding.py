@@ -1,0 +1,127 @@
+"""Looks for a failing order of a program: `find(program, limits, tell)`. A program of delorean-cc fails if a thread ends with
+another code than 0, if one faults, or if it never ends because no thread goes on."""
+
+from argparse import Namespace
+from collections import namedtuple
+import os
+from pathlib import Path
+import subprocess
+import time
+
+from .image import NotAnImage, read_image
+from .judge import switches_of
+from .searching import Job, Refused
+from .shrinking import Shrinker
+from .symbols import Names
+
+TOP = Path(__file__).resolve().parent.parent.parent
+MOST_SWITCHES = 250
+PAGE, MOST_MEMORY = 4096, 1 << 24
+
+# image: the path. memory: bytes. threads: how many there may be in all. has_library: whether delorean-cc has linked it.
+Program = namedtuple("Program", "image memory threads has_library")
+# switches: at most so many forced ones, or None. seconds: of the search. bad: further conditions. input: a file, or None.
+Limits = namedtuple("Limits", "switches seconds shrink_seconds bad input seed turn steps")
+# status: found, clear or limit. search: as the engine has it. run: a Run, or None. seconds: that it took.
+Finding = namedtuple("Finding", "status search run seconds condition")
+# log: bytes, that the proved walk has judged. ended: what the walk's account tells. forced: how many forced switches. left: of each
+# turn of a thread, the next one's apart, whether it was left by a forced switch. leaf: as in engine.Told.
+Run = namedtuple("Run", "log ended forced left leaf commits switches")
+
+FOUND, CLEAR, LIMIT = "found", "clear", "limit"
+
+
+# ---------------------------------------------------------------- programs
+
+
+def compiler():
+    """The words that run delorean-cc: those of DELOREAN_CC, else sdk/cc beside hunt/."""
+    return os.environ.get("DELOREAN_CC", str(TOP / "sdk" / "cc")).split()
+
+
+def compiled(words, image):
+    """Compiles by delorean-cc, given its words. Refused with what it says if it can't."""
+    try:
+        made = subprocess.run([*compiler(), *words, "-o", str(image)], capture_output=True, text=True, errors="replace")
+    except OSError as error:
+        raise Refused("%s: %s" % (compiler()[0], error.strerror)) from None
+    if made.returncode:
+        raise Refused("it wasn't compiled\n%s" % (made.stderr + made.stdout).strip())
+    return made.stderr.strip()
+
+
+def read_program(path, memory=None):
+    """The Program of an image. Its memory is what it says itself, by the symbol memory_used, if none is given."""
+    try:
+        names = Names(read_image(Path(path).read_bytes(), memory or MOST_MEMORY))
+    except OSError as error:
+        raise Refused("%s: %s" % (error.filename, error.strerror)) from None
+    except NotAnImage as error:
+        raise Refused("%s: refused image 0 %d" % (path, *error.args)) from None
+    if memory is None:
+        memory = memory_of(names, path)
+    threads = names.value("__most_threads") if names.has("__most_threads") else 15
+    return Program(str(path), memory, threads, names.has("__library_code"))
+
+
+def memory_of(names, path):
+    if not names.has("memory_used"):
+        raise Refused("%s doesn't say how much memory it needs (it has no symbol memory_used): give --memory" % path)
+    return max(PAGE, (names.value("memory_used") + PAGE - 1) // PAGE * PAGE)
+
+
+# ---------------------------------------------------------------- search
+
+
+def conditions(program, limits):
+    """What a failure is. Only thread 0 lasts as long as its program, so others may be left waiting."""
+    return ["exit any != 0", "fault", "hang 0" if program.has_library else "hang", *limits.bad]
+
+
+def job_of(program, limits):
+    return Job(Namespace(image=program.image, memory=str(program.memory), bad=conditions(program, limits), input=limits.input,
+                         seed=limits.seed, tick=64, turn=limits.turn, steps=limits.steps, raises=[],
+                         log_version=1 if program.threads <= 15 else 2))
+
+
+def left_by_force(turns):
+    """Of each turn that another thread's comes after, whether its thread could have gone on."""
+    return [turn.end == "forced" for turn, after in zip(turns, turns[1:]) if turn.actor != after.actor]
+
+
+def least(job, told, seconds):
+    """The run with as few turns as could be found, as told."""
+    engine = job.engine()
+    try:
+        best = Shrinker(engine, seconds).shrunk(told.turns)
+        return engine.told(best)[1] if best else told
+    finally:
+        engine.close()
+
+
+def judged(job, told, seconds):
+    """The Run, made small and then judged by the proved walk."""
+    told = least(job, told, seconds)
+    verdict = job.judge.judged(told)
+    left = left_by_force(told.turns)
+    return Run(verdict.log, verdict.ended, sum(left), left, told.leaf, told.log.count, switches_of(told.log.order))
+
+
+def status_of(result):
+    """Whether all that was asked for is covered."""
+    whole = result.how in ("all", "bound") and not result.limited and not result.spent
+    return CLEAR if whole else LIMIT
+
+
+def find(program, limits, tell=lambda bound: None):
+    """The Finding. `tell` is called with each Bound that is done."""
+    job, started = job_of(program, limits), time.monotonic()
+    engine = job.engine()
+    switches = MOST_SWITCHES if limits.switches is None else limits.switches
+    result = engine.search(switches, 1 << 40, 1 << 25, limits.seconds, tell)
+    engine.close()
+    searched = time.monotonic() - started
+    if result.told is None:
+        return Finding(status_of(result), result, None, searched, conditions(program, limits))
+    run = judged(job, result.told, limits.shrink_seconds)
+    return Finding(FOUND, result, run, searched, conditions(program, limits))

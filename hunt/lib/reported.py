@@ -1,0 +1,124 @@
+"""A Finding as text and as JSON."""
+
+import shlex
+import sys
+
+from .finding import CLEAR, FOUND
+from .found import LOG, PICTURE, PLAN
+from .searching import counted
+
+
+def progress(is_quiet):
+    """What is called with each bound that is done: it says so on a terminal."""
+    def tell(bound):
+        print("%s: done, %s so far, %.1f s" % (forced_text(bound.bound), counted(bound.tries, "run"), bound.seconds),
+              file=sys.stderr, flush=True)
+    return tell if sys.stderr.isatty() and not is_quiet else lambda bound: None
+
+
+def forced_text(number):
+    return "without a forced switch" if number == 0 else "with %s" % counted(number, "forced switch")
+
+
+def thread_name(number, function):
+    return "thread %d%s" % (number, " (%s)" % function if function else "")
+
+
+# ---------------------------------------------------------------- nothing found
+
+
+def bound_done(result):
+    return result.bounds[-1] if result.bounds else None
+
+
+def covered(result):
+    """What was covered without a failure, and never more."""
+    done = bound_done(result)
+    if result.how == "all":
+        yield "no order fails, with however many switches: all states were met, %d in %s" % (done.states, counted(result.tries, "run"))
+    elif done is None:
+        yield "nothing is covered: the limit of %s was met before all orders without a forced switch were tried" % result.how
+    else:
+        bound = "without a forced switch" if done.bound == 0 else "with at most " + counted(done.bound, "forced switch")
+        yield "no order %s among %s fails, in %s" % (bound, counted(done.places, "place"), counted(done.tries, "run"))
+        if result.how != "bound":
+            yield "the limit of %s was met with %d forced: the rest isn't covered" % (result.how, result.bound)
+    if result.limited:
+        yield "but %s came to the limit of steps (--steps): what comes after isn't covered" % counted(result.limited, "run")
+    if result.spent:
+        yield "but %s came to the limit of a turn (--turn): orders in which they go on aren't covered" % counted(result.spent, "turn")
+
+
+# ---------------------------------------------------------------- found
+
+
+def ends(told):
+    """How the threads that failed ended."""
+    for number, function, state, code in told.threads:
+        if state == "ended" and code:
+            yield "%s ended with %d" % (thread_name(number, function), code)
+        elif state == "fault":
+            yield "%s faulted, cause %d" % (thread_name(number, function), code)
+
+
+def sections(finding, told):
+    """The parts of what is told, each with its heading."""
+    failures = list(ends(told))
+    if finding.run.leaf in ("waits", "repeats"):
+        failures.append("no thread goes on, in whatever order")
+    yield "what failed", failures + ["console: " + line for line in told.console.splitlines()]
+    yield "who waits", told.waits
+    yield "why", told.why
+    yield "the order", told.story
+
+
+def found_text(program, finding, told):
+    run = finding.run
+    yield "%s fails with %s, found in %s, %.2f s" % (
+        program, counted(run.forced, "forced switch") if run.forced else "no forced switch",
+        counted(finding.search.tries, "run"), finding.seconds)
+    for heading, texts in sections(finding, told):
+        if texts:
+            yield ""
+            yield heading + ":"
+            yield from ("  " + text for text in texts)
+    yield ""
+    yield "written to %s: %s (%s, %s; walked), %s, %s" % (
+        told.folder, LOG, counted(run.commits, "commit"), counted(run.switches, "switch"), PICTURE, PLAN)
+    yield "to replay it: cd %s && delorean run %s" % (shlex.quote(str(told.folder)), PLAN)
+
+
+def as_text(program, ready, finding, told):
+    if finding.status == FOUND:
+        return list(found_text(program, finding, told))
+    lines = list(covered(finding.search))
+    return ["%s: %s, %.2f s" % (program, lines[0], finding.seconds), *lines[1:]]
+
+
+# ---------------------------------------------------------------- JSON
+
+
+def json_of_search(result):
+    done = bound_done(result)
+    return {"how": result.how, "runs": result.tries, "states": done.states if done else 0, "places": done.places if done else 0,
+            "all orders up to": done.bound if done else None, "left at the limit of steps": result.limited,
+            "ended at the limit of a turn": result.spent}
+
+
+def json_of_run(finding, told):
+    run = finding.run
+    return {"forced": run.forced, "switches": run.switches, "commits": run.commits, "hangs": run.leaf in ("waits", "repeats"),
+            "threads": [dict(zip(("thread", "function", "state", "code"), state)) for state in told.threads],
+            "console": told.console, "waits": told.waits, "why": told.why, "order": told.story, "folder": str(told.folder),
+            "log": LOG, "picture": PICTURE, "plan": PLAN}
+
+
+def as_json(program, ready, finding, told):
+    """The object of --json, which found.json has too."""
+    out = {"program": str(program), "memory": ready.memory, "conditions": finding.condition, "status": finding.status,
+           "seconds": round(finding.seconds, 2), "search": json_of_search(finding.search)}
+    if finding.status == FOUND:
+        out["found"] = json_of_run(finding, told)
+    else:
+        out["covered"] = list(covered(finding.search))
+    return out
