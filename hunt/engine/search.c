@@ -1,6 +1,7 @@
 #define _POSIX_C_SOURCE 200809L
 #include "search.h"
 
+#include "ending.h"
 #include "seen.h"
 #include "sharing.h"
 
@@ -191,7 +192,7 @@ static enum result at_leaf(void) {
     tally->ended += leaf == ALL_ENDED;
     tally->waited += leaf == ALL_WAIT;
     tally->repeated += leaf == COMES_AGAIN;
-    return holds_at_end(bad, &run->machine) ? IS_BAD : IS_DONE;
+    return ends_badly(run, bad) ? IS_BAD : IS_DONE;
 }
 
 static bool is_leaf(void) {

@@ -75,7 +75,7 @@ def memory_of(names, path):
 
 def conditions(program, limits):
     """What a failure is. Only thread 0 lasts as long as its program, so others may be left waiting."""
-    return ["exit any != 0", "fault", "hang 0" if program.has_library else "hang", *limits.bad]
+    return ["exit any != 0", "fault", "stuck 0" if program.has_library else "stuck", *limits.bad]
 
 
 def job_of(program, limits):
