@@ -1,0 +1,34 @@
+"""Plans that record a program."""
+
+from pathlib import Path
+
+PLAN = """\
+cores = %(cores)d
+chunk = %(chunk)d
+buffer = 64
+window = 1
+signature = 1024
+seed = %(seed)d
+%(schedule)s
+console = "%(name)s.console"
+report = "%(name)s.report"
+
+[[sphere]]
+image = "%(image)s"
+memory = %(memory)d
+role = "record"
+mode = "order-size"
+version = %(version)d
+log = "%(name)s.log"
+account = "%(name)s.txt"
+"""
+
+DRAWN = 16  # threads that drawn events place
+
+
+def write_plan(words, memory):
+    numbers = words.numbers
+    name = words.output.removesuffix(".elf")
+    Path(words.plan).write_text(PLAN % {
+        **numbers, "name": name, "image": words.output, "memory": memory, "version": 1 if numbers["threads"] <= 15 else 2,
+        "schedule": "events = %d" % numbers["events"]})
