@@ -17,6 +17,7 @@ from .symbols import Names
 TOP = Path(__file__).resolve().parent.parent.parent
 MOST_SWITCHES = 250
 PAGE, MOST_MEMORY = 4096, 1 << 24
+FEW_THREADS = 15  # as many as logs of version 1 have
 
 # image: the path. memory: bytes. threads: how many there may be in all. has_library: whether delorean-cc has linked it.
 Program = namedtuple("Program", "image memory threads has_library")
@@ -53,15 +54,23 @@ def compiled(words, image):
 def read_program(path, memory=None):
     """The Program of an image. Its memory is what it says itself, by the symbol memory_used, if none is given."""
     try:
-        names = Names(read_image(Path(path).read_bytes(), memory or MOST_MEMORY))
+        image = read_image(Path(path).read_bytes(), memory or MOST_MEMORY)
     except OSError as error:
         raise Refused("%s: %s" % (error.filename, error.strerror)) from None
     except NotAnImage as error:
         raise Refused("%s: refused image 0 %d" % (path, *error.args)) from None
+    names = Names(image)
     if memory is None:
         memory = memory_of(names, path)
-    threads = names.value("__most_threads") if names.has("__most_threads") else 15
-    return Program(str(path), memory, threads, names.has("__library_code"))
+    return Program(str(path), memory, most_threads(image, names), names.has("__library_code"))
+
+
+def most_threads(image, names):
+    """How many threads there may be at once: the first of the library's `__numbers`."""
+    if not names.has("__numbers"):
+        return FEW_THREADS
+    at = names.value("__numbers")
+    return int.from_bytes(image.memory[at : at + 4], "little")
 
 
 def memory_of(names, path):
@@ -81,7 +90,7 @@ def conditions(program, limits):
 def job_of(program, limits):
     return Job(Namespace(image=program.image, memory=str(program.memory), bad=conditions(program, limits), input=limits.input,
                          seed=limits.seed, tick=64, turn=limits.turn, steps=limits.steps, raises=[],
-                         log_version=1 if program.threads <= 15 else 2))
+                         log_version=1 if program.threads <= FEW_THREADS else 2))
 
 
 def left_by_force(turns):

@@ -9,19 +9,20 @@ Note = namedtuple("Note", "thread function waits holds")
 Wait = namedtuple("Wait", "kind object at")
 Held = namedtuple("Held", "object at")
 
-KINDS = ("", "mutex", "condition", "end of", "barrier", "lock to read", "lock to write", "semaphore", "once", "spin lock")
+KINDS = ("", "mutex", "condition", "the end of", "barrier", "lock to read", "lock to write", "semaphore", "once", "spin lock", "pipe")
 JOIN, LOCKS = 3, (1, 5, 6, 9)
-# Words of a thread's block.
+# Words of a thread's block; where blocks are is in the words of the library's `__numbers`.
 NUMBER, FUNCTION, WAITS, WAITS_FOR, WAITS_AT, HELD_COUNT, HELD = 0, 2, 5, 6, 7, 8, 9
 MOST_HELD = 8
+NEEDED = ("__numbers", "__threads")
 
 
 class _Blocks:
     def __init__(self, trace):
         self.trace, self.words = trace, trace.machine.words
-        value = trace.names.value
-        self.first, self.room, self.stack = value("__threads"), value("__thread_room"), value("__stack_size")
-        self.count = (value("memory_used") - self.first) // self.room
+        numbers = trace.names.value("__numbers") >> 2
+        self.count, self.room, self.stack = self.words[numbers : numbers + 3].tolist()
+        self.first = trace.names.value("__threads")
 
     def addresses(self):
         return [self.first + slot * self.room + self.stack for slot in range(self.count)]
@@ -45,13 +46,14 @@ def _wait(blocks, block, numbers):
 def _note(blocks, block, numbers):
     count = min(blocks.word(block, HELD_COUNT), MOST_HELD)
     holds = [Held(blocks.word(block, HELD + 2 * j), blocks.word(block, HELD + 2 * j + 1) - 4) for j in range(count)]
-    function = blocks.trace.names.function(blocks.word(block, FUNCTION)) if blocks.word(block, FUNCTION) else None
+    begun = blocks.word(block, FUNCTION)
+    function = blocks.trace.names.function(begun) if begun else "main" if numbers[block] == 0 else None
     return Note(numbers[block], function, _wait(blocks, block, numbers), holds)
 
 
 def notes_of(trace):
     """The Note of each thread that is live at the end, by number. None if the image has no notes."""
-    if not all(trace.names.has(name) for name in ("__threads", "__thread_room", "__stack_size", "memory_used")):
+    if not all(trace.names.has(name) for name in NEEDED):
         return None
     blocks = _Blocks(trace)
     numbers = blocks.numbers()

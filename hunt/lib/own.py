@@ -14,9 +14,21 @@ def writable_spans(data):
     return [(at, at + size) for kind, _, at, _, _, size, flags, _ in programs if kind == _LOADED and flags & _WRITABLE]
 
 
+def section_words(data, wanted):
+    """The words of an ELF file's section of this name; none if it has no such section."""
+    headers, size, count, texts = struct.unpack_from("<I", data, 32)[0], *struct.unpack_from("<HHH", data, 46)
+    sections = [struct.unpack_from("<10I", data, headers + size * j) for j in range(count)] if size == 40 else []
+    for name, _, _, _, offset, length, *_ in sections:
+        start = sections[texts][4] + name
+        if data[start : data.index(b"\0", start)].decode("ascii", "replace") == wanted:
+            return struct.unpack_from("<%dI" % (length // 4), data, offset)
+    return ()
+
+
 class Own:
     def __init__(self, image, names):
         self.names, self.spans = names, writable_spans(image.file)
+        self.lock_code = frozenset(section_words(image.file, ".delorean.acquires") + section_words(image.file, ".delorean.releases"))
         self.library = self._symbol(_LIBRARY, image.size)
         self.stacks = self._symbol(_STACKS, image.size), self._symbol(_END, image.size)
 

@@ -19,15 +19,15 @@ Turn = namedtuple("Turn", "who function rows is_left")
 Row = namedtuple("Row", "what word value place times", defaults=("", "", "", 1))
 
 VERBS = {isa.AMO: "changes"}
-LOCKING = {"__delorean_took", "__delorean_lock", "__delorean_gives", "pthread_mutex_lock", "pthread_mutex_unlock",
-           "pthread_mutex_trylock", "pthread_mutex_timedlock"}
+LOCKING = {"__delorean_took", "__delorean_lock", "__delorean_wait", "__delorean_gives", "pthread_mutex_lock",
+           "pthread_mutex_unlock", "pthread_mutex_trylock", "pthread_mutex_timedlock"}
 TWO_ARGUMENTS = {"pthread_cond_wait", "pthread_cond_timedwait"}
 UNTOLD = LOCKING | set(GIVING) | set(TAKING_BACK) | {"pthread_create", "pthread_join"}
 QUIET = {"exit", "write", "clock", "self", "yield", "handler", "iret", "ended", "spawn", "fault", "break", "device store"}
 MOST_ROWS = 28       # of a turn; more are cut in the middle
 SMALL = 1000         # a number below it is told in decimal
 LOCK_BYTES = 16      # of a pthread_mutex_t
-WIDEST = 30          # a word that is longer pushes what comes after it
+WIDEST = 36          # a word that is longer pushes what comes after it
 REACH = 64           # an access so many bytes from an argument counts as one to what was given
 CAUSES = {0: "a jump to a place that isn't a multiple of 4", 1: "a jump out of the memory", 2: "no instruction is there",
           3: "a break", 4: "a load from an address that isn't a multiple of its width", 5: "a load from outside the memory",
@@ -67,8 +67,7 @@ class Story:
         self.ends = {}
         for call in self.calls:
             self.ends.setdefault(call.last, []).append(call)
-        self.locks = {call.arguments[0] for call in self.calls if call.name in LOCKING}
-        self.locks |= {call.arguments[1] for call in self.calls if call.name in TWO_ARGUMENTS}
+        self.locks = {a.addr for a in trace.accesses if a.pc in self.own.lock_code}
         self.heap, self.at, self.within, self.told = Heap(), {}, {}, set()
         self.functions = {}
         self.turns = [turn for turn in self._turns(list(left)) if turn.rows or turn.is_left]

@@ -12,7 +12,6 @@ Symbol = namedtuple("Symbol", "addr size name is_code")
 _NOTYPE, _OBJECT, _FUNCTION = 0, 1, 2
 _LOCAL = 0
 _EXECUTED = 4
-_ABSOLUTE = 0xFFF1
 
 
 class NoWord(Exception):
@@ -37,9 +36,9 @@ def _symbols(data):
             name, value, extent, info, _, section = struct.unpack_from("<IIIBBH", data, at)
             start = names + name
             text = printable(data[start : data.index(b"\0", start, names + names_length)])
-            if not text or text.startswith("$") or not (0 < section < len(sections) or section == _ABSOLUTE):
+            if not text or text.startswith("$") or not 0 < section < len(sections):
                 continue
-            is_code = section != _ABSOLUTE and bool(sections[section][2] & _EXECUTED)
+            is_code = bool(sections[section][2] & _EXECUTED)
             if info & 15 in (_OBJECT, _FUNCTION) or (info & 15 == _NOTYPE and info >> 4 != _LOCAL):
                 out.append(Symbol(value, extent, text, is_code))
     return out
@@ -94,7 +93,7 @@ class Names:
         return name in self.by_name
 
     def value(self, name):
-        """The value of a symbol: its address, or a number that the linker was given."""
+        """The address of a symbol."""
         return self.by_name[name].addr
 
     def function(self, pc):
