@@ -139,8 +139,8 @@ class Story:
             yield Row("calls", self.call_text(call), "", self.place_of(call.at))
 
     def _is_given(self, a, call):
-        given = call.arguments[:2]
-        return call.name not in UNTOLD and self.is_shared(a.addr) and any(0 <= a.addr - g < REACH for g in given)
+        is_near = any(0 <= a.addr - given < REACH for given in call.arguments[:2])
+        return call.name not in UNTOLD and is_near and (self.is_shared(a.addr) or call.name == "pthread_once")
 
     def _is_in_lock(self, addr):
         return any(lock < addr < lock + LOCK_BYTES for lock in self.locks)
