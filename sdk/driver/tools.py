@@ -47,7 +47,8 @@ def _gcc(include):
 
 
 def _clang(include):
-    compiler = ["clang", "--target=riscv32-unknown-elf", "-mno-relax", "-nostdlibinc", *_common(include), "-Wno-unused-command-line-argument"]
+    compiler = ["clang", "--target=riscv32-unknown-elf", "-mno-relax", "-nostdlibinc", *_common(include),
+                "-Wno-unused-command-line-argument", "-Wno-atomic-alignment"]
     archiver, names = shutil.which("llvm-ar") or GCC + "ar", shutil.which("llvm-nm") or GCC + "nm"
     return Tools(compiler, ["-fuse-ld=lld"], archiver, names, _archives())
 

@@ -31,17 +31,15 @@ static char *digits_of(char *at, uint64_t value, unsigned base, const char *lett
     return digits_of_word(at, (unsigned)value, base, letters);
 }
 
-static void put_digits(struct sink *s, void *what) {
-    struct digits *d = what;
-    for (unsigned j = 0; j < d->zeros; j++)
-        put(s, '0');
-    for (unsigned j = 0; j < d->count; j++)
-        put(s, d->at[j]);
-}
-
 static void put_many(struct sink *s, char c, int count) {
     for (; count > 0; count--)
         put(s, c);
+}
+
+static void put_digits(struct sink *s, void *what) {
+    struct digits *d = what;
+    put_many(s, '0', (int)d->zeros);
+    put_run(s, d->at, d->count);
 }
 
 /* A prefix, as a sign, and a body of a known length, within the width. */
@@ -50,8 +48,7 @@ void __put_padded(struct sink *s, struct conversion *c, const char *prefix, unsi
     int padding = c->width - (int)(prefix_length + length);
     if (!c->left && !c->zeros)
         put_many(s, ' ', padding);
-    for (unsigned j = 0; j < prefix_length; j++)
-        put(s, prefix[j]);
+    put_run(s, prefix, prefix_length);
     if (!c->left && c->zeros)
         put_many(s, '0', padding);
     body(s, what);
@@ -216,14 +213,21 @@ static const char *read_conversion(const char *f, struct conversion *c, enum len
     return f + 1;
 }
 
+/* The characters up to the next conversion; most formats have more of them than of anything else. */
+static const char *put_literal(struct sink *s, const char *f) {
+    char *at = s->at, *end = s->end;
+    for (; *f && *f != '%' && at < end; f++)
+        *at++ = *f;
+    s->at = at;
+    for (; *f && *f != '%'; f++)
+        s->full(s, *f);
+    return f;
+}
+
 int __format(struct sink *s, const char *f, va_list given) {
     va_list list;
     va_copy(list, given);
-    while (*f) {
-        if (*f != '%') {
-            put(s, *f++);
-            continue;
-        }
+    while (*(f = put_literal(s, f))) {
         struct conversion c;
         enum length length;
         const char *begin = f;

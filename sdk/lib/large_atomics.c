@@ -1,8 +1,10 @@
-/* Atomic operations on eight bytes, which compilers call: done under one lock, since the processor has those of words alone. */
+/* Atomic operations on eight bytes and on larger structs, which compilers call: done under one lock, since the processor has those of
+   words alone. */
 #include "wait.h"
 
 #include <stdbool.h>
 #include <stdint.h>
+#include <string.h>
 
 #pragma GCC diagnostic ignored "-Wbuiltin-declaration-mismatch"
 
@@ -56,5 +58,43 @@ bool __atomic_compare_exchange_8(volatile void *p, void *expected, uint64_t valu
     unlock();
     if (!same)
         *(uint64_t *)expected = x;
+    return same;
+}
+
+/* ---- of any size. clang has builtins of these names, so they get their names here. */
+
+void __delorean_load(size_t, const void *, void *, int) __asm__("__atomic_load");
+void __delorean_store(size_t, void *, const void *, int) __asm__("__atomic_store");
+void __delorean_exchange(size_t, void *, const void *, void *, int) __asm__("__atomic_exchange");
+bool __delorean_compare_exchange(size_t, void *, void *, const void *, int, int) __asm__("__atomic_compare_exchange");
+
+void __delorean_load(size_t size, const void *p, void *to, int order) {
+    (void)order;
+    lock();
+    memcpy(to, p, size);
+    unlock();
+}
+
+void __delorean_store(size_t size, void *p, const void *value, int order) {
+    (void)order;
+    lock();
+    memcpy(p, value, size);
+    unlock();
+}
+
+void __delorean_exchange(size_t size, void *p, const void *value, void *old, int order) {
+    (void)order;
+    lock();
+    memcpy(old, p, size);
+    memcpy(p, value, size);
+    unlock();
+}
+
+bool __delorean_compare_exchange(size_t size, void *p, void *expected, const void *value, int success, int failure) {
+    (void)success, (void)failure;
+    lock();
+    bool same = memcmp(p, expected, size) == 0;
+    memcpy(same ? p : expected, same ? value : p, size);
+    unlock();
     return same;
 }

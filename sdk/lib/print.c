@@ -146,7 +146,16 @@ int fputs(const char *text, FILE *f) {
     return 0;
 }
 
-int puts(const char *text) { return printf("%s\n", text) < 0 ? EOF : 0; }
+int puts(const char *text) {
+    char line[SHORT_TEXT];
+    unsigned length = strlen(text);
+    if (length >= sizeof line)
+        return printf("%s\n", text);
+    memcpy(line, text, length);
+    line[length] = '\n';
+    __put(line, length + 1);
+    return 0;
+}
 
 int fputc(int c, FILE *f) {
     char one = (char)c;

@@ -43,25 +43,31 @@ _Noreturn void _Exit(int status) { _exit(status); }
 
 /* ---- stacks: the lowest words of each have a mark, which is there as long as nothing has grown over it */
 
-enum { MARKS = 8, STACK_MARK = 0x57ACC0DE };
+enum { MARKS = 8, STACK_MARK = 0x57ACC0DE, NULL_WORDS = 16, NULL_MARK = 0x4E554C4D };
 
 static unsigned *marks_of(struct thread *t) {
     return (unsigned *)((char *)t - (t->slot == 0 ? __numbers.main_stack_room : __numbers.stack_size));
 }
 
 void __mark_stack(struct thread *t) {
+    unsigned *marks = marks_of(t);
+#pragma GCC unroll 8
     for (unsigned j = 0; j < MARKS; j++)
-        marks_of(t)[j] = STACK_MARK;
+        marks[j] = STACK_MARK;
 }
 
-static int is_whole(const unsigned *words, unsigned count, unsigned mark) {
-    while (count > 0 && words[count - 1] == mark)
-        count--;
-    return count == 0;
+/* Whether the words have the mark. They are added up, eight at a time without a branch, since every program does this at its end. */
+static int are_whole(const unsigned *words, unsigned count, unsigned mark) {
+    unsigned sum = 0;
+    for (const unsigned *end = words + count; words < end; words += 8)
+#pragma GCC unroll 8
+        for (unsigned j = 0; j < 8; j++)
+            sum += words[j];
+    return sum == count * mark;
 }
 
 void __check_stack(struct thread *t) {
-    if (!is_whole(marks_of(t), MARKS, STACK_MARK))
+    if (!are_whole(marks_of(t), MARKS, STACK_MARK))
         __fail("a stack has grown past its end: give delorean-cc a larger --stack", "");
 }
 
@@ -141,7 +147,7 @@ static void run_last_first(void (**functions)(void), unsigned *count) {
 
 /* What can be seen to be wrong once all is over. The page at 0 is one that no pointer of the program leads to. */
 static void check_memory(void) {
-    if (!is_whole(__null_page, 16, 0x4E554C4D))
+    if (!are_whole(__null_page, NULL_WORDS, NULL_MARK))
         __fail("something was stored through a null pointer: delorean's trace tells who stored to word 0", "");
     if (__check_heap)
         __check_heap();
@@ -149,7 +155,8 @@ static void check_memory(void) {
 }
 
 _Noreturn void exit(int status) {
-    run_last_first(handlers, &handler_count);
+    if (handler_count)
+        run_last_first(handlers, &handler_count);
     check_memory();
     _exit(status);
 }

@@ -18,6 +18,15 @@ static inline void put(struct sink *s, char c) {
         s->full(s, c);
 }
 
+static inline void put_run(struct sink *s, const char *from, unsigned count) {
+    char *at = s->at, *end = s->end;
+    for (; count > 0 && at < end; count--)
+        *at++ = *from++;
+    s->at = at;
+    for (; count > 0; count--)
+        s->full(s, *from++);
+}
+
 static inline unsigned length_of(const struct sink *s) { return s->earlier + (unsigned)(s->at - s->begin); }
 
 /* One conversion of a format, for example of %-8.3f. */

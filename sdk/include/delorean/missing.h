@@ -2,6 +2,10 @@
 #ifndef DELOREAN_MISSING_H
 #define DELOREAN_MISSING_H
 
+#ifdef __clang__
+#define DELOREAN_MISSING(why) __attribute__((unavailable(why)))
+#else
 #define DELOREAN_MISSING(why) __attribute__((error(why)))
+#endif
 
 #endif
