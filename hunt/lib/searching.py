@@ -10,6 +10,7 @@ from .engine import Engine, Options
 from .image import NotAnImage, read_image
 from .judge import Differs, Judge, switches_of
 from .symbols import Names, NoWord
+from .why import explained
 
 CONDITIONS = """\
   exit THREAD = CODE        the thread has ended with the code; or != < > <= >=. THREAD is a number, or any
@@ -91,7 +92,7 @@ class Job:
             Path(self.given.out).write_bytes(verdict.log)
         except OSError as error:
             raise Refused("%s: %s" % (error.filename, error.strerror)) from None
-        print("\n".join(self.summary(told, verdict)))
+        print("\n".join([*self.summary(told, verdict), *explained(self.given.image, self.given.memory, verdict.log)]))
 
     def summary(self, told, verdict):
         log = told.log

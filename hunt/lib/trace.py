@@ -1,6 +1,6 @@
 """What a log's play did, checked against the account of the proved program: `open_trace(image, memory, log)`."""
 
-from bisect import bisect_right
+from bisect import bisect_left, bisect_right
 from collections import namedtuple
 from pathlib import Path
 
@@ -34,6 +34,7 @@ class Trace:
         self._firsts = [c.first for c in self.commits]
         self._words = None
         self._of_thread = None
+        self._of_context = None
 
     # ------------------------------------------------------------ steps and commits
 
@@ -50,6 +51,15 @@ class Trace:
 
     def accesses_of(self, commit):
         return self.accesses[commit.first_access : commit.last_access]
+
+    def commits_of(self, context, number):
+        """The commits of a context, from this number on."""
+        if self._of_context is None:
+            self._of_context = {}
+            for commit in self.commits:
+                self._of_context.setdefault(self.context(commit), []).append(commit)
+        mine = self._of_context.get(context, [])
+        return mine[bisect_left(mine, number, key=lambda commit: commit.number) :]
 
     # ------------------------------------------------------------ words
 
@@ -69,6 +79,22 @@ class Trace:
     def first_value(self, addr):
         """What a word was before the first commit."""
         return int.from_bytes(self.image.memory[addr & ~3 : (addr & ~3) + 4], "little")
+
+    def is_blind(self, access):
+        """Whether it stores without a look at what was there: so does an exchange that drops it, which is how compilers make an
+        atomic store."""
+        is_dropped = access.kind == isa.SWAP and not self.value_before(access.pc, access.step) >> 7 & 31
+        return is_dropped or access.kind in (isa.STORE, isa.COPY, isa.DMA)
+
+    def is_look(self, access):
+        """Whether it gives its thread, or the kernel for it, what is in the memory."""
+        return access.kind in isa.LOADS and not self.is_blind(access)
+
+    def value_before(self, addr, step):
+        """What a word was before a step."""
+        indices = self.words.get(addr & ~3, ())
+        j = bisect_left(indices, step, key=lambda index: self.accesses[index].step)
+        return self.accesses[indices[j - 1]].new if j else self.first_value(addr)
 
     # ------------------------------------------------------------ threads at a moment
 
