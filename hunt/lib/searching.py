@@ -92,7 +92,9 @@ class Job:
             Path(self.given.out).write_bytes(verdict.log)
         except OSError as error:
             raise Refused("%s: %s" % (error.filename, error.strerror)) from None
-        print("\n".join([*self.summary(told, verdict), *explained(self.given.image, self.given.memory, verdict.log)]))
+        is_hang = told.leaf in ("waits", "repeats")
+        why = explained(self.given.image, self.given.memory, verdict.log, is_hang)
+        print("\n".join([*self.summary(told, verdict), *why]))
 
     def summary(self, told, verdict):
         log = told.log

@@ -3,11 +3,13 @@
 from bisect import bisect_left, bisect_right
 from collections import namedtuple
 from pathlib import Path
+import tempfile
 
 from . import isa
 from .account import Walk, compare
+from .frames import Frames
 from .image import NotAnImage, read_image
-from .logs import DMA, Malformed, read_log
+from .logs import DMA, ORDER_SIZE, Malformed, read_log, write_log
 from .machine import Machine, Thread
 from .play import play
 from .symbols import Names
@@ -23,7 +25,11 @@ def context_name(context):
 
 
 class Trace:
-    """commits: a list of Commit. accesses: all Accesses in order. pcs: the pc of each step. machine: as it is at the end."""
+    """commits: a list of Commit. accesses: all Accesses in order. pcs: the pc of each step. machine: as it is at the end.
+    longer: as `longer(commits)` it is the Trace of a longer log, walked and compared like this one, where commits are (thread,
+    size, Input or None); None if nothing was walked."""
+
+    longer = None
 
     def __init__(self, image, log, played):
         self.image, self.log, self.end = image, log, played.end
@@ -35,6 +41,14 @@ class Trace:
         self._words = None
         self._of_thread = None
         self._of_context = None
+        self._frames = None
+
+    @property
+    def frames(self):
+        """Who calls whom in the image."""
+        if self._frames is None:
+            self._frames = Frames(self.image)
+        return self._frames
 
     # ------------------------------------------------------------ steps and commits
 
@@ -195,7 +209,22 @@ def open_trace(image, memory, log, account=None):
         raise NotRead(_in_words(error)) from error
     played = play(loaded, read)
     compare(played, walk.account() if walk else text)
-    return Trace(loaded, read, played)
+    trace = Trace(loaded, read, played)
+    if walk:
+        trace.longer = lambda commits: _longer(image, memory, trace, commits)
+    return trace
+
+
+def _longer(image, memory, trace, commits):
+    log = trace.log
+    order = [c.actor for c in trace.commits] + [k for k, _, _ in commits]
+    sizes = [c.size for c in trace.commits] + [size for _, size, _ in commits]
+    inputs = log.inputs + [answer for _, _, answer in commits if answer]
+    longer = log._replace(mode=ORDER_SIZE, count=len(order), order=order, sizes=sizes, inputs=inputs)
+    with tempfile.NamedTemporaryFile(prefix="longer-", suffix=".log") as file:
+        file.write(write_log(longer))
+        file.flush()
+        return open_trace(image, memory, file.name)
 
 
 def _in_words(error):

@@ -7,6 +7,7 @@ import tempfile
 from . import isa
 from .account import Differs, NotWalked
 from .halfway import Early, Overwritten, early_looks, overwritten, taken_over
+from .hangs import hang_lines
 from .telling import place, what_served
 from .trace import NotRead, context_name, open_trace
 from .whatif import Otherwise
@@ -94,13 +95,14 @@ def _moment(trace, use):
 # ---------------------------------------------------------------- in words
 
 
-def explained(image, memory, log):
-    """The lines for the bytes of a log; none if its play can't be compared with the walk's account, or differs from it."""
+def explained(image, memory, log, is_hang=False):
+    """The lines for the bytes of a log, for a hang those of hangs.py too; none if its play differs from the walk's account."""
     with tempfile.NamedTemporaryFile(prefix="explained-", suffix=".log") as file:
         file.write(log)
         file.flush()
         try:
-            return switch_lines(open_trace(image, memory, file.name))
+            trace = open_trace(image, memory, file.name)
+            return switch_lines(trace) + (hang_lines(trace) if is_hang else [])
         except (Differs, NotRead, NotWalked):
             return []
 
@@ -173,7 +175,9 @@ def _use(trace, use):
         return "never looks again"
     served = use.commit.served
     what = "faults, cause %d" % served.result if served.name in ("fault", "break") else "calls " + what_served(use.commit)
-    return "%s (commit %d, %s)" % (what, use.commit.number, place(trace, trace.pcs[use.commit.first]))
+    pc, x = trace.pcs[use.commit.first], use.commit.before.x
+    caller = trace.frames.chain(pc, x, lambda addr: trace.value_before(addr, use.commit.first))[0]
+    return "%s (commit %d, %s)" % (what, use.commit.number, place(trace, caller))
 
 
 _TELL = {Stale: _stale_lines, Early: _early_lines, Overwritten: _overwritten_lines}
