@@ -10,6 +10,7 @@ from .engine import Engine, Options
 from .image import NotAnImage, read_image
 from .judge import Differs, Judge, switches_of
 from .symbols import Names, NoWord
+from .why import explained
 
 CONDITIONS = """\
   exit THREAD = CODE        the thread has ended with the code; or != < > <= >=. THREAD is a number, or any
@@ -92,7 +93,9 @@ class Job:
             Path(self.given.out).write_bytes(verdict.log)
         except OSError as error:
             raise Refused("%s: %s" % (error.filename, error.strerror)) from None
-        print("\n".join(self.summary(told, verdict)))
+        is_hang = told.leaf in ("waits", "repeats")
+        why = explained(self.given.image, self.given.memory, verdict.log, is_hang)
+        print("\n".join([*self.summary(told, verdict), *why]))
 
     def summary(self, told, verdict):
         log = told.log
