@@ -1,7 +1,7 @@
 #include "guide.h"
 
-#include "ending.h"
 #include "idle.h"
+#include "stuck.h"
 
 static enum turn_end end_of(enum stop stop) {
     return stop == AT_STOP ? STOPPED : stop == AT_WAIT ? WAITS : stop == AT_SPENT ? SPENT : FORCED;

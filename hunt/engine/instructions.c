@@ -244,7 +244,7 @@ static void run_store(struct machine *m, uint32_t number, uint32_t address, cons
     uint32_t width = width_of(c->operation), shift = address % 4 * 8;
     uint32_t mask = (width == 4 ? 0xFFFFFFFF : (1u << 8 * width) - 1) << shift;
     uint32_t value = m->threads[number].x[c->rs2] << shift;
-    note_store(context_of(m, number), m->time, address);
+    note_store(context_of(m, number), address);
     put_word(m, address, (word_at(m, address) & ~mask) | (value & mask));
 }
 
@@ -267,7 +267,7 @@ void run_access(struct machine *m, uint32_t number, uint32_t address, struct ser
     bool loads = c.operation <= LHU || c.operation == LR || c.operation > SC;
     m->time++;
     if (loads) {
-        note_load(context, m->time, address);
+        note_load(context, address);
         result = loaded(m, address, c.operation);
     }
     if (c.operation >= SB && c.operation <= SW)
@@ -280,7 +280,7 @@ void run_access(struct machine *m, uint32_t number, uint32_t address, struct ser
         if (result == 0)
             run_store(m, number, address, &c);
     } else if (c.operation > SC) {
-        note_store(context, m->time, address);
+        note_store(context, address);
         put_word(m, address, swapped(c.operation, result, t->x[c.rs2]));
     }
     if (c.operation < SB || c.operation > SW)

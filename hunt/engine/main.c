@@ -3,6 +3,7 @@
 #define _POSIX_C_SOURCE 200809L
 #include "condition.h"
 #include "emit.h"
+#include "ends.h"
 #include "guide.h"
 #include "run.h"
 #include "search.h"
@@ -109,6 +110,13 @@ static void take_raise(char *rest) {
     run.raises[run.raise_count++] = raise;
 }
 
+static void take_ends(char *rest) {
+    unsigned from, length;
+    if (sscanf(rest, "%u %u", &from, &length) != 2 || from > setup.size || length > setup.size - from)
+        fail("no such words");
+    collect_ends(from, length);
+}
+
 static void take_turn(char *rest) {
     unsigned actor;
     unsigned long long steps;
@@ -159,6 +167,7 @@ static void do_search(char *rest) {
     limits.states = states;
     ready();
     enum finish finish = search(&run, &bad, &limits, &tally);
+    tell_ends();
     printf("tally %llu %llu %llu %llu %llu %u %u %u\n", (unsigned long long)tally.tries, (unsigned long long)tally.ended,
            (unsigned long long)(tally.waited + tally.repeated), (unsigned long long)tally.limited,
            (unsigned long long)tally.spent, tally.most_places, tally.bound, tally.restarts);
@@ -205,7 +214,9 @@ static void take_line(char *line) {
     else if (strcmp(line, "answer") == 0) take_answer(rest);
     else if (strcmp(line, "dma") == 0) take_dma(rest);
     else if (strcmp(line, "atom") == 0) take_atom(rest);
+    else if (strcmp(line, "all-places") == 0) run.all_places = true;
     else if (strcmp(line, "raise") == 0) take_raise(rest);
+    else if (strcmp(line, "ends") == 0) take_ends(rest);
     else if (strcmp(line, "turn") == 0) take_turn(rest);
     else if (strcmp(line, "search") == 0) do_search(rest);
     else if (strcmp(line, "ready") == 0) ready(), printf("ready\n");

@@ -1,5 +1,6 @@
 #include "run.h"
 
+#include "segments.h"
 #include "sharing.h"
 
 #include <string.h>
@@ -82,9 +83,10 @@ void end_turn(struct run *r, enum turn_end end) {
 static bool is_place(const struct run *r, const struct thread *t, struct next next) {
     switch (next.kind) {
     case LOCAL:
-        return is_shared(t->pc);
-    case MEMORY: /* an SC looks whether its chunk began before the LR, so it matters to it whether another came between */
-        return is_shared(next.address) || is_shared(t->pc) || (t->reservation == next.address && is_store_conditional(&r->machine, t));
+        return is_place_word(t->pc);
+    case MEMORY: /* whoever is left after an LR loses the reservation, so an LR, and an SC that has it, can't be moved over a switch */
+        return is_place_word(next.address) || is_place_word(t->pc) || is_load_reserved(&r->machine, t)
+               || (t->reservation == next.address && is_store_conditional(&r->machine, t));
     case CALL: { /* an interrupt may come before any, and leaves another number in a7 */
         uint32_t call = t->x[17];
         bool is_own = call > HAS_ENDED || call == HANDLER || call == IRET || call == SELF || call == YIELD;
@@ -98,6 +100,8 @@ static bool is_place(const struct run *r, const struct thread *t, struct next ne
 static void take_step(struct run *r, struct next next) {
     struct served served;
     present(r)->steps++;
+    if (is_place(r, &r->machine.threads[r->current], next))
+        new_segment(r->current);
     if (next.kind == LOCAL)
         run_local(&r->machine, r->current);
     else if (next.kind == MEMORY)
@@ -124,27 +128,44 @@ static bool comes_again(struct run *r) {
 
 static bool is_outside(uint32_t call) { return call >= WRITE && call <= CLOCK; }
 
-/* The current thread is in a loop of so many steps that comes back to each of its states. It goes on to that one of them in
-   which it waits, before the place of the least pc, and finds out what the loop looks at. */
-static void settle(struct run *r, uint64_t length, struct looks *looks) {
+/* The current thread is in a loop of so many steps that comes back to each of its states. It does one round, and finds out what the
+   loop looks at. A thread that is known to wait isn't run, so nobody would see these touches: the shared words become places'. */
+static void look_around(struct run *r, uint64_t length, struct looks *looks) {
     struct machine *m = &r->machine;
     struct thread *t = &m->threads[r->current];
-    uint64_t best = 0, best_rank = UINT64_MAX;
     for (uint64_t j = 0; j < length; j++) {
         struct next next = next_of(m, t);
-        uint64_t rank = (uint64_t)!is_place(r, t, next) << 32 | t->pc;
-        if (rank < best_rank) {
-            best_rank = rank;
-            best = j;
-        }
-        if (next.kind == MEMORY && is_shared(next.address))
+        if (next.kind == MEMORY) {
             look_at(looks, next.address);
+            if (is_shared(next.address))
+                make_place(next.address);
+        }
         if (is_shared(t->pc) || next.kind == DEVICE_LOAD || (next.kind == CALL && is_outside(t->x[17])))
             looks->at_all = true;
         take_step(r, next);
     }
+}
+
+/* It goes on to that state of the loop in which it waits, before the place of the least pc. The answer is how many places there are. */
+static uint32_t settle(struct run *r, uint64_t length) {
+    struct machine *m = &r->machine;
+    struct thread *t = &m->threads[r->current];
+    uint64_t best = 0, best_rank = UINT64_MAX;
+    uint32_t places = 0;
+    for (uint64_t j = 0; j < length; j++) {
+        struct next next = next_of(m, t);
+        bool at_place = is_place(r, t, next);
+        uint64_t rank = (uint64_t)!at_place << 32 | t->pc;
+        places += at_place;
+        if (rank < best_rank) {
+            best_rank = rank;
+            best = j;
+        }
+        take_step(r, next);
+    }
     for (uint64_t j = 0; j < best; j++)
         take_step(r, next_of(m, t));
+    return places;
 }
 
 /* Of a thread as it is once it is left. */
@@ -169,8 +190,9 @@ static void wait_here(struct run *r) {
     bool pure = r->machine.stores == r->mark_stores;
     uint64_t length = r->mark_age + 1;
     struct looks looks = {.at_all = !pure};
-    settle(r, length, &looks);
-    keep_loop(r, length, &looks, pure ? WAITS_PURELY : WAITS_WITH_STORES);
+    look_around(r, length, &looks);
+    uint32_t places = settle(r, length);
+    keep_loop(r, length, &looks, !pure ? WAITS_WITH_STORES : places > 1 ? WAITS_AROUND : WAITS_AT_ONE_PLACE);
 }
 
 enum waiting waiting_of(struct run *r, uint32_t thread) {
@@ -203,12 +225,21 @@ static enum stop step_on(struct run *r, struct next next) {
     return is_spent(r) ? AT_SPENT : AT_PLACE;
 }
 
+static bool is_interruptible(const struct run *r) {
+    for (uint32_t j = 0; j < r->raise_count; j++)
+        if (r->raises[j].thread == r->current && can_raise(r, j))
+            return true;
+    return false;
+}
+
 enum stop go_on(struct run *r, bool past) {
     for (;; past = false) {
         const struct thread *t = &r->machine.threads[r->current];
         struct next next = next_of(&r->machine, t);
         if (!past && is_place(r, t, next))
             return AT_PLACE;
+        if (!past && is_interruptible(r))
+            return AT_INTERRUPTIBLE;
         enum stop stop = step_on(r, next);
         if (stop != AT_PLACE)
             return stop;

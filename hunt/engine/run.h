@@ -24,6 +24,7 @@ struct turn {
 
 struct run {
     struct machine machine;
+    bool all_places; /* each access to a shared word is a place */
     struct raise raises[MOST_RAISES];
     uint32_t raise_count;
     uint64_t raised; /* which of them have come, as bits */
@@ -42,13 +43,14 @@ struct run {
     size_t still_turn;
 };
 
-/* What a thread came to: a place, where it is about to touch what others see; or its turn's end. */
-enum stop { AT_PLACE, AT_STOP, AT_WAIT, AT_SPENT, AT_LIMIT };
+/* What a thread came to: a place, where it is about to touch what others see; a point between places at which an interrupt may come
+   to it, since its handler sees the registers; or its turn's end. */
+enum stop { AT_PLACE, AT_INTERRUPTIBLE, AT_STOP, AT_WAIT, AT_SPENT, AT_LIMIT };
 
 void start_run(struct run *r);
 void begin_turn(struct run *r, uint32_t actor);
 void end_turn(struct run *r, enum turn_end end);
-/* The current thread goes on to its next place; past the one where it is, if it is at one. */
+/* The current thread goes on to its next place or such a point; past the one where it is, if `past`. */
 enum stop go_on(struct run *r, bool past);
 /* The current thread goes on for so many steps at most. */
 enum stop go_steps(struct run *r, uint64_t steps);

@@ -1,18 +1,19 @@
 #define _POSIX_C_SOURCE 200809L
 #include "search.h"
 
-#include "ending.h"
+#include "ends.h"
 #include "seen.h"
-#include "sharing.h"
+#include "segments.h"
+#include "stuck.h"
 
 #include <signal.h>
 #include <stdio.h>
 #include <stdlib.h>
 #include <time.h>
 
-/* A way to go: what its parent's run did up to a place, and there this choice. */
+/* A way to go: what its parent's run did up to a place, and there this choice. places: as many as its run had by then. */
 struct item {
-    uint32_t parent, place;
+    uint32_t parent, place, places;
     uint8_t choice;
 };
 
@@ -40,8 +41,10 @@ enum result { GOES_ON, IS_BAD, IS_DONE };
 struct trial {
     uint32_t item;
     size_t done;
-    uint32_t place, choices;
-    bool fresh; /* the current thread has touched nothing since it came */
+    uint32_t place;  /* the number of the stop: of a place, or of a turn's end */
+    uint32_t places; /* of them those at which others could come */
+    bool fresh; /* the current thread has come to no place since it came */
+    uint64_t touches_then; /* the touches of all segments when it came */
 };
 
 /* ---------------------------------------------------------------- items */
@@ -54,12 +57,12 @@ static void push(struct list *l, uint32_t item) {
     l->items[l->count++] = item;
 }
 
-static uint32_t new_item(uint32_t parent, uint32_t place, uint32_t choice) {
+static uint32_t new_item(const struct trial *t, uint32_t choice) {
     if (item_count == item_room) {
         item_room = item_room ? 2 * item_room : 1024;
         items = more_room(items, item_room, sizeof *items);
     }
-    items[item_count] = (struct item){parent, place, (uint8_t)choice};
+    items[item_count] = (struct item){t->item, t->place, t->places, (uint8_t)choice};
     return (uint32_t)item_count++;
 }
 
@@ -106,12 +109,15 @@ static bool is_in_turn(struct hash key) {
     return false;
 }
 
+/* With what each thread has touched in its segment, so that the conflicts that can come are the same too. */
+static struct hash whole_state(void) { return sum(state_of(run), segments()); }
+
 /* The state after the current thread's chunk has ended. */
 static struct hash state_after_chunk(void) {
     struct thread *t = &run->machine.threads[run->current];
     uint32_t reservation = t->reservation;
     t->reservation = NO_RESERVATION;
-    struct hash state = state_of(run);
+    struct hash state = whole_state();
     t->reservation = reservation;
     return state;
 }
@@ -139,44 +145,63 @@ static void take_choice(struct trial *t, uint32_t choice, enum turn_end end) {
     }
     begin_turn(run, choice);
     t->fresh = true;
+    t->touches_then = touch_count();
 }
 
-/* A thread that waits in a loop with stores is nothing to go on with, but others may see what it stores there. */
+/* Whether the current thread has touched nothing that others touch since it came. */
+static bool is_fresh(const struct trial *t) { return t->fresh && t->touches_then == touch_count(); }
+
+/* A thread that waits is nothing to go on with. But others may see what it stores in its loop; and in a loop of several places it may
+   be left when it has looked at one word, and not yet at another. */
 static bool is_choice(uint32_t choice) {
     const struct machine *m = &run->machine;
     if (choice < m->thread_count)
-        return m->threads[choice].status == LIVE && waiting_of(run, choice) != WAITS_PURELY;
+        return m->threads[choice].status == LIVE && waiting_of(run, choice) != WAITS_AT_ONE_PLACE;
     return choice == DMA ? m->requested : choice >= RAISE && can_raise(run, choice - RAISE);
 }
 
-/* The choices that another actor comes here, with one forced switch more. */
-static void offer_switches(struct trial *t) {
-    struct machine *m = &run->machine;
-    struct thread *current = &m->threads[run->current];
+static void put_off(const struct trial *t, uint32_t choice) { push(&later, new_item(t, choice)); }
+
+/* Another thread comes, or the chunk ends before the SC. Whoever has touched nothing might as well come later. */
+static void offer_switches(const struct trial *t) {
+    const struct machine *m = &run->machine;
+    const struct thread *current = &m->threads[run->current];
     uint32_t cost = tally->bound + 1;
-    if (cost > limits->switches)
+    if (is_fresh(t))
         return;
-    bool offered = false;
-    /* Whoever has touched nothing might as well come later; but a reservation is lost by leaving. */
-    if (!t->fresh || current->reservation != NO_RESERVATION) {
-        struct hash after = state_after_chunk();
-        for (uint32_t u = 0; u < m->thread_count; u++) {
-            if (u == run->current || !is_choice(u))
-                continue;
-            offered = true;
-            if (is_new(key_of(after, u, COMING), cost))
-                push(&later, new_item(t->item, t->place, u));
-        }
-        if (current->reservation != NO_RESERVATION && is_store_conditional(m, current)
-            && is_new(key_of(after, run->current, AFTER_CUT), cost))
-            push(&later, new_item(t->item, t->place, CUT));
-    }
-    if (m->requested)
-        push(&later, new_item(t->item, t->place, DMA));
+    struct hash after = state_after_chunk();
+    for (uint32_t u = 0; u < m->thread_count; u++)
+        if (u != run->current && is_choice(u) && is_new(key_of(after, u, COMING), cost))
+            put_off(t, u);
+    if (current->reservation != NO_RESERVATION && is_store_conditional(m, current)
+        && is_new(key_of(after, run->current, AFTER_CUT), cost))
+        put_off(t, CUT);
+}
+
+static void offer_interrupts(const struct trial *t, bool of_current_alone) {
     for (uint32_t j = 0; j < run->raise_count; j++)
-        if (can_raise(run, j))
-            push(&later, new_item(t->item, t->place, RAISE + j));
-    t->choices += offered;
+        if (can_raise(run, j) && (!of_current_alone || run->raises[j].thread == run->current))
+            put_off(t, RAISE + j);
+}
+
+static bool others_could_come(void) {
+    for (uint32_t c = 0; c < RAISE + run->raise_count; c++)
+        if (c != run->current && is_choice(c))
+            return true;
+    return false;
+}
+
+/* The choices that there are at this stop, with one forced switch more. */
+static void offer(struct trial *t, enum stop stop) {
+    t->places += stop == AT_PLACE && others_could_come();
+    if (tally->bound == limits->switches)
+        return;
+    if (stop == AT_PLACE) {
+        offer_switches(t);
+        if (run->machine.requested)
+            put_off(t, DMA);
+    }
+    offer_interrupts(t, stop == AT_INTERRUPTIBLE);
 }
 
 enum leaf leaf_of(struct run *r) {
@@ -184,12 +209,13 @@ enum leaf leaf_of(struct run *r) {
     if (live_count(r) == 0)
         return ALL_ENDED;
     for (uint32_t k = 0; k < r->machine.thread_count; k++)
-        pure = pure && (r->machine.threads[k].status != LIVE || waiting_of(r, k) == WAITS_PURELY);
+        pure = pure && (r->machine.threads[k].status != LIVE || waiting_of(r, k) != WAITS_WITH_STORES);
     return pure ? ALL_WAIT : COMES_AGAIN;
 }
 
 static enum result at_leaf(void) {
     enum leaf leaf = leaf_of(run);
+    note_end(&run->machine, tally->bound);
     tally->ended += leaf == ALL_ENDED;
     tally->waited += leaf == ALL_WAIT;
     tally->repeated += leaf == COMES_AGAIN;
@@ -210,11 +236,11 @@ static enum result choose(struct trial *t, enum turn_end end) {
     end_turn(run, end);
     if (is_leaf() && at_leaf() == IS_BAD)
         return IS_BAD;
-    struct hash state = state_of(run);
+    struct hash state = whole_state();
     for (uint32_t c = 0; c < RAISE + run->raise_count; c++) {
         if (!is_choice(c) || !is_new(key_of(state, c, COMING), tally->bound))
             continue;
-        uint32_t item = new_item(t->item, t->place, c);
+        uint32_t item = new_item(t, c);
         if (first == ROOT)
             first = item;
         else
@@ -237,30 +263,23 @@ static bool follow(struct trial *t, size_t length, enum turn_end end) {
     return true;
 }
 
-/* At a place. Whether the current thread goes on past it. */
-static enum result at_place(struct trial *t, size_t length, bool *past) {
+/* At a place, or where an interrupt may come. The current thread goes on past it, if no other choice is taken. */
+static enum result at_place(struct trial *t, size_t length, enum stop stop, bool *past) {
     t->place++;
     *past = false;
     if (follow(t, length, FORCED))
         return GOES_ON;
     if (t->done == length) {
-        struct hash key = key_of(state_of(run), run->current, t->fresh ? FRESH : AT_PLACE_KEY);
+        struct hash key = key_of(whole_state(), run->current, is_fresh(t) ? FRESH : AT_PLACE_KEY);
         if (is_new(key, tally->bound)) {
             keep_key(key);
-            offer_switches(t);
+            offer(t, stop);
         } else if (!is_in_turn(key))
             return IS_DONE;
     }
-    t->fresh = false;
+    t->fresh = t->fresh && stop == AT_INTERRUPTIBLE;
     *past = true;
     return GOES_ON;
-}
-
-static bool others_could_come(void) {
-    for (uint32_t c = 0; c < RAISE + run->raise_count; c++)
-        if (c != run->current && is_choice(c))
-            return true;
-    return false;
 }
 
 static enum result at_turn_end(struct trial *t, size_t length, enum turn_end end) {
@@ -276,7 +295,7 @@ static enum result at_turn_end(struct trial *t, size_t length, enum turn_end end
 }
 
 static enum result try_item(uint32_t item) {
-    struct trial t = {.item = item, .fresh = true};
+    struct trial t = {.item = item, .places = item == ROOT ? 0 : items[item].places, .fresh = true};
     enum result result = GOES_ON;
     find_path(item);
     size_t length = path_length;
@@ -288,8 +307,11 @@ static enum result try_item(uint32_t item) {
         /* after a DMA or an interrupt at a turn's end no thread is there yet */
         enum stop stop = run->current == NO_ONE ? AT_STOP : go_on(run, past);
         past = false;
+        if (has_news())
+            return IS_DONE; /* the search begins again */
         switch (stop) {
-        case AT_PLACE: result = at_place(&t, length, &past); break;
+        case AT_PLACE:
+        case AT_INTERRUPTIBLE: result = at_place(&t, length, stop, &past); break;
         case AT_STOP: result = at_turn_end(&t, length, STOPPED); break;
         case AT_WAIT: result = at_turn_end(&t, length, WAITS); break;
         case AT_SPENT: result = at_turn_end(&t, length, SPENT); break;
@@ -298,8 +320,8 @@ static enum result try_item(uint32_t item) {
             result = IS_DONE;
         }
     }
-    if (t.choices > tally->most_places)
-        tally->most_places = t.choices;
+    if (t.places > tally->most_places)
+        tally->most_places = t.places;
     return result;
 }
 
@@ -318,11 +340,11 @@ static uint64_t drawn(uint64_t *state) {
     return *state;
 }
 
-/* A run in which threads change at random, only to find words that are shared. */
+/* A run in which threads change at random, only to find words that are shared or places'. */
 static void scout(uint64_t *state) {
     struct machine *m = &run->machine;
     start_run(run);
-    for (uint32_t turn = 0; turn < 4096 && m->time < run->step_limit; turn++) {
+    for (uint32_t turn = 0; turn < 4096 && m->time < run->step_limit && !has_news(); turn++) {
         uint32_t enabled[MOST_THREADS], count = 0;
         for (uint32_t k = 0; k < m->thread_count; k++)
             if (is_enabled(run, k))
@@ -342,8 +364,20 @@ static void scout(uint64_t *state) {
     }
 }
 
+/* Until so many one after another have no news. */
+static void send_scouts(double started) {
+    enum { ENOUGH = 100 };
+    uint64_t random = 0x9E3779B97F4A7C15u;
+    for (int j = 0; j < ENOUGH && now_seconds() - started < limits->seconds / 10; j++) {
+        scout(&random);
+        if (has_news())
+            j = 0;
+    }
+}
+
 static void start_over(void) {
     forget_seen();
+    forget_ends();
     item_count = now.count = later.count = 0;
     tally->bound = 0;
     tally->most_places = 0;
@@ -353,7 +387,7 @@ static void start_over(void) {
 
 static void tell_bound(double started) {
     printf("bound %u tries %llu states %llu places %u shared %u seconds %.2f\n", tally->bound, (unsigned long long)tally->tries,
-           (unsigned long long)seen_count(), tally->most_places, shared_count(), now_seconds() - started);
+           (unsigned long long)seen_count(), tally->most_places, place_word_count(), now_seconds() - started);
     fflush(stdout);
 }
 
@@ -363,15 +397,14 @@ void interrupt_search(void) { interrupted = 1; }
 
 enum finish search(struct run *r, const struct condition *bad_, const struct limits *limits_, struct tally *tally_) {
     double started = now_seconds();
-    uint64_t random = 0x9E3779B97F4A7C15u;
     run = r;
     bad = bad_;
     limits = limits_;
     tally = tally_;
     start_seen(limits->states);
-    for (int j = 0; j < 100 && now_seconds() - started < limits->seconds / 10; j++)
-        scout(&random);
-    uint32_t shared = shared_count();
+    every_shared_word_is_a_place(run->all_places || run->raise_count > 0);
+    send_scouts(started);
+    uint32_t known = knowledge();
     for (start_over();;) {
         if (now.count == 0) {
             tell_bound(started);
@@ -393,8 +426,8 @@ enum finish search(struct run *r, const struct condition *bad_, const struct lim
         tally->tries++;
         if (try_item(now.items[--now.count]) == IS_BAD)
             return FOUND;
-        if (shared_count() != shared) {
-            shared = shared_count();
+        if (knowledge() != known) {
+            known = knowledge();
             tally->restarts++;
             start_over();
         }

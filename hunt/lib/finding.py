@@ -8,6 +8,7 @@ from pathlib import Path
 import subprocess
 import time
 
+from .engine import TO_ITS_END
 from .image import NotAnImage, read_image
 from .judge import switches_of
 from .searching import Job, Refused
@@ -15,7 +16,7 @@ from .shrinking import Shrinker
 from .symbols import Names
 
 TOP = Path(__file__).resolve().parent.parent.parent
-MOST_SWITCHES = 250
+MOST_SWITCHES, MOST_RUNS, MOST_STATES = 250, 1 << 40, 1 << 25
 PAGE, MOST_MEMORY = 4096, 1 << 24
 FEW_THREADS = 15  # as many as logs of version 1 have
 
@@ -89,7 +90,7 @@ def conditions(program, limits):
 
 def job_of(program, limits):
     return Job(Namespace(image=program.image, memory=str(program.memory), bad=conditions(program, limits), input=limits.input,
-                         seed=limits.seed, tick=64, turn=limits.turn, steps=limits.steps, raises=[],
+                         seed=limits.seed, out=os.devnull, tick=64, turn=limits.turn, steps=limits.steps, raises=[],
                          log_version=1 if program.threads <= FEW_THREADS else 2))
 
 
@@ -100,12 +101,10 @@ def left_by_force(turns):
 
 def least(job, told, seconds):
     """The run with as few turns as could be found, as told."""
-    engine = job.engine()
-    try:
-        best = Shrinker(engine, seconds).shrunk(told.turns)
-        return engine.told(best)[1] if best else told
-    finally:
-        engine.close()
+    with job.engine() as engine:
+        shrinker = Shrinker(engine, TO_ITS_END, time.monotonic() + seconds)
+        best = shrinker.shrunk(told.turns)
+        return shrinker.told(best) if best else told
 
 
 def judged(job, told, seconds):
@@ -125,10 +124,9 @@ def status_of(result):
 def find(program, limits, tell=lambda bound: None):
     """The Finding. `tell` is called with each Bound that is done."""
     job, started = job_of(program, limits), time.monotonic()
-    engine = job.engine()
     switches = MOST_SWITCHES if limits.switches is None else limits.switches
-    result = engine.search(switches, 1 << 40, 1 << 25, limits.seconds, tell)
-    engine.close()
+    with job.engine() as engine:
+        result = engine.search(switches, MOST_RUNS, MOST_STATES, limits.seconds, tell)
     searched = time.monotonic() - started
     if result.told is None:
         return Finding(status_of(result), result, None, searched, conditions(program, limits))

@@ -1,6 +1,6 @@
 /* How a run ends that goes on no more, or only round and round. */
-#ifndef ENDING_H
-#define ENDING_H
+#ifndef STUCK_H
+#define STUCK_H
 
 #include "condition.h"
 #include "run.h"

@@ -1,5 +1,5 @@
 #define _POSIX_C_SOURCE 200809L
-#include "ending.h"
+#include "stuck.h"
 
 #include "search.h"
 
