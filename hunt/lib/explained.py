@@ -2,45 +2,45 @@
 
 from collections import namedtuple
 from pathlib import Path
+import re
 import tempfile
 
+from .chains import places
 from .found import LOG, PICTURE, PLAN, plan_text
-from .notes import note_lines
+from .hangs import hang_lines
+from .notes import note_lines, notes_of
 from .story import Story, lines
 from .trace import open_trace
+from .why import switch_lines
 
-# why, waits, story: lines. threads: (number, function, state, code) of each. console: text. files: name -> text or bytes.
+# why, waits, story: lines. threads: (number, function, state, code, places where it failed) of each. console: text. files: name -> text or bytes.
 Told = namedtuple("Told", "why waits story threads console files folder")
 
 
-def why_lines(trace):
-    """Which stale loads the run depends on, if this hunt can tell."""
-    try:
-        from .why import switch_lines
-    except ImportError:
-        return []
-    return list(switch_lines(trace))
-
-
-def waiting_lines(trace, run):
-    """Who waits for whom, of a run in which no thread goes on."""
+def waiting_lines(trace, own, run):
+    """Who waits for whom, of a run in which no thread goes on: by the library's notes; of other threads, by their loops."""
     if run.leaf not in ("waits", "repeats"):
         return []
-    told = list(note_lines(trace))
-    if told:
-        return told
-    try:
-        from .hangs import hang_lines
-    except ImportError:
-        return []
-    return list(hang_lines(trace))
+    notes = [note for note in notes_of(trace) if note.waits]
+    return [*note_lines(trace, own, notes), *lines_of_others(trace, {note.thread for note in notes})]
+
+
+def lines_of_others(trace, told):
+    """hangs.hang_lines, without the threads that are told, and without what these are said to wait for."""
+    is_told = False
+    for line in hang_lines(trace) if len(told) < len(trace.machine.threads) else ():
+        thread = re.match(r"thread (\d+)", line)
+        is_told = int(thread[1]) in told if thread else is_told or bool(told) and not line.startswith(" ")
+        if not is_told:
+            yield line
 
 
 def states(trace, story):
-    """(number, function, state, code) of each thread; code is None if it is live."""
+    """(number, function, state, code, places) of each thread; code is None if it is live."""
     for number, thread in enumerate(trace.machine.threads):
         state, code = thread.status
-        yield number, story.function_of(number), state, None if state == "live" else code
+        where = places(trace, story.own, number) if state == "fault" or code else []
+        yield number, story.function_of(number), state, None if state == "live" else code, where
 
 
 def console_of(trace):
@@ -64,5 +64,5 @@ def explained(program, finding, folder):
         trace = open_trace(program.image, program.memory, file.name)
     story, image = Story(trace, finding.run.left), Path(program.image).name
     files = {LOG: finding.run.log, PICTURE: picture_of(trace, image), PLAN: plan_text(image, program.memory)}
-    return Told(why_lines(trace), waiting_lines(trace, finding.run), list(lines(story)), list(states(trace, story)),
+    return Told(list(switch_lines(trace)), waiting_lines(trace, story.own, finding.run), list(lines(story)), list(states(trace, story)),
                 console_of(trace), files, folder)

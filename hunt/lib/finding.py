@@ -24,13 +24,13 @@ FEW_THREADS = 15  # as many as logs of version 1 have
 Program = namedtuple("Program", "image memory threads has_library")
 # switches: at most so many forced ones, or None. seconds: of the search. bad: further conditions. input: a file, or None.
 Limits = namedtuple("Limits", "switches seconds shrink_seconds bad input seed turn steps")
-# status: found, clear or limit. search: as the engine has it. run: a Run, or None. seconds: that it took.
+# status: below. search: as the engine has it. run: a Run, or None. seconds: that the search took. condition: what a failure is.
 Finding = namedtuple("Finding", "status search run seconds condition")
 # log: bytes, that the proved walk has judged. ended: what the walk's account tells. forced: how many forced switches. left: of each
 # turn of a thread, the next one's apart, whether it was left by a forced switch. leaf: as in engine.Told.
 Run = namedtuple("Run", "log ended forced left leaf commits switches")
 
-FOUND, CLEAR, LIMIT = "found", "clear", "limit"
+FOUND, CLEAR, LIMIT, STOPPED = "found", "clear", "limit", "stopped"
 
 
 # ---------------------------------------------------------------- programs
@@ -117,6 +117,8 @@ def judged(job, told, seconds):
 
 def status_of(result):
     """Whether all that was asked for is covered."""
+    if result.how == "stopped":
+        return STOPPED
     whole = result.how in ("all", "bound") and not result.limited and not result.spent
     return CLEAR if whole else LIMIT
 

@@ -3,6 +3,8 @@ its own block which locks it holds, what it waits for, and where in the program 
 
 from collections import namedtuple
 
+from .chains import chain_text, places
+
 # thread: the kernel's number. function: what it began with, or None. waits: a Wait, or None. holds: of Held, in order.
 Note = namedtuple("Note", "thread function waits holds")
 # kind: in words, for example `mutex`. object: its address, or a thread's number if it waits for the end of one. at: a pc.
@@ -52,9 +54,9 @@ def _note(blocks, block, numbers):
 
 
 def notes_of(trace):
-    """The Note of each thread that is live at the end, by number. None if the image has no notes."""
+    """The Note of each thread that is live at the end, by number. None of any if the image has no notes."""
     if not all(trace.names.has(name) for name in NEEDED):
-        return None
+        return []
     blocks = _Blocks(trace)
     numbers = blocks.numbers()
     notes = [_note(blocks, block, numbers) for block, number in numbers.items() if number < len(trace.machine.threads)]
@@ -68,11 +70,12 @@ def object_name(trace, wait):
     return "thread %d" % wait.object if wait.kind == KINDS[JOIN] else trace.names.name(wait.object)
 
 
-def note_line(trace, note):
+def note_line(trace, own, note):
     """For example `thread 1 (first) waits for mutex b, first, deadlock.c:9; holds a since first, deadlock.c:7`."""
     parts = []
     if note.waits:
-        parts.append("waits for %s %s, %s" % (note.waits.kind, object_name(trace, note.waits), trace.names.place(note.waits.at)))
+        where = places(trace, own, note.thread) or [trace.names.place(note.waits.at)]
+        parts.append("waits for %s %s, %s" % (note.waits.kind, object_name(trace, note.waits), chain_text(where)))
     parts += ["holds %s since %s" % (trace.names.name(held.object), trace.names.place(held.at)) for held in note.holds]
     who = "thread %d%s" % (note.thread, " (%s)" % note.function if note.function else "")
     return "%s %s" % (who, "; ".join(parts) or "neither waits nor holds a lock")
@@ -101,10 +104,9 @@ def circle(notes):
     return []
 
 
-def note_lines(trace):
+def note_lines(trace, own, notes):
     """Who waits for what and holds what, and the threads that wait for one another."""
-    notes = notes_of(trace) or []
-    yield from (note_line(trace, note) for note in notes if note.waits or note.holds)
+    yield from (note_line(trace, own, note) for note in notes if note.waits or note.holds)
     round_ = circle(notes)
     if len(round_) == 1:
         yield "thread %d waits for itself" % round_[0]

@@ -3,9 +3,11 @@
 import shlex
 import sys
 
-from .finding import CLEAR, FOUND
+from .chains import chain_text
+from .finding import FOUND
 from .found import LOG, PICTURE, PLAN
 from .searching import counted
+from .story import CAUSES
 
 
 def progress(is_quiet):
@@ -24,6 +26,9 @@ def thread_name(number, function):
     return "thread %d%s" % (number, " (%s)" % function if function else "")
 
 
+HANGS = {"waits": ["no thread goes on, in whatever order"],
+         "repeats": ["the threads go round: the state comes again, and a long run from there came to no end"]}
+
 # ---------------------------------------------------------------- nothing found
 
 
@@ -31,22 +36,38 @@ def bound_done(result):
     return result.bounds[-1] if result.bounds else None
 
 
+def why_it_ended(result):
+    return "it was stopped" if result.how == "stopped" else "the limit of %s was met" % result.how
+
+
 def covered(result):
     """What was covered without a failure, and never more."""
-    done = bound_done(result)
-    if result.how == "all":
+    if result.limited or result.spent:
+        yield from not_whole(result)
+    elif result.how == "all":
+        done = bound_done(result)
         yield "no order fails, with however many switches: all states were met, %d in %s" % (done.states, counted(result.tries, "run"))
-    elif done is None:
-        yield "nothing is covered: the limit of %s was met before all orders without a forced switch were tried" % result.how
     else:
-        bound = "without a forced switch" if done.bound == 0 else "with at most " + counted(done.bound, "forced switch")
-        yield "no order %s among %s fails, in %s" % (bound, counted(done.places, "place"), counted(done.tries, "run"))
-        if result.how != "bound":
-            yield "the limit of %s was met with %d forced: the rest isn't covered" % (result.how, result.bound)
+        yield from up_to_bound(result)
+
+
+def not_whole(result):
+    yield "no failure in %s, but not all that comes after them is covered" % counted(result.tries, "run")
     if result.limited:
-        yield "but %s came to the limit of steps (--steps): what comes after isn't covered" % counted(result.limited, "run")
+        yield "%s came to the limit of steps (--steps)" % counted(result.limited, "run")
     if result.spent:
-        yield "but %s came to the limit of a turn (--turn): orders in which they go on aren't covered" % counted(result.spent, "turn")
+        yield "%s came to the limit of a turn (--turn)" % counted(result.spent, "turn")
+
+
+def up_to_bound(result):
+    done = bound_done(result)
+    if done is None:
+        yield "nothing is covered: %s before all orders without a forced switch were tried" % why_it_ended(result)
+        return
+    bound = "without a forced switch" if done.bound == 0 else "with at most " + counted(done.bound, "forced switch")
+    yield "no order %s among %s fails, in %s" % (bound, counted(done.places, "place"), counted(done.tries, "run"))
+    if result.how != "bound":
+        yield "%s with %d forced: the rest isn't covered" % (why_it_ended(result), result.bound)
 
 
 # ---------------------------------------------------------------- found
@@ -54,18 +75,17 @@ def covered(result):
 
 def ends(told):
     """How the threads that failed ended."""
-    for number, function, state, code in told.threads:
+    for number, function, state, code, where in told.threads:
+        at = ": " + chain_text(where) if where else ""
         if state == "ended" and code:
-            yield "%s ended with %d" % (thread_name(number, function), code)
+            yield "%s ended with %d%s" % (thread_name(number, function), code, at)
         elif state == "fault":
-            yield "%s faulted, cause %d" % (thread_name(number, function), code)
+            yield "%s faulted, %s%s" % (thread_name(number, function), CAUSES.get(code, "cause %d" % code), at)
 
 
 def sections(finding, told):
     """The parts of what is told, each with its heading."""
-    failures = list(ends(told))
-    if finding.run.leaf in ("waits", "repeats"):
-        failures.append("no thread goes on, in whatever order")
+    failures = list(ends(told)) + HANGS.get(finding.run.leaf, [])
     yield "what failed", failures + ["console: " + line for line in told.console.splitlines()]
     yield "who waits", told.waits
     yield "why", told.why
@@ -108,7 +128,7 @@ def json_of_search(result):
 def json_of_run(finding, told):
     run = finding.run
     return {"forced": run.forced, "switches": run.switches, "commits": run.commits, "hangs": run.leaf in ("waits", "repeats"),
-            "threads": [dict(zip(("thread", "function", "state", "code"), state)) for state in told.threads],
+            "threads": [dict(zip(("thread", "function", "state", "code", "places"), state)) for state in told.threads],
             "console": told.console, "waits": told.waits, "why": told.why, "order": told.story, "folder": str(told.folder),
             "log": LOG, "picture": PICTURE, "plan": PLAN}
 

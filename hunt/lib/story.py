@@ -9,7 +9,7 @@ from collections import namedtuple
 from . import isa
 from .calls import GIVING, TAKING_BACK, Heap, calls_of
 from .own import Own
-from .telling import verb as plain_verb
+from .telling import values, verb
 from .trace import context_name
 
 # who: the Context. function: the program's own function that the thread began with, or None. rows: of Row. is_left: whether
@@ -18,14 +18,12 @@ Turn = namedtuple("Turn", "who function rows is_left")
 # what: a verb. word: what it is done to, or "". value: in digits, or "". place: function and line, or "". times: in a row.
 Row = namedtuple("Row", "what word value place times", defaults=("", "", "", 1))
 
-VERBS = {isa.AMO: "changes"}
 LOCKING = {"__delorean_took", "__delorean_lock", "__delorean_wait", "__delorean_gives", "pthread_mutex_lock",
            "pthread_mutex_unlock", "pthread_mutex_trylock", "pthread_mutex_timedlock"}
 TWO_ARGUMENTS = {"pthread_cond_wait", "pthread_cond_timedwait"}
 UNTOLD = LOCKING | set(GIVING) | set(TAKING_BACK) | {"pthread_create", "pthread_join"}
 QUIET = {"exit", "write", "clock", "self", "yield", "handler", "iret", "ended", "spawn", "fault", "break", "device store"}
 MOST_ROWS = 28       # of a turn; more are cut in the middle
-SMALL = 1000         # a number below it is told in decimal
 LOCK_BYTES = 16      # of a pthread_mutex_t
 WIDEST = 36          # a word that is longer pushes what comes after it
 REACH = 64           # an access so many bytes from an argument counts as one to what was given
@@ -40,21 +38,6 @@ def block_name(names, block, addr):
     away = "+%d" % (addr - block.addr) if addr != block.addr else ""
     where = names.line(block.where) or names.place(block.where)
     return "%sblock%s of %s%s" % ("freed " if block.freed is not None else "", number, where, away)
-
-
-def number_text(value, width):
-    """A number of so many bytes: small ones in decimal, with a sign, and others as 0x and digits."""
-    bits = 8 * width
-    signed = value - (1 << bits) if value >> (bits - 1) else value
-    return str(signed) if -SMALL < signed < SMALL else "0x%X" % value
-
-
-def value_text(a):
-    """What an access found or left: `7`, or `8 over 7`."""
-    shift, bits = 8 * (a.addr & 3), (1 << 8 * a.width) - 1
-    if a.kind not in isa.STORES:
-        return number_text(a.value & bits, a.width)
-    return "%s over %s" % tuple(number_text(word >> shift & bits, a.width) for word in (a.new, a.old))
 
 
 class Story:
@@ -117,7 +100,7 @@ class Story:
 
     def _of_heap(self, call):
         if call.name in GIVING:
-            yield Row("allocates", self.word(call.result), "0x%X" % call.result, self.place_of(call.at))
+            yield Row("allocates", self.word(call.result), "%08X" % call.result, self.place_of(call.at))
         elif call.name in TAKING_BACK and call.arguments[0]:
             yield Row("frees", self.word(call.arguments[0]).removeprefix("freed "), "", self.place_of(call.at))
 
@@ -133,7 +116,7 @@ class Story:
             return
         elif a.pc != 0xFFFFFFFF and self.own.is_code(a.pc):
             if self.own.is_data(a.addr) or self.is_shared(a.addr):
-                yield Row(VERBS.get(a.kind) or plain_verb(a.kind), self.word(a.addr), value_text(a), self.place_of(a.pc))
+                yield Row(verb(a.kind), self.word(a.addr), values(a), self.place_of(a.pc))
         elif call and call.first not in self.told and self._is_given(a, call):
             self.told.add(call.first)
             yield Row("calls", self.call_text(call), "", self.place_of(call.at))
@@ -175,7 +158,7 @@ class Story:
         elif served.name == "ended" and served.result == 1:
             yield Row("joins", "thread %d" % served.arguments[0], "", place)
         elif served.name not in QUIET:
-            yield Row("asks", "the kernel: %s, answer %X" % (served.name, served.result), "", place)
+            yield Row("asks", "the kernel: %s, answer %08X" % (served.name, served.result), "", place)
 
     # ------------------------------------------------------------ names
 
@@ -184,7 +167,7 @@ class Story:
         if block:
             return block_name(self.names, block, addr)
         name = self.names.name(addr)
-        return "a stack, 0x%X" % addr if self.own.has_library and self.own.is_stack(addr) else name
+        return "a stack, %08X" % addr if self.own.has_library and self.own.is_stack(addr) else name
 
     def place_of(self, pc):
         return self.names.place(pc)
