@@ -6,9 +6,10 @@ from collections import namedtuple
 from .isa import M
 from .trace import Moment
 
-# name: the function. arguments: a0 to a3. at: the pc of the program's own code. result: a0 at the end, or None. first, last: steps.
-Call = namedtuple("Call", "name arguments at result first last")
-# A block of the heap. where: the pc that asked for it. count: how many that pc has asked for before. freed: the pc, or None.
+# who: the Context. name: the function. arguments: a0 to a3. at: the pc of the program's own code. result: a0 at the end, or None.
+# first, last: steps.
+Call = namedtuple("Call", "who name arguments at result first last")
+# A block of the heap. where: the pc that asked for it. count: how many that pc has asked for by then. freed: the Call, or None.
 Block = namedtuple("Block", "addr size where count freed")
 
 GIVING, TAKING_BACK = ("malloc", "calloc", "realloc"), ("free", "realloc")
@@ -44,7 +45,7 @@ class _Finder:
         elif who in self.last_own:
             at = self.last_own.pop(who)
             if pc in self.entries:
-                self.open[who] = Call(self.entries[pc], self.registers(step, thread), at, None, step, None)
+                self.open[who] = Call(who, self.entries[pc], self.registers(step, thread), at, None, step, None)
 
     def close(self, who, step, result):
         self.done.append(self.open.pop(who)._replace(result=result, last=step))
@@ -73,7 +74,7 @@ class Heap:
 
     def look(self, call):
         if call.name in TAKING_BACK and call.arguments[0]:
-            self.blocks = [b._replace(freed=call.at) if b.addr == call.arguments[0] else b for b in self.blocks]
+            self.blocks = [b._replace(freed=call) if b.addr == call.arguments[0] else b for b in self.blocks]
         if call.name in GIVING and call.result:
             count = self.counts[call.at] = self.counts.get(call.at, 0) + 1
             self.blocks = [b for b in self.blocks if b.addr != call.result]

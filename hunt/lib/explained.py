@@ -64,5 +64,5 @@ def explained(program, finding, folder):
         trace = open_trace(program.image, program.memory, file.name)
     story, image = Story(trace, finding.run.left), Path(program.image).name
     files = {LOG: finding.run.log, PICTURE: picture_of(trace, image), PLAN: plan_text(image, program.memory)}
-    return Told(list(switch_lines(trace)), waiting_lines(trace, story.own, finding.run), list(lines(story)), list(states(trace, story)),
+    return Told([*switch_lines(trace), *story.after_free.values()], waiting_lines(trace, story.own, finding.run), list(lines(story)), list(states(trace, story)),
                 console_of(trace), files, folder)

@@ -84,8 +84,10 @@ def memory_of(names, path):
 
 
 def conditions(program, limits):
-    """What a failure is. Only thread 0 lasts as long as its program, so others may be left waiting."""
-    return ["exit any != 0", "fault", "stuck 0" if program.has_library else "stuck", *limits.bad]
+    """What a failure is. With the library only thread 0 lasts as long as its program, so others may be left waiting, and any
+    thread may end the program with a code. Without it, codes of other threads are their own."""
+    own = ["exit any != 0", "stuck 0"] if program.has_library else ["exit 0 != 0", "stuck"]
+    return [*own, "fault", *limits.bad]
 
 
 def job_of(program, limits):

@@ -32,12 +32,16 @@ CAUSES = {0: "a jump to a place that isn't a multiple of 4", 1: "a jump out of t
           6: "a store to an address that isn't a multiple of its width", 7: "a store outside the memory"}
 
 
-def block_name(names, block, addr):
-    """For example `block of list.c:30`, `block 2 of ..+4`, `freed block of ..`."""
+def block_name(names, block):
+    """For example `block of list.c:30`, or `block 2 of ..`."""
     number = " %d" % block.count if block.count > 1 else ""
+    return "block%s of %s" % (number, names.line(block.where) or names.place(block.where))
+
+
+def word_in_block(names, block, addr):
+    """For example `block of list.c:30+4`, or `freed block of ..`."""
     away = "+%d" % (addr - block.addr) if addr != block.addr else ""
-    where = names.line(block.where) or names.place(block.where)
-    return "%sblock%s of %s%s" % ("freed " if block.freed is not None else "", number, where, away)
+    return "%s%s%s" % ("freed " if block.freed is not None else "", block_name(names, block), away)
 
 
 class Story:
@@ -52,6 +56,7 @@ class Story:
             self.ends.setdefault(call.last, []).append(call)
         self.locks = {a.addr for a in trace.accesses if a.pc in self.own.lock_code}
         self.heap, self.at, self.within, self.told = Heap(), {}, {}, set()
+        self.after_free = {}  # lines: what was done to blocks that had been freed
         self.functions = {}
         self.turns = [turn for turn in self._turns(list(left)) if turn.rows or turn.is_left]
 
@@ -110,6 +115,7 @@ class Story:
         if a.kind in (isa.OUT, isa.DEVICE, isa.CONSOLE):
             return
         call = self.within.get(who)
+        self._look_at_block(a, who, call)
         if a.addr & ~3 in self.locks:
             yield from self._of_lock(a, who)
         elif self._is_in_lock(a.addr):
@@ -124,6 +130,15 @@ class Story:
     def _is_given(self, a, call):
         is_near = any(0 <= a.addr - given < REACH for given in call.arguments[:2])
         return call.name not in UNTOLD and is_near and (self.is_shared(a.addr) or call.name == "pthread_once")
+
+    def _look_at_block(self, a, who, call):
+        block = self.heap.block(a.addr)
+        if block is None or block.freed is None or call and call.name in GIVING + TAKING_BACK:
+            return
+        where = block_name(self.names, block)
+        place = self.place_of(self.at.get(who, a.pc))
+        self.after_free.setdefault((block.addr, place), "%s %s the %s (%s), which %s has freed (%s)" % (
+            context_name(who), verb(a.kind), where, place, context_name(block.freed.who), self.place_of(block.freed.at)))
 
     def _is_in_lock(self, addr):
         return any(lock < addr < lock + LOCK_BYTES for lock in self.locks)
@@ -165,7 +180,7 @@ class Story:
     def word(self, addr):
         block = self.heap.block(addr)
         if block:
-            return block_name(self.names, block, addr)
+            return word_in_block(self.names, block, addr)
         name = self.names.name(addr)
         return "a stack, %08X" % addr if self.own.has_library and self.own.is_stack(addr) else name
 
