@@ -259,12 +259,22 @@ static uint32_t loaded(const struct machine *m, uint32_t address, int operation)
     }
 }
 
+/* The instructions from the LR on, which are one chunk. */
+uint64_t reservation_age(const struct machine *m, const struct thread *t) {
+    uint64_t age = m->time - m->reserved_at + 1;
+    return t->reservation != NO_RESERVATION && age < m->setup->longest_chunk ? age : 0;
+}
+
+bool has_reserved(const struct machine *m, const struct thread *t, uint32_t address) {
+    return t->reservation == address && reservation_age(m, t) > 0;
+}
+
 /* An instruction that touches a word of memory. `load`, where it is asked for, takes what an account tells of it. */
 void run_access(struct machine *m, uint32_t number, uint32_t address, struct served *load) {
     struct thread *t = &m->threads[number];
     const struct code c = *code_at(m, t->pc);
     uint32_t context = context_of(m, number), result = 0;
-    bool loads = c.operation <= LHU || c.operation == LR || c.operation > SC;
+    bool loads = c.operation <= LHU || c.operation == LR || c.operation > SC, reserved = has_reserved(m, t, address);
     m->time++;
     if (loads) {
         note_load(context, address);
@@ -272,10 +282,11 @@ void run_access(struct machine *m, uint32_t number, uint32_t address, struct ser
     }
     if (c.operation >= SB && c.operation <= SW)
         run_store(m, number, address, &c);
-    else if (c.operation == LR)
+    else if (c.operation == LR) {
         t->reservation = address;
-    else if (c.operation == SC) {
-        result = t->reservation != address;
+        m->reserved_at = m->time;
+    } else if (c.operation == SC) {
+        result = !reserved;
         t->reservation = NO_RESERVATION;
         if (result == 0)
             run_store(m, number, address, &c);

@@ -13,10 +13,9 @@
 #include <stdlib.h>
 #include <string.h>
 
-static struct setup setup = {.most_threads = 15, .tick = 64, .input = (uint8_t *)""};
+static struct setup setup = {.most_threads = 15, .tick = 64, .longest_chunk = 4096, .input = (uint8_t *)""};
 static struct condition bad;
 static struct run run = {.turn_limit = 10000, .step_limit = 1000000};
-static uint32_t standard = 4096;
 static struct turn *guide;
 static size_t guide_count;
 
@@ -150,7 +149,7 @@ static void tell_run(void) {
         goes_on = goes_on || is_enabled(&run, k);
     printf("leaf %s\n", goes_on ? "goes-on" : leaves[leaf_of(&run)]);
     tell_turns();
-    emit(&run, run.turns, run.turn_count, standard);
+    emit(&run, run.turns, run.turn_count);
     printf("loops %u\n", goes_on ? 0 : live_count(&run));
     if (!goes_on)
         emit_loops(&run);
@@ -168,9 +167,9 @@ static void do_search(char *rest) {
     ready();
     enum finish finish = search(&run, &bad, &limits, &tally);
     tell_ends();
-    printf("tally %llu %llu %llu %llu %llu %u %u %u\n", (unsigned long long)tally.tries, (unsigned long long)tally.ended,
+    printf("tally %llu %llu %llu %llu %u %u %u\n", (unsigned long long)tally.tries, (unsigned long long)tally.ended,
            (unsigned long long)(tally.waited + tally.repeated), (unsigned long long)tally.limited,
-           (unsigned long long)tally.spent, tally.most_places, tally.bound, tally.restarts);
+           tally.most_places, tally.bound, tally.restarts);
     if (finish == FOUND)
         tell_run();
     printf("end %s\n", finishes[finish]);
@@ -205,7 +204,7 @@ static void take_line(char *line) {
     line[strcspn(line, " ")] = 0;
     if (strcmp(line, "memory") == 0) take_memory(rest);
     else if (strcmp(line, "threads") == 0) setup.most_threads = (uint32_t)strtoul(rest, NULL, 10);
-    else if (strcmp(line, "standard") == 0) standard = (uint32_t)strtoul(rest, NULL, 10);
+    else if (strcmp(line, "standard") == 0) setup.longest_chunk = (uint32_t)strtoul(rest, NULL, 10);
     else if (strcmp(line, "seed") == 0) setup.seed = strtoull(rest, NULL, 10);
     else if (strcmp(line, "tick") == 0) setup.tick = (uint32_t)strtoul(rest, NULL, 10);
     else if (strcmp(line, "turns") == 0) run.turn_limit = strtoull(rest, NULL, 10);

@@ -19,6 +19,7 @@ static void set_mark(struct run *r) {
     r->mark_memory = m->memory_hash;
     r->mark_stores = m->stores;
     r->mark_events = m->events;
+    r->mark_reservation_age = reservation_age(m, &r->mark);
     r->mark_age = 0;
 }
 
@@ -45,7 +46,7 @@ void begin_turn(struct run *r, uint32_t actor) {
 
 static struct hash of_thread(const struct machine *m, uint32_t number) {
     struct hash t = hash_of_thread(&m->threads[number]);
-    return mixed(t.a + number, t.b);
+    return mixed(t.a + number, t.b + reservation_age(m, &m->threads[number]));
 }
 
 static struct hash of_others(const struct run *r) {
@@ -86,7 +87,7 @@ static bool is_place(const struct run *r, const struct thread *t, struct next ne
         return is_place_word(t->pc);
     case MEMORY: /* whoever is left after an LR loses the reservation, so an LR, and an SC that has it, can't be moved over a switch */
         return is_place_word(next.address) || is_place_word(t->pc) || is_load_reserved(&r->machine, t)
-               || (t->reservation == next.address && is_store_conditional(&r->machine, t));
+               || (is_store_conditional(&r->machine, t) && has_reserved(&r->machine, t, next.address));
     case CALL: { /* an interrupt may come before any, and leaves another number in a7 */
         uint32_t call = t->x[17];
         bool is_own = call > HAS_ENDED || call == HANDLER || call == IRET || call == SELF || call == YIELD;
@@ -117,7 +118,7 @@ static bool comes_again(struct run *r) {
     struct machine *m = &r->machine;
     const struct thread *t = &m->threads[r->current];
     if (t->pc == r->mark.pc && same_hash(m->memory_hash, r->mark_memory) && m->events == r->mark_events
-        && same_thread(t, &r->mark))
+        && same_thread(t, &r->mark) && reservation_age(m, t) == r->mark_reservation_age)
         return true;
     if (++r->mark_age == r->mark_power) {
         r->mark_power *= 2;
@@ -203,11 +204,10 @@ enum waiting waiting_of(struct run *r, uint32_t thread) {
     return how_waits(r->seats[thread], &r->machine);
 }
 
-/* A turn isn't ended between an LR and its SC, unless there is none for long. */
+/* A turn isn't ended for nothing as long as an SC could ask for its reservation. */
 static bool is_spent(const struct run *r) {
-    uint64_t steps = r->turns[r->turn_count - 1].steps;
-    bool reserves = r->machine.threads[r->current].reservation != NO_RESERVATION;
-    return steps >= r->turn_limit && (!reserves || steps >= 2 * r->turn_limit);
+    return r->turns[r->turn_count - 1].steps >= r->turn_limit
+           && reservation_age(&r->machine, &r->machine.threads[r->current]) == 0;
 }
 
 /* One step, then how it stands. AT_PLACE means that nothing has ended. */

@@ -36,7 +36,7 @@ struct run {
     /* Where the present turn is looked at for a state that comes again: after 1, 2, 4, .. steps. */
     struct thread mark;
     struct hash mark_memory;
-    uint64_t mark_stores, mark_events, mark_power, mark_age;
+    uint64_t mark_stores, mark_events, mark_power, mark_age, mark_reservation_age;
     /* The hash of all that the present turn leaves alone, as long as there is no further event. */
     struct hash still;
     uint64_t still_events;

@@ -173,8 +173,9 @@ static void offer_switches(const struct trial *t) {
     for (uint32_t u = 0; u < m->thread_count; u++)
         if (u != run->current && is_choice(u) && is_new(key_of(after, u, COMING), cost))
             put_off(t, u);
-    if (current->reservation != NO_RESERVATION && is_store_conditional(m, current)
-        && is_new(key_of(after, run->current, AFTER_CUT), cost))
+    struct next next = next_of(&run->machine, current);
+    bool would_succeed = next.kind == MEMORY && is_store_conditional(m, current) && has_reserved(m, current, next.address);
+    if (would_succeed && is_new(key_of(after, run->current, AFTER_CUT), cost))
         put_off(t, CUT);
 }
 
@@ -284,7 +285,6 @@ static enum result at_place(struct trial *t, size_t length, enum stop stop, bool
 
 static enum result at_turn_end(struct trial *t, size_t length, enum turn_end end) {
     t->place++;
-    tally->spent += end == SPENT && t->done == length && others_could_come();
     if (holds_for_good(bad, &run->machine)) {
         end_turn(run, end);
         return IS_BAD;
@@ -381,7 +381,7 @@ static void start_over(void) {
     item_count = now.count = later.count = 0;
     tally->bound = 0;
     tally->most_places = 0;
-    tally->ended = tally->waited = tally->repeated = tally->limited = tally->spent = 0;
+    tally->ended = tally->waited = tally->repeated = tally->limited = 0;
     push(&now, ROOT);
 }
 

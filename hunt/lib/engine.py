@@ -33,12 +33,12 @@ Told = namedtuple("Told", "leaf turns log account loops answers")
 Bound = namedtuple("Bound", "bound tries states places shared seconds")
 # how: found, bound (all up to the greatest bound are done), all (there are no more orders), tries, seconds or states (a limit was
 # met), or stopped (by Ctrl-C). ends: the different ends that were met, if the engine was made to collect them.
-Search = namedtuple("Search", "how bounds tries ended hung limited spent places bound told ends")
+Search = namedtuple("Search", "how bounds tries ended hung limited places bound told ends")
 # memory: the bytes asked for. threads: (status, code) of each; status 0 is live, 1 ended, 2 faulted. forced: the fewest switches.
 End = namedtuple("End", "memory threads forced")
 # threads: the most that there may be, or None for as many as the version has.
-Options = namedtuple("Options", "seed input tick turn steps raises version threads",
-                     defaults=(0, None, 64, 10000, 1000000, (), 1, None))
+Options = namedtuple("Options", "seed input tick turn steps raises version threads all_places",
+                     defaults=(0, None, 64, 10000, 1000000, (), 1, None, False))
 
 
 class NoEngine(Exception):
@@ -107,6 +107,8 @@ class Engine:
         if o.input:
             yield "input %s" % Path(o.input).resolve()
         yield from ("raise %d %x" % raised for raised in o.raises)
+        if o.all_places:
+            yield "all-places"
 
     def most_threads(self):
         return self.options.threads or (15 if self.options.version == 1 else 63)
@@ -163,12 +165,12 @@ class Engine:
         while words[0] == "met":
             ends.append(read_end(words))
             words = self.line()
-        tries, ended, hung, limited, spent, places, bound, _ = map(int, words[1:])
+        tries, ended, hung, limited, places, bound, _ = map(int, words[1:])
         words = self.line()
         if words[0] == "leaf":
             told = self.read_told(words)
             words = self.line()
-        return Search(words[1], bounds, tries, ended, hung, limited, spent, places, bound, told, ends)
+        return Search(words[1], bounds, tries, ended, hung, limited, places, bound, told, ends)
 
     def collect_ends(self, address, length):
         """From now on searches tell the different ends that they meet, each with these bytes of memory."""

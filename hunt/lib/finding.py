@@ -18,12 +18,13 @@ from .symbols import Names
 TOP = Path(__file__).resolve().parent.parent.parent
 MOST_SWITCHES, MOST_RUNS, MOST_STATES = 250, 1 << 40, 1 << 25
 PAGE, MOST_MEMORY = 4096, 1 << 24
+TICK, TURN = 64, 10_000  # as in search
 FEW_THREADS = 15  # as many as logs of version 1 have
 
 # image: the path. memory: bytes. threads: how many there may be in all. has_library: whether delorean-cc has linked it.
 Program = namedtuple("Program", "image memory threads has_library")
 # switches: at most so many forced ones, or None. seconds: of the search. bad: further conditions. input: a file, or None.
-Limits = namedtuple("Limits", "switches seconds shrink_seconds bad input seed turn steps")
+Limits = namedtuple("Limits", "switches seconds shrink_seconds bad input seed steps")
 # status: below. search: as the engine has it. run: a Run, or None. seconds: that the search took. condition: what a failure is.
 Finding = namedtuple("Finding", "status search run seconds condition")
 # log: bytes, that the proved walk has judged. ended: what the walk's account tells. forced: how many forced switches. left: of each
@@ -92,7 +93,7 @@ def conditions(program, limits):
 
 def job_of(program, limits):
     return Job(Namespace(image=program.image, memory=str(program.memory), bad=conditions(program, limits), input=limits.input,
-                         seed=limits.seed, out=os.devnull, tick=64, turn=limits.turn, steps=limits.steps, raises=[],
+                         seed=limits.seed, out=os.devnull, tick=TICK, turn=TURN, steps=limits.steps, raises=[],
                          log_version=1 if program.threads <= FEW_THREADS else 2))
 
 
@@ -121,7 +122,7 @@ def status_of(result):
     """Whether all that was asked for is covered."""
     if result.how == "stopped":
         return STOPPED
-    whole = result.how in ("all", "bound") and not result.limited and not result.spent
+    whole = result.how in ("all", "bound") and not result.limited
     return CLEAR if whole else LIMIT
 
 

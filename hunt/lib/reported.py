@@ -42,21 +42,14 @@ def why_it_ended(result):
 
 def covered(result):
     """What was covered without a failure, and never more."""
-    if result.limited or result.spent:
-        yield from not_whole(result)
+    if result.limited:
+        yield "no failure in %s, but what comes after them isn't covered" % counted(result.tries, "run")
+        yield "%s came to the limit of steps (--steps)" % counted(result.limited, "run")
     elif result.how == "all":
         done = bound_done(result)
         yield "no order fails, with however many switches: all states were met, %d in %s" % (done.states, counted(result.tries, "run"))
     else:
         yield from up_to_bound(result)
-
-
-def not_whole(result):
-    yield "no failure in %s, but not all that comes after them is covered" % counted(result.tries, "run")
-    if result.limited:
-        yield "%s came to the limit of steps (--steps)" % counted(result.limited, "run")
-    if result.spent:
-        yield "%s came to the limit of a turn (--turn)" % counted(result.spent, "turn")
 
 
 def up_to_bound(result):
@@ -121,8 +114,7 @@ def as_text(program, ready, finding, told):
 def json_of_search(result):
     done = bound_done(result)
     return {"how": result.how, "runs": result.tries, "states": done.states if done else 0, "places": done.places if done else 0,
-            "all orders up to": done.bound if done else None, "left at the limit of steps": result.limited,
-            "ended at the limit of a turn": result.spent}
+            "all orders up to": done.bound if done else None, "left at the limit of steps": result.limited}
 
 
 def json_of_run(finding, told):

@@ -215,6 +215,10 @@ class Ends(unittest.TestCase):
         status, said = self.said(code, "--bad", "word 400 = 999")
         self.assertIn("found with 1 forced switch", said)
         self.assertIn("0 switches, 0 forced, 1 chunk ended early; walked", said)
+        far = laid(addi(6, 0, SHARED), addi(9, 0, 2047), atomic(LR, 7, 6, 0), addi(9, 9, -1), bne(9, 0, -4), addi(7, 7, 1),
+                   atomic(SC, 8, 6, 7), addi(10, 8, 0), addi(17, 0, 0), 0x73)
+        status, said = self.said(far, "--bad", "exit 0 = 1")
+        self.assertIn("3 commits, 0 switches, 0 forced; walked", said)
 
     def test_devices(self):
         """Input is read, and put on the console; a pipe gives back what was put into it; random bytes are a plan's."""

@@ -25,8 +25,8 @@ def laid(*threads):
 class EveryOrder(unittest.TestCase):
     """Of small random programs the search meets each outcome that any order has, with as few forced switches, and no other."""
 
-    def compare(self, seed, code, threads, costs_are_equal):
-        how, met, met_hang = met_ends(image_of(code))
+    def compare(self, seed, code, threads, costs_are_equal, **options):
+        how, met, met_hang = met_ends(image_of(code), Options(steps=100000, **options))
         found, hang = explored(code, threads)
         self.assertEqual((how, set(met), met_hang), ("all", set(found), hang), seed)
         for outcome, cost in found.items():
@@ -43,6 +43,11 @@ class EveryOrder(unittest.TestCase):
         seeds = (*range(20, 25), 26, 31, 32, 36, 37, 38, 40, 43, 44, 47, 54)
         hangs = sum(self.compare(seed, *random_program(seed, waiting_step), costs_are_equal=False) for seed in seeds)
         self.assertTrue(0 < hangs < len(seeds))
+
+    def test_short_turns(self):
+        """A turn that is ended for nothing loses no end, wherever that comes."""
+        for seed in (2, 8, 14, 47, 59, 85, 121, 166):
+            self.compare(seed, *random_program(seed, reserving_step, 2), costs_are_equal=False, turn=5)
 
     def test_reservations(self):
         """LR and SC on own and shared words, with places between them, locks, and waiting loops, of two and three threads."""
@@ -72,6 +77,13 @@ class WhatASwitchChanges(unittest.TestCase):
             [*sees(A), *sets(B, 1), sw(5, ANSWER), *ENDS])
         self.assertEqual(len(met), 8)
         self.assertEqual(met[1, 1, 4, 1], 1)  # the SC succeeds, and both have seen what the other one stored
+
+    def test_reservation_and_the_longest_chunk(self):
+        """From the LR to the SC are 4,096 instructions, which one chunk can have, or one more, which none has."""
+        for nothing, forced in ([], {0: 0, 1: 1}), ([addi(0, 0, 0)], {1: 0}):
+            met = self.outcomes([addi(6, 0, OWN), addi(9, 0, 2047), atomic(LR, 7, 6, 0), addi(9, 9, -1), bne(9, 0, -4), *nothing,
+                                 atomic(SC, 8, 6, 7), sw(8, SEEN), *ENDS])
+            self.assertEqual({seen: cost for (_, _, seen), cost in met.items()}, forced)
 
     def test_waiting_loop_that_looks_at_an_own_word(self):
         """The loop never ends if the thread's own word is 0, which isn't to be taken for a loop with a 1 there."""
