@@ -2,6 +2,8 @@
 
 from pathlib import Path
 
+from .schedule import schedule
+
 PLAN = """\
 cores = %(cores)d
 chunk = %(chunk)d
@@ -26,9 +28,19 @@ account = "%(name)s.txt"
 DRAWN = 16  # threads that drawn events place
 
 
+def _schedule(words, base):
+    """The plan's line; with more threads than are drawn, the script that it names is written."""
+    numbers = words.numbers
+    if numbers["threads"] <= DRAWN:
+        return "events = %d" % numbers["events"]
+    script = base + ".script"
+    Path(script).write_text(schedule(numbers["events"], *(numbers[name] for name in ("cores", "threads", "chunk", "seed"))))
+    return 'script = "%s"' % script
+
+
 def write_plan(words, memory):
     numbers = words.numbers
     name = words.output.removesuffix(".elf")
     Path(words.plan).write_text(PLAN % {
         **numbers, "name": name, "image": words.output, "memory": memory, "version": 1 if numbers["threads"] <= 15 else 2,
-        "schedule": "events = %d" % numbers["events"]})
+        "schedule": _schedule(words, name)})

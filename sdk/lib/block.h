@@ -30,6 +30,7 @@ struct thread {
     unsigned detached, joined;
     unsigned parks;                          /* whether it waits for another function at its end */
     unsigned over;                           /* of a thread that parks: how far it is, shared with others */
+    unsigned chance;                         /* of returning from a wait without a signal */
 };
 _Static_assert(sizeof(struct thread) <= BLOCK_SIZE, "the block has this room");
 _Static_assert(__builtin_offsetof(struct thread, held) == 36, "readers of the notes rest on it");

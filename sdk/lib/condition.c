@@ -1,6 +1,7 @@
 /* Condition variables. Whoever waits takes a number, and goes on once so many were woken: so a signal wakes exactly one, the one that
    has waited longest. One word has both counts, so that they change together: below the number of the next that is woken, above that of
    the next that comes. */
+#include "kernel.h"
 #include "wait.h"
 
 #include <errno.h>
@@ -25,6 +26,36 @@ static int give_up(pthread_cond_t *c, unsigned number) {
     return 1;
 }
 
+/* ---- waits that return without a signal, with delorean-cc --spurious: each thread may do so once. A thread of the library's own says when,
+   so that this comes at any point of an order, or never. */
+
+enum { NONE, ASKED, GRANTED, USED }; /* `chance` of a thread */
+
+extern const unsigned __spurious;
+extern unsigned __next_slot;
+int __start_library_thread(void *(*)(void *));
+
+static void ask_for_chance(struct thread *t) {
+    if (__spurious && LOAD(t->chance) == NONE)
+        STORE(t->chance, ASKED);
+}
+
+static int has_chance(struct thread *t) { return __spurious && LOAD(t->chance) == GRANTED; }
+
+static void *grant_chances(void *nothing) {
+    for (unsigned slot = 0;; slot = slot + 1 < LOAD(__next_slot) ? slot + 1 : 0)
+        if (LOAD(thread_of(slot)->chance) == ASKED)
+            (void)SWAP(thread_of(slot)->chance, GRANTED);
+    return nothing;
+}
+
+void __start_chances(void) {
+    if (__spurious)
+        __start_library_thread(grant_chances);
+}
+
+/* ---- waiting */
+
 static int may_wait(pthread_mutex_t *m) {
     return m->kind == PTHREAD_MUTEX_NORMAL || m->owner == (unsigned)(uintptr_t)me();
 }
@@ -35,7 +66,10 @@ int pthread_cond_wait(pthread_cond_t *c, pthread_mutex_t *m) {
     unsigned number = come(c);
     pthread_mutex_unlock(m);
     begin_wait(CONDITION, c, CALLER);
-    WAIT_WHILE(!is_woken(c, number));
+    ask_for_chance(me());
+    WAIT_WHILE(!is_woken(c, number) && !has_chance(me()));
+    if (has_chance(me()) && give_up(c, number))
+        STORE(me()->chance, USED);
     end_wait();
     return __lock_mutex(m, CALLER);
 }

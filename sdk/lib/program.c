@@ -14,6 +14,7 @@ extern int __argument_count;
 extern char *__arguments[];
 int main(int, char **, char **);
 void __check_heap(void) __attribute__((weak));
+void __start_chances(void) __attribute__((weak));
 unsigned __program_over;
 static char *no_environment[1];
 char **environ = no_environment;
@@ -172,5 +173,7 @@ void __start_program(void) {
         memcpy(tp_of(me()), __tls_start, __numbers.tls_filled);
     for (void (**f)(void) = __init_array_start; f < __init_array_end; f++)
         (*f)();
+    if (__start_chances)
+        __start_chances();
     exit(main(__argument_count, __arguments, environ));
 }

@@ -157,6 +157,14 @@ int pthread_create(pthread_t *thread, const pthread_attr_t *attributes, void *(*
     return 0;
 }
 
+/* A thread that nobody joins and that never ends. */
+int __start_library_thread(void *(*function)(void *)) {
+    unsigned slot = ADD(__next_slot, 1);
+    prepare(thread_of(slot), NULL, function, NULL);
+    thread_of(slot)->joined = 1;
+    return start_new(thread_of(slot), slot);
+}
+
 /* ---- joining */
 
 int pthread_join(pthread_t thread, void **result) {
