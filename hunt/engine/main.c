@@ -1,11 +1,13 @@
 /* Searches orders of a program's commits, or plays one that it is led by. It is told on standard input what to do, a line at a
    time, by the programs beside this folder, and answers on standard output. */
+#define _POSIX_C_SOURCE 200809L
 #include "condition.h"
 #include "emit.h"
 #include "guide.h"
 #include "run.h"
 #include "search.h"
 
+#include <signal.h>
 #include <stdio.h>
 #include <stdlib.h>
 #include <string.h>
@@ -147,7 +149,7 @@ static void tell_run(void) {
 }
 
 static void do_search(char *rest) {
-    static const char *const finishes[] = {"found", "bound", "all", "tries", "seconds", "states"};
+    static const char *const finishes[] = {"found", "bound", "all", "tries", "seconds", "states", "stopped"};
     struct limits limits;
     struct tally tally = {.tries = 0};
     unsigned long long tries, states;
@@ -165,15 +167,27 @@ static void do_search(char *rest) {
     printf("end %s\n", finishes[finish]);
 }
 
-static void do_guide(bool in_full) {
+static void do_guide(const char *rest, bool in_full) {
     static const char *const outcomes[] = {"good", "bad", "limited"};
+    unsigned manner, until;
+    if (sscanf(rest, "%u %u", &manner, &until) != 2)
+        fail("no manner");
     ready();
-    printf("outcome %s\n", outcomes[guided(&run, guide, guide_count, &bad)]);
+    struct guide how = {.turns = guide, .count = guide_count, .manner = manner, .until = until};
+    printf("outcome %s\n", outcomes[guided(&run, &how, &bad)]);
     if (in_full)
         tell_run();
     else
         tell_turns();
     printf("end guide\n");
+    guide_count = 0;
+}
+
+static void do_without_idle_steps(void) {
+    ready();
+    without_idle_steps(&run, guide, guide_count);
+    tell_turns();
+    printf("end turns\n");
     guide_count = 0;
 }
 
@@ -195,13 +209,27 @@ static void take_line(char *line) {
     else if (strcmp(line, "turn") == 0) take_turn(rest);
     else if (strcmp(line, "search") == 0) do_search(rest);
     else if (strcmp(line, "ready") == 0) ready(), printf("ready\n");
-    else if (strcmp(line, "guide") == 0) do_guide(false);
-    else if (strcmp(line, "tell") == 0) do_guide(true);
+    else if (strcmp(line, "guide") == 0) do_guide(rest, false);
+    else if (strcmp(line, "tell") == 0) do_guide(rest, true);
+    else if (strcmp(line, "without-idle-steps") == 0) do_without_idle_steps();
     else fail("no such line");
+}
+
+static void on_interrupt(int signal) {
+    (void)signal;
+    interrupt_search();
+}
+
+/* Ctrl-C comes to this program too. It ends a search, which then says what it has covered. */
+static void take_interrupts(void) {
+    struct sigaction action = {.sa_handler = on_interrupt, .sa_flags = SA_RESTART};
+    sigemptyset(&action.sa_mask);
+    sigaction(SIGINT, &action, NULL);
 }
 
 int main(void) {
     static char line[1 << 17];
+    take_interrupts();
     while (fgets(line, sizeof line, stdin) != NULL) {
         line[strcspn(line, "\n")] = 0;
         take_line(line);

@@ -224,6 +224,18 @@ enum stop go_steps(struct run *r, uint64_t steps) {
     return AT_PLACE;
 }
 
+enum stop go_exactly(struct run *r, uint64_t steps) {
+    struct machine *m = &r->machine;
+    for (uint64_t j = 0; j < steps; j++) {
+        if (m->time >= r->step_limit)
+            return AT_LIMIT;
+        take_step(r, next_of(m, &m->threads[r->current]));
+        if (m->threads[r->current].status != LIVE)
+            return AT_STOP;
+    }
+    return AT_PLACE;
+}
+
 bool is_enabled(struct run *r, uint32_t thread) {
     return r->machine.threads[thread].status == LIVE && waiting_of(r, thread) == IS_UNKNOWN;
 }

@@ -52,6 +52,8 @@ void end_turn(struct run *r, enum turn_end end);
 enum stop go_on(struct run *r, bool past);
 /* The current thread goes on for so many steps at most. */
 enum stop go_steps(struct run *r, uint64_t steps);
+/* The current thread does so many steps, also if it waits meanwhile. */
+enum stop go_exactly(struct run *r, uint64_t steps);
 enum waiting waiting_of(struct run *r, uint32_t thread);
 /* Whether the thread is live, and not known to wait. */
 bool is_enabled(struct run *r, uint32_t thread);

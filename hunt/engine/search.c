@@ -4,6 +4,7 @@
 #include "seen.h"
 #include "sharing.h"
 
+#include <signal.h>
 #include <stdio.h>
 #include <stdlib.h>
 #include <time.h>
@@ -355,6 +356,10 @@ static void tell_bound(double started) {
     fflush(stdout);
 }
 
+static volatile sig_atomic_t interrupted;
+
+void interrupt_search(void) { interrupted = 1; }
+
 enum finish search(struct run *r, const struct condition *bad_, const struct limits *limits_, struct tally *tally_) {
     double started = now_seconds();
     uint64_t random = 0x9E3779B97F4A7C15u;
@@ -376,6 +381,8 @@ enum finish search(struct run *r, const struct condition *bad_, const struct lim
             later = empty;
             tally->bound++;
         }
+        if (interrupted)
+            return INTERRUPTED;
         if (tally->tries == limits->tries)
             return OUT_OF_TRIES;
         if (seen_is_full())

@@ -226,7 +226,7 @@ class Ends(unittest.TestCase):
             self.assertIn("but 1 run was left at the limit of steps", said)
 
     def test_limit_of_tries(self):
-        status, said = command("search", RACE / "race.elf", 4096, "--bad", "exit 0 = 3", "--out", "/nowhere/a.log", "--tries", "100")
+        status, said = command("search", RACE / "race.elf", 4096, "--bad", "exit 0 = 3", "--out", os.devnull, "--tries", "100")
         self.assertEqual(status, 1, said)
         self.assertRegex(said, "no order without a forced switch among [0-9]+ places ends so, in [0-9]+ runs\n"
                                "the limit of tries was met with 1 forced: [0-9]+ runs of them tried, the rest isn't covered")
@@ -266,8 +266,8 @@ class Ends(unittest.TestCase):
         self.assertEqual(status, 0, said)
 
     def test_interrupt(self):
-        ticks, log = EXAMPLES / "interrupt/ticks.elf", "/nowhere/a.log"
-        status, said = command("search", ticks, 4096, "--bad", "exit 0 > 2", "--out", log, "--raise", "0:1", "--raise", "0:2")
+        ticks = EXAMPLES / "interrupt/ticks.elf"
+        status, said = command("search", ticks, 4096, "--bad", "exit 0 > 2", "--out", os.devnull, "--raise", "0:1", "--raise", "0:2")
         self.assertEqual(status, 1, said)
         self.assertIn("no order ends so, with however many switches", said)
         with tempfile.TemporaryDirectory() as folder:
