@@ -135,6 +135,12 @@ class Names:
             return self.data[j].name + ("+0x%X" % away if away else "")
         return "%08X" % addr
 
+    def words(self, text):
+        """The addresses of all words of a symbol, or of the one word that a WORD means."""
+        first = self.word(text)
+        size = self.by_name[text].size if text in self.by_name else 4
+        return range(first, min(first + max(4, size), self.size), 4)
+
     def word(self, text):
         """The address that a WORD means: a symbol or a hexadecimal number, then perhaps `+OFFSET`, decimal or 0x.."""
         base, plus, offset = text.partition("+")

@@ -27,9 +27,9 @@ def context_name(context):
 class Trace:
     """commits: a list of Commit. accesses: all Accesses in order. pcs: the pc of each step. machine: as it is at the end.
     longer: as `longer(commits)` it is the Trace of a longer log, walked and compared like this one, where commits are (thread,
-    size, Input or None); None if nothing was walked."""
+    size, Input or None); None if nothing was walked. atomic: addresses of words that count as atomic."""
 
-    longer = None
+    longer, atomic = None, ()
 
     def __init__(self, image, log, played):
         self.image, self.log, self.end = image, log, played.end

@@ -1,4 +1,4 @@
-"""The guide's commands say what it shows. A line `..` means some lines, or none."""
+"""The commands of the guide and of races.md say what these show. A line `..` means some lines, or none."""
 
 import importlib.machinery
 import importlib.util
@@ -61,7 +61,7 @@ class Guide(unittest.TestCase):
     @classmethod
     def setUpClass(cls):
         cls.trace = command("trace")
-        cls.text = (support.TOP / "hunt/README.md").read_text()
+        cls.text = "\n".join((support.TOP / "hunt" / name).read_text() for name in ("README.md", "races.md"))
 
     def say(self, folder, words):
         image, memory, log, *rest = words
@@ -70,7 +70,11 @@ class Guide(unittest.TestCase):
         loaded, read = read_image(recording.image.read_bytes(), recording.memory), read_log(recording.log.read_bytes())
         played = play(loaded, read)
         compare(played, recording.account.read_bytes())
-        return list(self.trace.answer(Trace(loaded, read, played), rest))
+        traced = Trace(loaded, read, played)
+        if "--atomic" in rest:
+            *rest, _, named = rest
+            traced.atomic = self.trace.words_of(traced, named)
+        return list(self.trace.answer(traced, rest))
 
     def compare_all(self, changed):
         found = shown(self.text)
