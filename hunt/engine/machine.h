@@ -71,6 +71,7 @@ struct setup {
     size_t answer_count;
     struct answer *dmas; /* data of requests, likewise */
     size_t dma_count;
+    bool *acquires; /* of each word of code whether it is marked as one that takes a lock; NULL if none is */
 };
 
 struct stored { uint32_t address, old; };

@@ -116,6 +116,15 @@ static void take_ends(char *rest) {
     collect_ends(from, length);
 }
 
+static void take_acquire(char *rest) {
+    unsigned pc;
+    if (sscanf(rest, "%x", &pc) != 1 || pc >= setup.size)
+        fail("no such instruction");
+    if (setup.acquires == NULL)
+        setup.acquires = room(setup.size / 4, sizeof *setup.acquires);
+    setup.acquires[pc / 4] = true;
+}
+
 static void take_turn(char *rest) {
     unsigned actor;
     unsigned long long steps;
@@ -215,6 +224,7 @@ static void take_line(char *line) {
     else if (strcmp(line, "atom") == 0) take_atom(rest);
     else if (strcmp(line, "all-places") == 0) run.all_places = true;
     else if (strcmp(line, "raise") == 0) take_raise(rest);
+    else if (strcmp(line, "acquire") == 0) take_acquire(rest);
     else if (strcmp(line, "ends") == 0) take_ends(rest);
     else if (strcmp(line, "turn") == 0) take_turn(rest);
     else if (strcmp(line, "search") == 0) do_search(rest);

@@ -81,12 +81,25 @@ void end_turn(struct run *r, enum turn_end end) {
     r->current = NO_ONE;
 }
 
+/* Where interrupts may come, a handler may find a lock that its own thread holds, so there marks say nothing. */
+static bool is_acquire(const struct run *r, const struct thread *t) {
+    const struct setup *s = r->machine.setup;
+    return s->acquires != NULL && r->raise_count == 0 && t->pc < s->size && s->acquires[t->pc / 4];
+}
+
+static bool is_blocked(struct run *r, const struct thread *t) {
+    if (r->tries_locks || t->status != LIVE || !is_acquire(r, t))
+        return false;
+    struct next next = next_of(&r->machine, t);
+    return next.kind == MEMORY && word_at(&r->machine, next.address) != 0;
+}
+
 static bool is_place(const struct run *r, const struct thread *t, struct next next) {
     switch (next.kind) {
     case LOCAL:
         return is_place_word(t->pc);
     case MEMORY: /* whoever is left after an LR loses the reservation, so an LR, and an SC that has it, can't be moved over a switch */
-        return is_place_word(next.address) || is_place_word(t->pc) || is_load_reserved(&r->machine, t)
+        return is_place_word(next.address) || is_place_word(t->pc) || is_acquire(r, t) || is_load_reserved(&r->machine, t)
                || (is_store_conditional(&r->machine, t) && has_reserved(&r->machine, t, next.address));
     case CALL: { /* an interrupt may come before any, and leaves another number in a7 */
         uint32_t call = t->x[17];
@@ -102,7 +115,9 @@ static void take_step(struct run *r, struct next next) {
     struct served served;
     present(r)->steps++;
     if (is_place(r, &r->machine.threads[r->current], next))
-        new_segment(r->current);
+        begin_segment(r->current);
+    else
+        go_on_in_segment();
     if (next.kind == LOCAL)
         run_local(&r->machine, r->current);
     else if (next.kind == MEMORY)
@@ -199,6 +214,8 @@ static void wait_here(struct run *r) {
 enum waiting waiting_of(struct run *r, uint32_t thread) {
     if (thread == r->current)
         return IS_UNKNOWN;
+    if (is_blocked(r, &r->machine.threads[thread]))
+        return WAITS_AT_ONE_PLACE;
     if (r->seats[thread].a == 0 && r->seats[thread].b == 0)
         r->seats[thread] = hash_when_left(r, thread);
     return how_waits(r->seats[thread], &r->machine);
@@ -236,6 +253,8 @@ enum stop go_on(struct run *r, bool past) {
     for (;; past = false) {
         const struct thread *t = &r->machine.threads[r->current];
         struct next next = next_of(&r->machine, t);
+        if (is_blocked(r, t))
+            return AT_WAIT;
         if (!past && is_place(r, t, next))
             return AT_PLACE;
         if (!past && is_interruptible(r))
@@ -248,6 +267,8 @@ enum stop go_on(struct run *r, bool past) {
 
 enum stop go_steps(struct run *r, uint64_t steps) {
     for (uint64_t j = 0; j < steps; j++) {
+        if (is_blocked(r, &r->machine.threads[r->current]))
+            return AT_WAIT;
         enum stop stop = step_on(r, next_of(&r->machine, &r->machine.threads[r->current]));
         if (stop != AT_PLACE && stop != AT_SPENT)
             return stop;
@@ -265,6 +286,25 @@ enum stop go_exactly(struct run *r, uint64_t steps) {
             return AT_STOP;
     }
     return AT_PLACE;
+}
+
+bool some_are_blocked(struct run *r) {
+    for (uint32_t k = 0; k < r->machine.thread_count; k++)
+        if (is_blocked(r, &r->machine.threads[k]))
+            return true;
+    return false;
+}
+
+void try_locks(struct run *r) {
+    for (uint32_t k = 0; k < r->machine.thread_count; k++) {
+        if (!is_blocked(r, &r->machine.threads[k]))
+            continue;
+        r->tries_locks = true;
+        begin_turn(r, k);
+        enum stop stop = go_steps(r, r->turn_limit);
+        end_turn(r, stop == AT_WAIT ? WAITS : stop == AT_STOP ? STOPPED : SPENT);
+        r->tries_locks = false;
+    }
 }
 
 bool is_enabled(struct run *r, uint32_t thread) {

@@ -24,7 +24,8 @@ struct turn {
 
 struct run {
     struct machine machine;
-    bool all_places; /* each access to a shared word is a place */
+    bool all_places;  /* each access to a shared word is a place */
+    bool tries_locks; /* threads go on at locks that are held */
     struct raise raises[MOST_RAISES];
     uint32_t raise_count;
     uint64_t raised; /* which of them have come, as bits */
@@ -56,6 +57,10 @@ enum stop go_on(struct run *r, bool past);
 enum stop go_steps(struct run *r, uint64_t steps);
 /* The current thread does so many steps, also if it waits meanwhile. */
 enum stop go_exactly(struct run *r, uint64_t steps);
+/* A thread at a marked instruction whose lock is held is blocked: it waits, without having done it. */
+bool some_are_blocked(struct run *r);
+/* No thread goes on. Those that are blocked go on to the loops in which they wait. */
+void try_locks(struct run *r);
 enum waiting waiting_of(struct run *r, uint32_t thread);
 /* Whether the thread is live, and not known to wait. */
 bool is_enabled(struct run *r, uint32_t thread);

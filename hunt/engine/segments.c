@@ -4,37 +4,16 @@
 
 #include <string.h>
 
-/* The words that a thread has touched in its present segment, and the sum of their hashes. */
-struct segment {
-    uint32_t *words; /* addresses; 1 is added if it was stored to */
-    size_t count, room;
-    struct hash hash;
-};
-
 /* Of a word the threads whose present segments have touched it, as bits. */
 struct touched_by { uint64_t loads, stores; };
 
 static struct touched_by *touched_by;
-static struct segment present[MOST_THREADS], kept[MOST_THREADS];
+static struct segment present[MOST_THREADS];
 static struct hash sum_of_all;
 static uint8_t *place;
 static uint32_t place_words;
-static uint64_t touches, kept_touches;
-static bool all_places = true, news;
-
-void start_segments(uint32_t size) {
-    touched_by = room(size / 4, sizeof *touched_by);
-    place = room(size / 4, 1);
-    place_words = 0;
-    forget_segments();
-}
-
-void forget_segments(void) {
-    for (uint32_t k = 0; k < MOST_THREADS; k++)
-        new_segment(k);
-    touches = 0;
-    news = false;
-}
+static uint64_t touches;
+static bool all_places = true, news, at_place;
 
 /* ---------------------------------------------------------------- places */
 
@@ -75,7 +54,7 @@ static uint64_t *mask_of(uint32_t word) {
     return word & STORES ? &t->stores : &t->loads;
 }
 
-void new_segment(uint32_t thread) {
+static void empty(uint32_t thread) {
     struct segment *s = &present[thread];
     for (size_t j = 0; j < s->count; j++)
         *mask_of(s->words[j]) &= ~(1ull << thread);
@@ -83,6 +62,27 @@ void new_segment(uint32_t thread) {
     s->count = 0;
     s->hash = (struct hash){0, 0};
 }
+
+void start_segments(uint32_t size) {
+    touched_by = room(size / 4, sizeof *touched_by);
+    place = room(size / 4, 1);
+    place_words = 0;
+    forget_segments();
+}
+
+void forget_segments(void) {
+    for (uint32_t k = 0; k < MOST_THREADS; k++)
+        empty(k);
+    touches = 0;
+    news = false;
+}
+
+void begin_segment(uint32_t thread) {
+    empty(thread);
+    at_place = true;
+}
+
+void go_on_in_segment(void) { at_place = false; }
 
 static void add_touch(uint32_t thread, uint32_t word) {
     struct segment *s = &present[thread];
@@ -102,7 +102,7 @@ void touch(uint32_t context, uint32_t address, enum touch how) {
     uint64_t mine = context < MOST_THREADS ? 1ull << context : 0;
     if ((t->stores | (how == STORES ? t->loads : 0)) & ~mine)
         make_place(address);
-    else if (mine && !((how == STORES ? t->stores : t->loads) & mine))
+    else if (mine && !at_place && !((how == STORES ? t->stores : t->loads) & mine))
         add_touch(context, (address & ~3u) | (uint32_t)how);
 }
 
@@ -119,17 +119,17 @@ static void copy_segment(struct segment *to, const struct segment *from) {
     to->hash = from->hash;
 }
 
-void keep_segments(void) {
-    for (uint32_t k = 0; k < MOST_THREADS; k++)
-        copy_segment(&kept[k], &present[k]);
-    kept_touches = touches;
+void keep_segments(struct kept_segments *k) {
+    for (uint32_t j = 0; j < MOST_THREADS; j++)
+        copy_segment(&k->of[j], &present[j]);
+    k->touches = touches;
 }
 
-void take_back_segments(void) {
-    for (uint32_t k = 0; k < MOST_THREADS; k++) {
-        new_segment(k);
-        for (size_t j = 0; j < kept[k].count; j++)
-            add_touch(k, kept[k].words[j]);
+void take_back_segments(const struct kept_segments *k) {
+    for (uint32_t j = 0; j < MOST_THREADS; j++) {
+        empty(j);
+        for (size_t w = 0; w < k->of[j].count; w++)
+            add_touch(j, k->of[j].words[w]);
     }
-    touches = kept_touches;
+    touches = k->touches;
 }

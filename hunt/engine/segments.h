@@ -21,14 +21,27 @@ bool has_news(void); /* of this run */
 void tell_news(void);
 
 void touch(uint32_t context, uint32_t address, enum touch how); /* a shared word */
-void new_segment(uint32_t thread);
+/* The thread's next step is at a place, and begins a segment, which doesn't have it; or the step is within its segment. */
+void begin_segment(uint32_t thread);
+void go_on_in_segment(void);
 /* Of what each thread has touched in its segment. Two runs that come to the same state with the same segments find the same
    conflicts from there on. */
 struct hash segments(void);
 uint64_t touch_count(void); /* grows with each touch that a segment didn't have */
 
-/* The segments as they are now are kept, and come back. */
-void keep_segments(void);
-void take_back_segments(void);
+/* The words that a thread has touched in its present segment, and the sum of their hashes. */
+struct segment {
+    uint32_t *words; /* addresses; STORES is added if it was stored to */
+    size_t count, room;
+    struct hash hash;
+};
+
+/* The segments as they are at one time. */
+struct kept_segments {
+    struct segment of[MOST_THREADS];
+    uint64_t touches;
+};
+void keep_segments(struct kept_segments *k);
+void take_back_segments(const struct kept_segments *k);
 
 #endif

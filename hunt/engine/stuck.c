@@ -7,7 +7,7 @@
 #include <sys/wait.h>
 #include <unistd.h>
 
-enum { LONG = 300000, SHORTEST_POWERS = 9 }; /* steps in all; a turn has up to 2^8 of them */
+enum { LONG = 300000, SHORTEST_POWERS = 9 }; /* steps in all, and turns; a turn has up to 2^8 steps */
 
 static uint64_t drawn(uint64_t *state) {
     *state ^= *state << 13;
@@ -29,7 +29,7 @@ static uint32_t drawn_thread(const struct run *r, uint64_t *state) {
 static bool goes_to_end(struct run *r, const struct condition *bad) {
     uint64_t state = 0x9E3779B97F4A7C15u, until = r->machine.time + LONG;
     r->step_limit = UINT64_MAX;
-    while (r->machine.time < until) {
+    for (uint32_t turn = 0; turn < LONG && r->machine.time < until; turn++) {
         if (!some_is_stuck(bad, &r->machine))
             return true;
         begin_turn(r, drawn_thread(r, &state));
