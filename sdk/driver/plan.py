@@ -3,6 +3,7 @@
 from pathlib import Path
 
 from .schedule import schedule
+from .words import DRAWN
 
 PLAN = """\
 cores = %(cores)d
@@ -24,9 +25,6 @@ version = %(version)d
 log = "%(name)s.log"
 account = "%(name)s.txt"
 """
-
-DRAWN = 16  # threads that drawn events place
-
 
 def _schedule(words, base):
     """The plan's line; with more threads than are drawn, the script that it names is written."""

@@ -7,7 +7,7 @@ import shlex
 USAGE = """usage: delorean-cc [FLAG..] SOURCE.. -o NAME.elf
 Compiles and links a C program that uses pthreads and the C library, for delorean. Most flags are those of gcc. Of its own are:
   --plan FILE     writes a plan too, which records the program
-  --events N      events of the plan (200000); --cores N (4), --chunk N (16), --seed N (1)
+  --events N      events of the plan (200000; with more than 16 threads 1000000); --cores N (4), --chunk N (16), --seed N (1)
   --args "A B"    the words that main gets after the program's name
   --stack BYTES   of each thread's stack (2048); the first thread has 6144 more
   --heap BYTES    of malloc (32768)
@@ -27,6 +27,9 @@ REFUSED = [
 ]
 
 
+DRAWN = 16  # threads that drawn events place
+
+
 class Refused(Exception):
     """args: the sentence."""
 
@@ -39,13 +42,13 @@ class Words:
     sources: list = field(default_factory=list)  # those of `passed` that are files
     arguments: list = field(default_factory=list)
     numbers: dict = field(default_factory=lambda: {
-        "stack": 2048, "heap": 32768, "threads": 15, "events": 200000, "cores": 4, "chunk": 16, "seed": 1})
+        "stack": 2048, "heap": 32768, "threads": 15, "events": 0, "cores": 4, "chunk": 16, "seed": 1})
     plan: str | None = None
     spurious: bool = False
     clang: bool = False
 
 
-LIMITS = {"stack": (512, 1 << 20), "heap": (0, 15 << 20), "threads": (1, 63), "events": (0, 1 << 24), "cores": (1, 8), "chunk": (16, 4096),
+LIMITS = {"stack": (512, 1 << 20), "heap": (0, 15 << 20), "threads": (1, 63), "events": (1, 1 << 24), "cores": (1, 8), "chunk": (16, 4096),
           "seed": (0, (1 << 63) - 1)}
 
 
@@ -102,6 +105,8 @@ def read_words(given):
     words, rest = Words(), list(given)
     while rest:
         _one(words, rest.pop(0), rest)
-    words.numbers["stack"] = (words.numbers["stack"] + 15) // 16 * 16
-    words.numbers["heap"] = (words.numbers["heap"] + 63) // 64 * 64
+    numbers = words.numbers
+    numbers["events"] = numbers["events"] or (200000 if numbers["threads"] <= DRAWN else 1000000)
+    numbers["stack"] = (numbers["stack"] + 15) // 16 * 16
+    numbers["heap"] = (numbers["heap"] + 63) // 64 * 64
     return words
