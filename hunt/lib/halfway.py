@@ -17,13 +17,13 @@ Overwritten = namedtuple("Overwritten", "word own others load use")
 
 
 class _Stores:
-    """Of each context its stores to shared words, and of each word its stores."""
+    """Of each context its stores that change shared words, and of each word the same."""
 
     def __init__(self, trace, shared):
         self.of_context, self.of_word = {}, {}
         for commit in trace.commits:
             for a in trace.accesses_of(commit):
-                if a.kind in isa.STORES and a.addr & ~3 in shared:
+                if a.kind in isa.STORES and a.addr & ~3 in shared and a.old != a.new:
                     pair = commit, a
                     self.of_context.setdefault(trace.context(commit), []).append(pair)
                     self.of_word.setdefault(a.addr & ~3, []).append(pair)
@@ -54,9 +54,9 @@ def _early(trace, shared, stores, load):
     if not second or trace.context(second[0]) == context or not (second[1].new ^ load[1].new) & bits_of(load[1]):
         return None
     first = stores.around(stores.of_context[trace.context(second[0])], load[1].step)[0]
-    if not first or first[1].addr & ~3 == word or not _has_seen(trace, stores, context, first, load):
+    if not first or first[1].addr & ~3 == word or not trace.is_blind(first[1]):
         return None
-    if _has_news(trace, stores, first, second):
+    if not _has_seen(trace, stores, context, first, load) or _has_news(trace, stores, first, second):
         return None
     use = Otherwise(trace, shared, load, second[1].new, load[1].step).use()
     return Early(word, first, load, second, use) if use else None
@@ -76,7 +76,7 @@ def _has_news(trace, stores, first, second):
     for commit in trace.commits_of(context, first[0].number):
         for a in trace.accesses_of(commit) if commit.number <= second[0].number else ():
             if first[1].step < a.step < second[1].step and a.kind in isa.LOADS:
-                last = stores.around(stores.of_word.get(a.addr & ~3, ()), a.step)[0]
+                last = stores.around(stores.of_word.get(a.addr & ~3, ()), a.step - 1)[0]
                 if last and last[1].step > first[1].step and trace.context(last[0]) != context:
                     return True
     return False

@@ -42,14 +42,15 @@ class _Copy:
 
 class Otherwise:
     """load: (Commit, Access). value: the word that it might have found. since: the step after which a use counts. shared: the
-    addresses of words that others may see."""
+    addresses of words that others may see. is_late: its commit's other loads, and those up to that step, find what was there by then, too."""
 
-    def __init__(self, trace, shared, load, value, since):
+    def __init__(self, trace, shared, load, value, since, is_late=False):
         self.trace, self.shared, self.value, self.since = trace, shared, value, since
         self.commit, self.load = load
         self.word, self.context = self.load.addr & ~3, trace.context(self.commit)
         self.mine, self.other = (_Copy(trace.image.size, self.commit.before.x) for _ in range(2))
         self.has_looked, self.is_over, self.steps = False, False, 0
+        self.is_late, self.own_stores = is_late, set()
 
     def use(self):
         """The first Use after `since`, or None if there is none before the thread acts on another look at the word."""
@@ -105,6 +106,8 @@ class Otherwise:
     def found(self, index, access, step):
         if step == self.load.step:
             return self.value
+        if self.is_late and step <= self.since and 4 * index not in self.own_stores:
+            return self.trace.value_before(4 * index, self.since + 1)
         return access.old if access and access.addr >> 2 == index else self.trace.value_before(4 * index, step)
 
     def look_for_end(self, step):
@@ -118,6 +121,7 @@ class Otherwise:
         """Whether the copies stored different things, in words that others may see. In a word of its own the other copy keeps
         what it stored."""
         mine, other = self.mine.stored, self.other.stored
+        self.own_stores.add(access.addr & ~3)
         if mine == other:
             self.other.own.pop(mine[0], None)
             return False

@@ -45,22 +45,22 @@ def _looks(trace, word):
 
 
 def _returns(trace, look):
-    """The stores up to each point at which the context comes back."""
+    """The stores up to each point at which the context comes back, and its first step then."""
     context = trace.context(look.load[0])
     for place, (commit, _) in enumerate(look.stores):
         mine = trace.commits_of(context, commit.number + 1)[:1]
         after = look.stores[place + 1 : place + 2]
         if mine and not (after and after[0][0].number < mine[0].number):
-            yield look.stores[: place + 1]
+            yield look.stores[: place + 1], mine[0].first
 
 
 def _stale(trace, shared, look):
     commit, load = look.load
-    for stores in _returns(trace, look):
+    for stores, back in _returns(trace, look):
         last = stores[-1][1]
         if (last.new ^ load.new) & bits_of(load):
-            use = Otherwise(trace, shared, look.load, last.new, last.step).use()
-            if use:
+            use, late = (Otherwise(trace, shared, look.load, last.new, back - 1, is_late).use() for is_late in (False, True))
+            if use and late:
                 return Stale(load.addr & ~3, look.load, stores, use, _is_announced(trace, look.load, stores[0]))
     return None
 

@@ -10,7 +10,7 @@ from lib.account import compare
 from lib.image import read_image
 from lib.logs import read_log
 from lib.play import play
-from lib.trace import Trace
+from lib.trace import Trace, open_trace
 
 try:
     import elftools  # noqa: F401
@@ -70,6 +70,8 @@ class Guide(unittest.TestCase):
         loaded, read = read_image(recording.image.read_bytes(), recording.memory), read_log(recording.log.read_bytes())
         played = play(loaded, read)
         compare(played, recording.account.read_bytes())
+        if rest == ["waits"]:
+            return list(self.trace.answer(open_trace(recording.image, recording.memory, recording.log), rest))
         traced = Trace(loaded, read, played)
         if "--atomic" in rest:
             *rest, _, named = rest
@@ -80,6 +82,8 @@ class Guide(unittest.TestCase):
         found = shown(self.text)
         self.assertGreater(len(found), 10)
         for folder, words, lines in found:
+            if words[-1] == "waits" and not (support.can_walk() and HAS_LINES):
+                continue  # it walks, and reads call frames
             with self.subTest(" ".join(words)):
                 said = "".join(changed(line) + "\n" for line in self.say(folder, words))
                 self.assertRegex(said, re.compile(r"\A" + pattern(map(changed, lines)).pattern + r"\Z"))

@@ -16,6 +16,8 @@ STALE = [
     ("interrupt, plan.toml", "counter", "counter = counter + 1;", "counter = counter + 1;", "counter = counter + 1;"),
     ("wake-up, plan.toml", "put", "while (taken != put)", "put = put + 1;", "awake = 0;"),
     ("sleep, plan.toml", "put", "while (taken != put)", "put = put + 1;", "awake = 0;"),
+    ("no-second-look, plan.toml", "count", "while (count == 0)", "count--;", "sums[own] += ring[first++"),
+    ("below-zero, plan.toml", "count", "while (count == 0)", "count--;", "sums[own] += ring[first++"),
     ("release, plan.toml", "counter", "counter = counter + 1;", "counter = counter + 1;", "counter = counter + 1;"),
 ]
 OURS = "hunt/examples/interrupt"  # examples/interrupt has a plan of the same name
@@ -72,8 +74,23 @@ class Examples(unittest.TestCase):
         self.assertEqual((own[1].new, other[1].new), (1, 0))
         self.assertIn("static void release(void)", source(recording, trace, other[1].pc))
 
+    @unittest.skipUnless(HAS_LINES, NO_LINES)
+    def test_a_last_reader(self):
+        """Its own store of 0, the other reader's store of 1, and the look at that."""
+        recording, trace = traced("last-reader, plan.toml")
+        (found,) = overwritten(trace)
+        self.assertEqual((stale_uses(trace), early_looks(trace), trace.names.name(found.word)), ([], [], "readers"))
+        for access, text in ((found.own[1], "--readers;"), (found.others[-1][1], "++readers"), (found.load[1], "if (readers == 0)")):
+            self.assertIn(text, source(recording, trace, access.pc))
+
+    def test_at_most_five_lines(self):
+        """Of what a search or a seed finds; the race's log has two switches more, and that of ticks.c five interrupts."""
+        for plan in [plan for plan, *_ in STALE] + ["once, plan.toml", "last-reader, plan.toml"]:
+            if plan not in ("race, plan.toml", "interrupt, plan.toml"):
+                self.assertLessEqual(len(switch_lines(traced(plan)[1])), 5, plan)
+
     def test_mended(self):
-        for plan in ("race, mended.toml", "once, mended.toml", "release, mended.toml"):
+        for plan in ("last-reader, mended.toml", "below-zero, mended.toml","race, mended.toml", "once, mended.toml", "release, mended.toml"):
             self.assertEqual(switch_lines(traced(plan)[1]), [], plan)
 
 
