@@ -12,10 +12,12 @@ import os
 from pathlib import Path
 import shutil
 import signal
+import struct
 import subprocess
 import tempfile
 
 from .conditions import KINDS
+from .image import section
 from .logs import ORDER_SIZE, Input, Log
 
 SOURCES = Path(__file__).resolve().parent.parent / "engine"
@@ -70,6 +72,12 @@ def built():
     return program
 
 
+def acquires(image):
+    """The addresses of the instructions that the image marks as those that take a lock."""
+    marks = section(image.file, b".delorean.acquires")
+    return [pc for (pc,) in struct.iter_unpack("<I", marks[:len(marks) // 4 * 4]) if 0 < pc < image.size]
+
+
 def hexed(data):
     return data.hex().upper() or "-"
 
@@ -109,6 +117,8 @@ class Engine:
         yield from ("raise %d %x" % raised for raised in o.raises)
         if o.all_places:
             yield "all-places"
+        else:
+            yield from ("acquire %x" % pc for pc in acquires(image))
 
     def most_threads(self):
         return self.options.threads or (15 if self.options.version == 1 else 63)
