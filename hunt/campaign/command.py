@@ -1,0 +1,95 @@
+"""`hunt/seeds PLAN --bad CONDITION ..`: `main(words)` conducts a campaign, and says what came of it."""
+
+import contextlib
+import hashlib
+import json
+import sys
+
+from lib.conditions import BadCondition
+from lib.judge import Differs
+from lib.searching import Refused
+
+from . import plans, words
+from .conduct import LISTED, Conductor, Keeping, Stop
+from .pool import Pool
+from .program import Failed, Scratch, find_program, sum_of_file
+from .progress import Progress
+from .store import Identity
+from .trying import BAD, OUTCOMES, Campaign, condition_of
+
+
+def campaign_of(given):
+    plan = plans.read_plan(given.plan, given.sphere)
+    settings = plans.settings_of(plans.read_varied(given.vary))
+    most = given.most_events
+    if most is None:
+        most = min(plans.MOST_EVENTS, 16 * max([plans.events_of(plan, setting) or 0 for setting in settings]))
+    campaign = Campaign(find_program(), plan, settings, given.bad, most)
+    condition_of(campaign)
+    return campaign
+
+
+def identity_of(campaign):
+    plan = campaign.plan
+    return Identity(plan.sum, sum_of_file(campaign.program[0]), files_sum(plan), str(plan.number), json.dumps(campaign.bad),
+                    str(campaign.most_events))
+
+
+def files_sum(plan):
+    """What tells the contents of the plan's files apart, all that are read."""
+    spheres = plan.values["sphere"]
+    names = [sphere.get("image") for sphere in spheres] + [plan.values.get("input"), plan.values.get("script")]
+    names += [sphere.get(key) for sphere in spheres if sphere.get("role") == "replay" for key in ("log", "strata")]
+    return hashlib.sha256("".join(sum_of_file(name) for name in names if name is not None).encode()).hexdigest()
+
+
+def conduct(given):
+    campaign = campaign_of(given)
+    keeping = Keeping(given.keep)
+    with contextlib.closing(keeping):
+        keeping.open(identity_of(campaign), campaign.plan.values, given.resume)
+        return conduct_in(keeping, campaign, given)
+
+
+def conduct_in(keeping, campaign, given):
+    """The status with which the command ends."""
+    names = [plans.setting_name(setting) for setting in campaign.settings]
+    progress = Progress(len(given.seeds) * len(names) - keeping.store.count(names, given.seeds))
+    stop, scratch = Stop(), Scratch()
+    conductor = Conductor(campaign, given.seeds, keeping, progress, given.stop_after, stop)
+    pool = Pool(campaign, min(given.jobs, progress.total), scratch)
+    try:
+        conductor.conduct(pool)
+    finally:
+        pool.close()
+        scratch.close()
+        progress.clear()
+        if progress.done or not conductor.failure:
+            tell(conductor, progress, given)
+    return 130 if stop.is_set else 0 if keeping.store.counts()[BAD] else 1
+
+
+def counted(counts):
+    return "%d tries: %s" % (sum(counts), ", ".join("%d %s" % pair for pair in zip(counts, OUTCOMES)))
+
+
+def tell(conductor, progress, given):
+    """The last lines: what was tried, and where more is said."""
+    if conductor.listed > LISTED:
+        print("and %d more" % (conductor.listed - LISTED))
+    print(counted(progress.counts))
+    if conductor.had:
+        print("with those of before: %s" % counted(conductor.store.counts()))
+    if conductor.stop.is_set:
+        print("stopped; %s" % ("--resume goes on from here" if given.keep else "nothing is kept without --keep"))
+
+
+def main(texts):
+    try:
+        return conduct(words.read(texts))
+    except (BadCondition, Failed, Refused) as error:
+        print("seeds: %s" % error, file=sys.stderr)
+        return 2
+    except Differs as error:
+        print("seeds: %s" % error, file=sys.stderr)
+        return 3

@@ -1,0 +1,222 @@
+"""Campaigns find what the seeds have, each seed once, however many work at it; and what they keep was walked."""
+
+import contextlib
+import io
+import os
+import re
+import shutil
+import signal
+import subprocess
+import sys
+import tempfile
+import unittest
+from pathlib import Path
+
+import support
+from campaign import plans
+from campaign.command import main
+from campaign.ends import console_sum, ended_of, threads_text
+from campaign.store import NAME, Store
+from campaign.work import Ordered, Work
+from lib.account import program
+from lib.conditions import Ended
+from lib.searching import Refused
+
+RACE, SLEEP = support.TOP / "examples/race", support.TOP / "hunt/examples/sleep"
+SEEDS = support.TOP / "hunt/seeds"
+COUNT_IS_WRONG = "exit 0 != 0"
+BAD_SEEDS = [3, 9, 51]  # of the race's plan, up to 51, as a loop over `delorean run` finds them
+NOT_BUILT = "campaigns, since the proved program isn't built"
+
+
+def said(*words):
+    """What the command ends with, and says on both outputs."""
+    out = io.StringIO()
+    with contextlib.redirect_stdout(out), contextlib.redirect_stderr(out):
+        status = main([str(word) for word in words])
+    return status, out.getvalue()
+
+
+class Scratch(unittest.TestCase):
+    def setUp(self):
+        folder = tempfile.TemporaryDirectory()
+        self.addCleanup(folder.cleanup)
+        self.folder = Path(folder.name)
+        self.addCleanup(os.chdir, os.getcwd())
+        for number in signal.SIGINT, signal.SIGTERM:
+            self.addCleanup(signal.signal, number, signal.getsignal(number))
+        os.chdir(self.folder)
+
+    def copy(self, *files, **changes):
+        """Copies of files, the plan among them with other values."""
+        for file in files:
+            shutil.copy(file, self.folder)
+        text = Path("plan.toml").read_text()
+        for key, value in changes.items():
+            text = re.sub("^%s = .*" % key, "%s = %s" % (key, value), text, flags=re.M)
+        Path("plan.toml").write_text(text)
+
+
+class Plans(Scratch):
+    def test_ranges(self):
+        self.assertEqual(plans.read_range("1-4", "x"), range(1, 5))
+        self.assertEqual(plans.read_range("7", "x"), range(7, 8))
+        for wrong in ("", "4-1", "-1", "1-", "a", "1-2-3", "9223372036854775808"):
+            with self.assertRaises(Refused, msg=wrong):
+                plans.read_range(wrong, "x")
+
+    def test_settings(self):
+        varied = plans.read_varied(["chunk=16,32", "cores=1-3"])
+        names = [plans.setting_name(setting) for setting in plans.settings_of(varied)]
+        self.assertEqual(names, ["chunk=%d cores=%d" % (chunk, cores) for chunk in (16, 32) for cores in (1, 2, 3)])
+        self.assertEqual(plans.settings_of([]), [{}])
+        for wrong in (["speed=1"], ["chunk=1", "chunk=2"], ["chunk="], ["seed=1-400000"], ["events=1-400000"]):
+            with self.assertRaises(Refused, msg=wrong):
+                plans.settings_of(plans.read_varied(wrong))
+
+    def test_no_name_of_the_plan_is_written(self):
+        self.copy(RACE / "plan.toml")
+        plan = plans.read_plan("plan.toml")
+        text = plans.toml(plans.tried(plan, {"chunk": 16}, 500, "/there"))
+        self.assertEqual(sorted(re.findall(r'"(.*)"', text)),
+                         ["/there/account", "/there/log", "/there/report", "order-size", "race.elf", "record"])
+        self.assertIn("chunk = 16\n", text)
+        self.assertIn("events = 500\n", text)
+
+    def test_text_is_read_as_it_was(self):
+        Path("odd.toml").write_text('a = "x\\"\\\\\\n\\u0001"\n"k k" = 1\n[[sphere]]\nrole = "record"\nimage = "ä.elf"\n')
+        values = plans.read_plan("odd.toml").values
+        import tomllib
+
+        self.assertEqual(tomllib.loads(plans.toml(values)), values)
+
+    def test_plan_that_records_nothing(self):
+        Path("plain.toml").write_text('cores = 1\n[[sphere]]\nrole = "plain"\n')
+        with self.assertRaisesRegex(Refused, "no sphere of the plan is recorded"):
+            plans.read_plan("plain.toml")
+
+
+class Ends(unittest.TestCase):
+    def test_as_the_whole_account_tells(self):
+        for recorded in support.recorded():
+            account = recorded.account.read_bytes()
+            whole = Ended(account)
+            if not whole.is_complete:
+                continue
+            ended = ended_of(account, sorted(whole.rows))
+            self.assertEqual((ended.threads, ended.console, ended.rows, ended.commits, True),
+                             (whole.threads, whole.console, whole.rows, whole.commits, ended.is_complete), recorded.name)
+            self.assertEqual(bool(console_sum(ended)), bool(whole.console))
+            self.assertEqual(len(threads_text(ended).split()), len(whole.threads))
+
+
+class Orders(unittest.TestCase):
+    def test_what_comes_late_is_waited_for(self):
+        ordered = Ordered()
+        ordered.put(1, "b")
+        self.assertEqual(list(ordered.ready()), [])
+        ordered.put(0, "a")
+        ordered.put(3, "d")
+        self.assertEqual(list(ordered.ready()), ["a", "b"])
+        self.assertEqual(list(ordered.rest()), ["d"])
+
+    def test_work_leaves_out_what_was_done(self):
+        class Had:
+            def done(self, name, first, last):
+                return {seed for seed in {"": {2, 3}, "x": {5}}[name] if first <= seed <= last}
+
+        work = Work(range(1, 6), ["", "x"], Had())
+        self.assertEqual(work.take(3), [(0, 1), (1, 1), (1, 2)])
+        self.assertEqual(work.take(100), [(1, 3), (0, 4), (1, 4), (0, 5)])
+        self.assertEqual(work.take(1), [])
+
+
+@unittest.skipUnless(support.can_walk(), NOT_BUILT)
+class Campaigns(Scratch):
+    def kept(self, folder="kept"):
+        """The rows of a campaign: setting, seed, outcome, events, threads."""
+        store = Store(str(Path(folder) / NAME))
+        rows = list(store.base.execute("select setting, seed, outcome, events, threads from tries order by seed, setting"))
+        store.close()
+        return rows
+
+    def test_race(self):
+        self.copy(RACE / "plan.toml", RACE / "race.elf")
+        before = sorted(os.listdir())
+        status, text = said("plan.toml", "--bad", COUNT_IS_WRONG, "--seeds", "1-51", "--jobs", 2, "--keep", "kept")
+        self.assertEqual(status, 0, text)
+        self.assertIn("51 tries: 48 good, 3 bad, 0 live, 0 hung\n", text)
+        self.assertEqual(re.findall(r"seed (\d+): bad", text), list(map(str, BAD_SEEDS)))
+        self.assertEqual(sorted(os.listdir()), sorted([*before, "kept"]))
+        names = ["seed-%d.%s" % (seed, end) for seed in BAD_SEEDS for end in ("log", "toml")]
+        self.assertEqual(sorted(os.listdir("kept")), sorted([NAME, *names]))
+        self.assertEqual([row[1] for row in self.kept()], list(range(1, 52)))
+        self.assertEqual(Path("kept/seed-3.log").read_bytes(), (RACE / "expected/race.log").read_bytes())
+
+    def test_find_comes_again_by_its_plan(self):
+        self.copy(RACE / "plan.toml", RACE / "race.elf")
+        said("plan.toml", "--bad", COUNT_IS_WRONG, "--seeds", "3", "--keep", "kept")
+        subprocess.run([*program(), "run", "kept/seed-3.toml"], check=True, stdout=subprocess.DEVNULL)
+        self.assertEqual(Path("race.log").read_bytes(), Path("kept/seed-3.log").read_bytes())
+        self.assertEqual(Path("a.txt").read_bytes(), (RACE / "expected/a.txt").read_bytes())
+
+    def test_stops_after_the_first_of_the_order(self):
+        self.copy(RACE / "plan.toml", RACE / "race.elf")
+        for jobs in 1, 3:
+            status, text = said("plan.toml", "--bad", COUNT_IS_WRONG, "--jobs", jobs, "--stop-after", 2, "--keep", "kept%d" % jobs)
+            self.assertIn("9 tries: 7 good, 2 bad", text)
+            self.assertEqual([row[1] for row in self.kept("kept%d" % jobs)], list(range(1, 10)))
+
+    def test_more_events_where_there_are_too_few(self):
+        self.copy(RACE / "plan.toml", RACE / "race.elf", events=3000)
+        _, text = said("plan.toml", "--bad", COUNT_IS_WRONG, "--seeds", "1-3", "--keep", "kept")
+        self.assertIn("3 tries: 2 good, 1 bad, 0 live, 0 hung\n", text)
+        self.assertEqual({row[3] for row in self.kept()}, {12000})
+        status, text = said("plan.toml", "--bad", COUNT_IS_WRONG, "--seeds", "1-3", "--most-events", 3000)
+        self.assertEqual(status, 1)
+        self.assertIn("3 tries: 0 good, 0 bad, 3 live, 0 hung\n", text)
+
+    @unittest.skipUnless(shutil.which("cc"), "hangs, since there is no C compiler")
+    def test_hang(self):
+        self.copy(SLEEP / "plan.toml", SLEEP / "sleep.elf")
+        status, text = said("plan.toml", "--bad", "hang", "--seeds", "38-39", "--keep", "kept")
+        self.assertIn("2 tries: 1 good, 1 bad, 0 live, 0 hung\n", text)
+        status, text = said("plan.toml", "--bad", "exit any = 99", "--seeds", "38-39")
+        self.assertEqual(status, 1)
+        self.assertIn("2 tries: 1 good, 0 bad, 0 live, 1 hung\n", text)
+
+    def test_varied(self):
+        self.copy(RACE / "plan.toml", RACE / "race.elf")
+        said("plan.toml", "--bad", COUNT_IS_WRONG, "--seeds", "1-3", "--vary", "chunk=16,32", "--vary", "depth=1-2", "--keep", "kept")
+        names = ["chunk=%d depth=%d" % (chunk, depth) for chunk in (16, 32) for depth in (1, 2)]
+        self.assertEqual([row[:2] for row in self.kept()], [(name, seed) for seed in (1, 2, 3) for name in names])
+        self.assertIn(("chunk=32 depth=1", 3, "bad", 12000, "ended:16 ended:0 ended:1"), self.kept())
+
+    def test_goes_on(self):
+        self.copy(RACE / "plan.toml", RACE / "race.elf")
+        words = "plan.toml", "--bad", COUNT_IS_WRONG, "--keep", "kept"
+        said(*words, "--seeds", "1-5")
+        status, text = said(*words, "--seeds", "1-9")
+        self.assertEqual((status, text), (2, "seeds: kept has a campaign: go on with it by --resume, or take another folder\n"))
+        status, text = said(*words, "--seeds", "1-9", "--resume")
+        self.assertIn("\n4 tries: 3 good, 1 bad, 0 live, 0 hung\nwith those of before: 9 tries: 7 good, 2 bad, ", text)
+        status, text = said("plan.toml", "--bad", "fault", "--keep", "kept", "--resume")
+        self.assertEqual((status, text), (2, "seeds: the campaign in kept has other conditions\n"))
+
+    def test_refused(self):
+        self.copy(RACE / "plan.toml", RACE / "race.elf")
+        for words, why in (
+                (("absent.toml", "--bad", "fault"), "absent.toml: No such file or directory"),
+                (("plan.toml", "--bad", "none"), "`none` is no condition"),
+                (("plan.toml", "--bad", "word nowhere = 1"), "nowhere"),
+                (("plan.toml", "--bad", "fault", "--vary", "chunk=5000", "--seeds", "7"), "seed 7, chunk=5000: refused plan 8"),
+                (("plan.toml", "--bad", "fault", "--sphere", "1"), "sphere 1 of the plan isn't recorded"),
+                (("plan.toml", "--bad", "fault", "--resume"), "--resume needs --keep, the folder of the campaign")):
+            status, text = said(*words)
+            self.assertEqual(status, 2, words)
+            self.assertIn("seeds: ", text)
+            self.assertIn(why, text)
+
+
+if __name__ == "__main__":
+    unittest.main()
