@@ -1,8 +1,6 @@
 """`hunt/seeds PLAN --bad CONDITION ..`: `main(words)` conducts a campaign, and says what came of it."""
 
 import contextlib
-import hashlib
-import json
 import sys
 
 from lib.conditions import BadCondition
@@ -11,10 +9,10 @@ from lib.searching import Refused
 
 from . import plans, words
 from .conduct import LISTED, Conductor, Keeping, Stop
+from .identity import identity_of
 from .pool import Pool
-from .program import Failed, Scratch, find_program, sum_of_file
+from .program import Failed, Scratch, find_program
 from .progress import Progress
-from .store import Identity
 from .trying import BAD, OUTCOMES, Campaign, condition_of
 
 
@@ -27,20 +25,6 @@ def campaign_of(given):
     campaign = Campaign(find_program(), plan, settings, given.bad, most)
     condition_of(campaign)
     return campaign
-
-
-def identity_of(campaign):
-    plan = campaign.plan
-    return Identity(plan.sum, sum_of_file(campaign.program[0]), files_sum(plan), str(plan.number), json.dumps(campaign.bad),
-                    str(campaign.most_events))
-
-
-def files_sum(plan):
-    """What tells the contents of the plan's files apart, all that are read."""
-    spheres = plan.values["sphere"]
-    names = [sphere.get("image") for sphere in spheres] + [plan.values.get("input"), plan.values.get("script")]
-    names += [sphere.get(key) for sphere in spheres if sphere.get("role") == "replay" for key in ("log", "strata")]
-    return hashlib.sha256("".join(sum_of_file(name) for name in names if name is not None).encode()).hexdigest()
 
 
 def conduct(given):

@@ -9,6 +9,7 @@ import time
 from lib.searching import Refused
 
 from . import plans
+from .identity import DIFFERENT
 from .store import NAME, Store
 from .trying import BAD, HUNG, OUTCOMES
 from .work import Ordered, Work
@@ -75,10 +76,6 @@ class Keeping:
         self.store.close()
         if self.lock is not None:
             os.close(self.lock)
-
-
-DIFFERENT = {"plan_sum": "another plan", "program_sum": "another program", "files_sum": "another image, input or script",
-             "sphere": "another sphere", "bad": "other conditions", "most_events": "another --most-events"}
 
 
 def write_whole(name, data):

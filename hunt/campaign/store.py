@@ -10,7 +10,8 @@ import sqlite3
 
 from lib.searching import Refused
 
-from .trying import BAD, HUNG, OUTCOMES, Result
+from .identity import Identity
+from .trying import BAD, HUNG, LIVE, OUTCOMES
 
 SCHEMA = """
 create table campaign (key text primary key, value text not null) without rowid;
@@ -26,10 +27,28 @@ create view tries as
     from try join setting on setting.id = try.setting join threads on threads.id = try.threads
              join console on console.id = try.console;
 """.format(cases=" ".join("when %d then '%s'" % pair for pair in enumerate(OUTCOMES)))
+# From the file `other`: its texts, then its tries and finds with the numbers that the texts have here.
+JOIN = """
+insert or ignore into setting (text) select text from other.setting order by id;
+insert or ignore into threads (text) select text from other.threads order by id;
+insert or ignore into console (sum) select sum from other.console order by id;
+create temp view if not exists theirs as
+    select main.setting.id as setting, t.seed, t.outcome, t.events, t.commits, main.threads.id as threads, main.console.id as console
+    from other.try t join other.setting s on s.id = t.setting join main.setting on main.setting.text = s.text
+                     join other.threads e on e.id = t.threads join main.threads on main.threads.text = e.text
+                     join other.console c on c.id = t.console join main.console on main.console.sum = c.sum;
+insert or ignore into main.try select * from theirs;
+insert or ignore into main.find select main.setting.id, f.seed, f.log
+    from other.find f join other.setting s on s.id = f.setting join main.setting on main.setting.text = s.text;
+"""
+DIFFERING = """
+select main.setting.text, theirs.seed from theirs join main.setting on main.setting.id = theirs.setting
+    join main.try mine on mine.setting = theirs.setting and mine.seed = theirs.seed
+    where (mine.outcome, mine.events, mine.commits, mine.threads, mine.console)
+       <> (theirs.outcome, theirs.events, theirs.commits, theirs.threads, theirs.console) limit 1
+"""
 NAME = "campaign.sqlite"
 
-# What a file is of; two files that are of the same can be joined. plan, bad: as text. sums: of the program and the image.
-Identity = namedtuple("Identity", "plan_sum program_sum files_sum sphere bad most_events")
 Find = namedtuple("Find", "setting seed outcome events commits threads console")
 
 
@@ -48,7 +67,8 @@ class Store:
 
     def begin(self, identity, values):
         """Makes the tables of a new campaign."""
-        self.base.executescript("begin;" + SCHEMA)
+        self.is_new = False
+        self.base.executescript("begin immediate;" + SCHEMA)
         self.base.executemany("insert into campaign values (?, ?)", [*identity._asdict().items(), ("values", json.dumps(values))])
         self.base.execute("commit")
 
@@ -86,6 +106,18 @@ class Store:
             raise
         self.base.execute("commit")
 
+    def join(self, other):
+        """Adds what another file of the same campaign has. Tries that both have must have ended alike."""
+        self.base.execute("attach ? as other", (other,))
+        try:
+            self.base.executescript("begin immediate;" + JOIN)
+            differing = self.base.execute(DIFFERING).fetchone()
+            self.base.execute("rollback" if differing else "commit")
+        finally:
+            self.base.execute("detach other")
+        if differing:
+            raise Refused("seed %d%s ended otherwise in the other campaign" % (differing[1], differing[0] and ", " + differing[0]))
+
     # ------------------------------------------------------------ reading
 
     def done(self, setting, first, last):
@@ -103,6 +135,15 @@ class Store:
         """How many tries came to each outcome."""
         found = dict(self.base.execute("select outcome, count(*) from try group by outcome"))
         return [found.get(outcome, 0) for outcome in range(len(OUTCOMES))]
+
+    def rates(self):
+        """(setting, tries that came to an end, bad ones)."""
+        return list(self.base.execute("select s.text, sum(outcome <> ?), sum(outcome = ?) from try t join setting s on s.id = t.setting"
+                                      " group by s.id order by s.id", (LIVE, BAD)))
+
+    def seeds(self):
+        """The first and the last seed that was tried."""
+        return self.base.execute("select min(seed), max(seed) from try").fetchone()
 
     def finds(self, outcomes=(BAD, HUNG)):
         marks = ",".join(map(str, outcomes))

@@ -1,6 +1,8 @@
 """Campaigns find what the seeds have, each seed once, however many work at it; and what they keep was walked."""
 
 import contextlib
+import importlib.machinery
+import importlib.util
 import io
 import os
 import re
@@ -13,8 +15,7 @@ import unittest
 from pathlib import Path
 
 import support
-from campaign import plans
-from campaign.command import main
+from campaign import plans, rates
 from campaign.ends import console_sum, ended_of, threads_text
 from campaign.store import NAME, Store
 from campaign.work import Ordered, Work
@@ -22,19 +23,39 @@ from lib.account import program
 from lib.conditions import Ended
 from lib.searching import Refused
 
+
+
+def load(name):
+    """A command of hunt/ as a module."""
+    loader = importlib.machinery.SourceFileLoader("hunt_" + name, str(support.TOP / "hunt" / name))
+    module = importlib.util.module_from_spec(importlib.util.spec_from_loader(loader.name, loader))
+    loader.exec_module(module)
+    return module
+
+
 RACE, SLEEP = support.TOP / "examples/race", support.TOP / "hunt/examples/sleep"
 SEEDS = support.TOP / "hunt/seeds"
 COUNT_IS_WRONG = "exit 0 != 0"
 BAD_SEEDS = [3, 9, 51]  # of the race's plan, up to 51, as a loop over `delorean run` finds them
+SEEDS_COMMAND = load("seeds")
+HAS_COMPILER = shutil.which(os.environ.get("CC", "cc")) is not None
+NO_COMPILER = "hangs and bugs, since there is no C compiler"
 NOT_BUILT = "campaigns, since the proved program isn't built"
 
 
 def said(*words):
     """What the command ends with, and says on both outputs."""
     out = io.StringIO()
+    main = SEEDS_COMMAND.main
     with contextlib.redirect_stdout(out), contextlib.redirect_stderr(out):
         status = main([str(word) for word in words])
     return status, out.getvalue()
+
+
+def rows_in(folder):
+    """Setting, seed, outcome, events, commits, threads and console of each try."""
+    with contextlib.closing(Store(str(Path(folder) / NAME))) as store:
+        return list(store.base.execute("select * from tries order by seed, setting"))
 
 
 class Scratch(unittest.TestCase):
@@ -135,10 +156,7 @@ class Orders(unittest.TestCase):
 class Campaigns(Scratch):
     def kept(self, folder="kept"):
         """The rows of a campaign: setting, seed, outcome, events, threads."""
-        store = Store(str(Path(folder) / NAME))
-        rows = list(store.base.execute("select setting, seed, outcome, events, threads from tries order by seed, setting"))
-        store.close()
-        return rows
+        return [(*row[:4], row[5]) for row in rows_in(folder)]
 
     def test_race(self):
         self.copy(RACE / "plan.toml", RACE / "race.elf")
@@ -176,7 +194,7 @@ class Campaigns(Scratch):
         self.assertEqual(status, 1)
         self.assertIn("3 tries: 0 good, 0 bad, 3 live, 0 hung\n", text)
 
-    @unittest.skipUnless(shutil.which("cc"), "hangs, since there is no C compiler")
+    @unittest.skipUnless(HAS_COMPILER, NO_COMPILER)
     def test_hang(self):
         self.copy(SLEEP / "plan.toml", SLEEP / "sleep.elf")
         status, text = said("plan.toml", "--bad", "hang", "--seeds", "38-39", "--keep", "kept")
@@ -216,6 +234,119 @@ class Campaigns(Scratch):
             self.assertEqual(status, 2, words)
             self.assertIn("seeds: ", text)
             self.assertIn(why, text)
+
+
+class Rates(unittest.TestCase):
+    def test_interval(self):
+        # By hand: for 5 of 10 the middle is 1/2, and half the width 1.96 sqrt(2.5 + 0.9604) / 13.8415.
+        for (bad, tries), (low, high) in (((5, 10), (0.2366, 0.7634)), ((0, 10), (0, 0.2775)), ((10, 10), (0.7225, 1)), ((0, 0), (0, 1))):
+            found = rates.wilson(bad, tries)
+            self.assertAlmostEqual(found[0], low, 4)
+            self.assertAlmostEqual(found[1], high, 4)
+
+    def test_seeds_for_a_rate(self):
+        # (1 - rate)^n is at most 0.05, and (1 - rate)^(n - 1) more than that: 0.5^5 = 0.031, 0.9^29 = 0.0471, 0.9^28 = 0.0523.
+        for rate, seeds in ((0.5, 5), (0.1, 29), (1, 1), (0, None)):
+            self.assertEqual(rates.seeds_for(rate), seeds)
+
+    def test_values_of_several_settings(self):
+        rows = [("chunk=16 depth=1", 10, 3), ("chunk=16 depth=2", 20, 1), ("chunk=32 depth=1", 30, 0)]
+        self.assertEqual([rate[:3] for rate in rates.by_value(rows)],
+                         [("chunk=16", 30, 4), ("chunk=32", 30, 0), ("depth=1", 40, 3), ("depth=2", 20, 1)])
+        self.assertEqual([rate.name for rate in rates.by_setting(rows)], [rows[0][0], rows[1][0], rows[2][0]])
+
+
+# Two threads add 1 to the word 400 and then to the word 404, each by a load and a store with fourteen instructions between. Thread 0
+# ends with 1 if either is wrong at the end. So there are two bugs, which end alike.
+TWO_BUGS = """
+        addi x5, x0, 2
+spawn:  addi x17, x0, 1
+        addi x10, x0, work
+        ecall
+        addi x5, x5, -1
+        bne x5, x0, spawn
+        addi x6, x0, 1
+wait:   addi x17, x0, 11
+        addi x10, x6, 0
+        ecall
+        beq x10, x0, wait
+        addi x6, x6, 1
+        addi x7, x0, 3
+        bne x6, x7, wait
+        addi x5, x0, 2
+        lw x6, 0x400(x0)
+        lw x7, 0x404(x0)
+        addi x10, x0, 1
+        bne x5, x6, end
+        bne x5, x7, end
+        addi x10, x0, 0
+end:    addi x17, x0, 0
+        ecall
+work:   lw x5, 0x400(x0)
+        NOPS
+        addi x5, x5, 1
+        sw x5, 0x400(x0)
+        lw x6, 0x404(x0)
+        NOPS
+        addi x6, x6, 1
+        sw x6, 0x404(x0)
+        addi x10, x0, 0
+        jal x0, end
+""".replace("NOPS", "\n".join(["addi x0, x0, 0"] * 14))
+
+
+@unittest.skipUnless(support.can_walk() and HAS_COMPILER, NO_COMPILER)
+class Reports(Scratch):
+    def test_two_bugs(self):
+        Path("two.s").write_text(TWO_BUGS)
+        subprocess.run([*program(), "asm", "two.s", "race.elf"], check=True, stdout=subprocess.DEVNULL)
+        self.copy(RACE / "plan.toml", chunk=16)
+        said("plan.toml", "--bad", COUNT_IS_WRONG, "--seeds", "1-30", "--keep", "kept")
+        text = said("report", "kept")[1]
+        self.assertIn("\n2 bugs among ", text)
+        # `work` is at 5C, after 23 instructions; each store is 16 instructions after its load.
+        self.assertIn("\n  a thread is left before 0000009C, 00000400\n", text)
+        self.assertIn("\n  a thread is left before 000000E0, 00000404\n", text)
+        self.assertEqual(len(re.findall(r"kept/bug-[12].log: .* 1 forced; walked", text)), 2, text)
+
+    def test_one_bug_with_several_ends(self):
+        self.copy(RACE / "plan.toml", RACE / "race.elf")
+        said("plan.toml", "--bad", COUNT_IS_WRONG, "--seeds", "3-9", "--keep", "kept")
+        status, text = said("report", "kept")
+        self.assertEqual(status, 0)
+        self.assertIn("seeds 3 to 9: 7 tries, 5 good, 2 bad, 0 live, 0 hung\n", text)
+        self.assertIn("\n1 bug among 2 finds\nbug 1, bad: 2 finds, ", text)
+        self.assertIn("ended:16 ended:0 ended:1: 1\n", text)
+        self.assertIn("ended:18 ended:0 ended:1: 1\n", text)
+
+
+@unittest.skipUnless(support.can_walk(), NOT_BUILT)
+class Joins(Scratch):
+    def tried(self, seeds, folder, bad=COUNT_IS_WRONG):
+        said("plan.toml", "--bad", bad, "--seeds", seeds, "--keep", folder)
+
+    def test_joined(self):
+        self.copy(RACE / "plan.toml", RACE / "race.elf")
+        self.tried("1-4", "a")
+        self.tried("3-9", "b")
+        self.assertEqual(said("join", "c", "a", "b"), (0, "9 tries: 7 good, 2 bad, 0 live, 0 hung\n"))
+        self.assertTrue(Path("c/seed-3.log").is_file() and Path("c/seed-9.toml").is_file())
+        self.tried("1-9", "whole")
+        self.assertEqual(rows_in("c"), rows_in("whole"))
+        self.assertEqual(said("join", "c", "a")[1], "9 tries: 7 good, 2 bad, 0 live, 0 hung\n")
+
+    def test_not_joined(self):
+        self.copy(RACE / "plan.toml", RACE / "race.elf")
+        self.tried("3", "a")
+        self.tried("3", "b", "fault")
+        self.assertEqual(said("join", "a", "b"), (2, "seeds join: the campaign in a has other conditions\n"))
+        self.assertEqual(said("join", "a", "none"), (2, "seeds join: none has no campaign\n"))
+        shutil.copytree("a", "c")
+        store = Store("c/" + NAME)
+        store.base.execute("update try set commits = 35")
+        store.close()
+        self.assertEqual(said("join", "a", "c"), (2, "seeds join: seed 3 ended otherwise in the other campaign\n"))
+        self.assertEqual(rows_in("a")[0][4], 36)
 
 
 if __name__ == "__main__":
