@@ -19,6 +19,7 @@ from campaign import plans, rates
 from campaign.ends import console_sum, ended_of, threads_text
 from campaign.store import NAME, Store
 from campaign.work import Ordered, Work
+from killing import kill_and_resume
 from lib.account import program
 from lib.conditions import Ended
 from lib.searching import Refused
@@ -234,6 +235,35 @@ class Campaigns(Scratch):
             self.assertEqual(status, 2, words)
             self.assertIn("seeds: ", text)
             self.assertIn(why, text)
+
+
+@unittest.skipUnless(support.can_walk(), NOT_BUILT)
+class Killed(Scratch):
+    """checks/seeds-killed does the same for longer."""
+
+    TIMES, SECONDS, LAST = 4, (0.1, 0.5), 30
+
+    def test_no_seed_is_lost_or_twice(self):
+        self.copy(RACE / "plan.toml", RACE / "race.elf")
+        words = "plan.toml", "--bad", "exit 0 = 0", "--bad", COUNT_IS_WRONG, "--seeds", "1-%d" % self.LAST, "--jobs", 2
+        errors, killed = kill_and_resume([*words, "--keep", "killed"], self.TIMES, self.SECONDS)
+        self.assertEqual(errors, "")
+        self.assertGreater(killed, 0)
+        said(*words, "--keep", "whole")
+        self.assertEqual([row[1] for row in rows_in("killed")], list(range(1, self.LAST + 1)))
+        self.assertEqual(rows_in("killed"), rows_in("whole"))
+        self.assertEqual(self.finds("killed"), self.finds("whole"))
+        self.assertEqual(sorted(os.listdir("killed")), sorted(os.listdir("whole")))
+        print("killed %d times in its work, %d seeds, %d finds" % (killed, self.LAST, len(self.finds("killed"))))
+
+    def finds(self, folder):
+        """The logs of a campaign; each is in its folder too."""
+        with contextlib.closing(Store("%s/%s" % (folder, NAME))) as store:
+            logs = dict(store.base.execute("select seed, log from find"))
+        for seed, log in logs.items():
+            self.assertEqual(Path("%s/seed-%d.log" % (folder, seed)).read_bytes(), log)
+        self.assertEqual(set(logs), {row[1] for row in rows_in(folder) if row[2] == "bad"})
+        return logs
 
 
 class Rates(unittest.TestCase):
