@@ -1,15 +1,17 @@
 """`hunt/seeds PLAN --bad CONDITION ..`: `main(words)` conducts a campaign, and says what came of it."""
 
 import contextlib
+from pathlib import Path
 import sys
 
 from lib.conditions import BadCondition
 from lib.judge import Differs
 from lib.searching import Refused
 
-from . import plans, words
+from . import plans, slurm, words
 from .conduct import LISTED, Conductor, Keeping, Stop
 from .identity import identity_of
+from .machines import Machines, read_logins
 from .pool import Pool
 from .program import Failed, Scratch, find_program
 from .progress import Progress
@@ -29,6 +31,9 @@ def campaign_of(given):
 
 def conduct(given):
     campaign = campaign_of(given)
+    if given.slurm:
+        slurm.write(given)
+        return 0
     keeping = Keeping(given.keep)
     with contextlib.closing(keeping):
         keeping.open(identity_of(campaign), campaign.plan.values, given.resume)
@@ -41,11 +46,13 @@ def conduct_in(keeping, campaign, given):
     progress = Progress(len(given.seeds) * len(names) - keeping.store.count(names, given.seeds))
     stop, scratch = Stop(), Scratch()
     conductor = Conductor(campaign, given.seeds, keeping, progress, given.stop_after, stop)
-    pool = Pool(campaign, min(given.jobs, progress.total), scratch)
+    pool = None
     try:
+        pool = workers(campaign, given, progress.total, scratch)
         conductor.conduct(pool)
     finally:
-        pool.close()
+        if pool:
+            pool.close()
         scratch.close()
         progress.clear()
         if progress.done or not conductor.failure:
@@ -53,17 +60,25 @@ def conduct_in(keeping, campaign, given):
     return 130 if stop.is_set else 0 if keeping.store.counts()[BAD] else 1
 
 
-def counted(counts):
-    return "%d tries: %s" % (sum(counts), ", ".join("%d %s" % pair for pair in zip(counts, OUTCOMES)))
+def workers(campaign, given, total, scratch):
+    """The processes that try: here, or on other machines."""
+    if not given.sshlogin and not given.sshloginfile:
+        return Pool(campaign, min(given.jobs, total), scratch)
+    joblog = Path(given.keep) / "joblog" if given.keep else None
+    return Machines(campaign, read_logins(given.sshlogin, given.sshloginfile), given.seeds.start, scratch, joblog)
+
+
+def outcomes_text(counts):
+    return "%s: %s" % ("1 try" if sum(counts) == 1 else "%d tries" % sum(counts), ", ".join("%d %s" % pair for pair in zip(counts, OUTCOMES)))
 
 
 def tell(conductor, progress, given):
     """The last lines: what was tried, and where more is said."""
     if conductor.listed > LISTED:
         print("and %d more" % (conductor.listed - LISTED))
-    print(counted(progress.counts))
+    print(outcomes_text(progress.counts))
     if conductor.had:
-        print("with those of before: %s" % counted(conductor.store.counts()))
+        print("with those of before: %s" % outcomes_text(conductor.store.counts()))
     if conductor.stop.is_set:
         print("stopped; %s" % ("--resume goes on from here" if given.keep else "nothing is kept without --keep"))
 
@@ -71,7 +86,7 @@ def tell(conductor, progress, given):
 def main(texts):
     try:
         return conduct(words.read(texts))
-    except (BadCondition, Failed, Refused) as error:
+    except (BadCondition, Failed, OSError, Refused) as error:
         print("seeds: %s" % error, file=sys.stderr)
         return 2
     except Differs as error:

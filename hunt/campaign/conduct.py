@@ -14,8 +14,7 @@ from .store import NAME, Store
 from .trying import BAD, HUNG, OUTCOMES
 from .work import Ordered, Work
 
-BATCH = 0.25  # seconds that a batch should take
-MOST = 1000   # tries in a batch
+TICK = 0.25   # seconds that the command waits for results, at most
 WAITING = 64  # batches for each job that may wait for one before them
 LISTED = 20   # finds that are told one by one
 
@@ -104,7 +103,7 @@ class Conductor:
             self.give(pool)
             if not self.batches:
                 break
-            self.collect(pool.wait(BATCH))
+            self.collect(pool.wait(TICK))
         if self.stop.is_set:
             self.collect_late(pool)
         self.write()
@@ -113,16 +112,17 @@ class Conductor:
 
     def give(self, pool):
         while pool.has_room() and self.given < self.ordered.next + WAITING * len(pool.workers):
-            batch = self.work.take(self.size(len(pool.workers)))
+            batch = self.work.take(self.size(pool))
             if not batch:
+                pool.finish()
                 return
             self.batches[self.given] = batch
             pool.give(self.given, batch)
             self.given += 1
 
-    def size(self, jobs):
-        """How many tries a batch has: as many as a worker does in a quarter of a second."""
-        return min(MOST, max(1, int(BATCH * self.progress.rate() / jobs)))
+    def size(self, pool):
+        """How many tries a batch has: as many as a worker does in the pool's seconds."""
+        return min(pool.MOST, max(pool.LEAST, int(pool.SECONDS * self.progress.rate() / len(pool.workers))))
 
     def collect(self, done):
         for one in done:
@@ -135,9 +135,9 @@ class Conductor:
 
     def collect_late(self, pool):
         """What is still done shortly after a stop, and what came before its turn."""
-        deadline = time.monotonic() + 4 * BATCH
+        deadline = time.monotonic() + 4 * TICK
         while self.batches.keys() - self.ordered.held.keys() and time.monotonic() < deadline:
-            self.collect(pool.wait(BATCH))
+            self.collect(pool.wait(TICK))
         for one in self.ordered.rest():
             self.take(one)
 

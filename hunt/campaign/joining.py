@@ -8,9 +8,9 @@ import sys
 
 from lib.searching import Refused
 
+from .command import outcomes_text
 from .conduct import Keeping
 from .store import NAME, open_folder
-from .trying import OUTCOMES
 
 
 def words(texts):
@@ -29,7 +29,7 @@ def join(given):
             keeping.store.join(str(Path(folder) / NAME))
             copy_finds(Path(folder), keeping.folder)
         counts = keeping.store.counts()
-    print("%d tries: %s" % (sum(counts), ", ".join("%d %s" % pair for pair in zip(counts, OUTCOMES))))
+    print(outcomes_text(counts))
     return 0
 
 

@@ -79,6 +79,8 @@ def tried(trier, number, tries):
 
 
 class Pool:
+    SECONDS, LEAST, MOST = 0.25, 1, 1000  # of a batch, and tries of one
+
     def __init__(self, campaign, jobs, scratch):
         self.campaign, self.scratch, self.started = campaign, scratch, 0
         self.tries, self.losses, self.again = {}, {}, deque()
@@ -106,6 +108,9 @@ class Pool:
             worker.pipe.send((number, self.tries[number]))
         except OSError:
             pass  # it has died, which wait() sees
+
+    def finish(self):
+        """No more batches come."""
 
     def wait(self, seconds):
         """The batches that were done within so many seconds, as a list of Done."""

@@ -33,6 +33,11 @@ def parser():
     p.add_argument("--resume", action="store_true", help="go on with the campaign in that folder")
     p.add_argument("--stop-after", type=int, metavar="K", help="stop after so many bad runs, the first ones of their order")
     p.add_argument("--sphere", type=int, metavar="N", help="the sphere that is judged (the first that is recorded)")
+    p.add_argument("--sshlogin", action="append", default=[], metavar="LOGIN", help="tries on another machine, by GNU parallel: [N/][USER@]HOST[:PORT],"
+                   " with N at once; : is this one; may be given again")
+    p.add_argument("--sshloginfile", action="append", default=[], metavar="FILE", help="a file of such logins, one to a line")
+    p.add_argument("--slurm", metavar="SCRIPT", help="try nothing, but write a script for sbatch that does: an array of tasks, each a part of the seeds")
+    p.add_argument("--tasks", type=int, default=100, metavar="N", help="so many tasks in that array (100)")
     p.add_argument("--most-events", type=int, metavar="N",
                    help="a run whose threads are live is tried with four times as many events, up to so many (16 times the plan's)")
     return p
@@ -51,6 +56,9 @@ def read(words):
         raise Refused("--stop-after is at least 1")
     if given.most_events is not None and not 0 <= given.most_events <= MOST_EVENTS:
         raise Refused("--most-events is at most %d" % MOST_EVENTS)
-    if given.resume and given.keep is None:
-        raise Refused("--resume needs --keep, the folder of the campaign")
+    for option in ("resume", "slurm"):
+        if getattr(given, option) and given.keep is None:
+            raise Refused("--%s needs --keep, the folder of the campaign" % option)
+    if not 1 <= given.tasks <= 10_000:
+        raise Refused("--tasks is 1 to 10000")
     return given

@@ -5,6 +5,7 @@ import importlib.machinery
 import importlib.util
 import io
 import os
+import random
 import re
 import shutil
 import signal
@@ -15,9 +16,15 @@ import unittest
 from pathlib import Path
 
 import support
-from campaign import plans, rates
+from campaign import far, machines, plans, rates
+from campaign.conduct import Conductor, Keeping, Stop
 from campaign.ends import console_sum, ended_of, threads_text
+from campaign.identity import Identity
+from campaign.pool import Done
+from campaign.program import Failed
+from campaign.progress import Progress
 from campaign.store import NAME, Store
+from campaign.trying import Campaign, Result
 from campaign.work import Ordered, Work
 from killing import kill_and_resume
 from lib.account import program
@@ -264,6 +271,96 @@ class Killed(Scratch):
             self.assertEqual(Path("%s/seed-%d.log" % (folder, seed)).read_bytes(), log)
         self.assertEqual(set(logs), {row[1] for row in rows_in(folder) if row[2] == "bad"})
         return logs
+
+
+class OtherMachines(unittest.TestCase):
+    def test_numbers(self):
+        for numbers, text in (([0], "0"), ([0, 1, 2, 5], "0-2,5"), ([3, 4, 9, 10, 12], "3-4,9-10,12")):
+            self.assertEqual((far.ranges_of(numbers), far.numbers_of(text)), (text, numbers))
+
+    def test_lines(self):
+        done = Done(7, [Result(1, 12000, 36, "ended:16", "", b"DLRN\0"), Result(0, 0, 3, "", "ab", None)], None)
+        line = far.line_of(7, done)
+        self.assertEqual(far.read_line(line), done)
+        for wrong in (line[:-1], line[:20], "", line.replace(" 7 ", " "), line[:-9] + "A" + line[-8:]):
+            self.assertIsNone(far.read_line(wrong), wrong)
+        failed = far.read_line(far.line_of(8, Done(8, [], Failed("refused plan 4"))))
+        self.assertEqual((failed.results, type(failed.failure), str(failed.failure)), ([], Failed, "refused plan 4"))
+
+    def test_logins(self):
+        found = [(login.slots, login.command[-1]) for login in machines.read_logins(["4/me@host:22,:", "host-2"], [])]
+        self.assertEqual(found, [(4, "me@host"), (None, "-c"), (None, "host-2")])
+        for wrong in ("a b", "-v", "-oProxyCommand=x", "$(x)", "host;x", "x/host", ""):
+            with self.assertRaises(Refused, msg=wrong):
+                machines.read_logins([wrong], [])
+
+
+class Cluster(machines.Machines):
+    """Stands in for ten thousand workers behind GNU parallel: batches come back in any order, a third of them is lost with its
+    worker, some come twice or cut off, and now and then parallel ends before its work does."""
+
+    SECONDS, LEAST, MOST = 0.25, 3, 3
+
+    def __init__(self, count, rng):
+        self.workers, self.rng, self.tries, self.read = range(count), rng, {}, b""
+        self.given, self.lost, self.twice, self.calls, self.process = [], 0, 0, 0, True
+        self.checker = self
+
+    def checked(self, tries, done):
+        return done.results, done.failure
+
+    def send(self, number):
+        self.given.append(number)
+
+    def finish(self):
+        pass
+
+    def wait(self, seconds):
+        if not self.given:
+            for number in sorted(self.tries):
+                self.send(number)
+        self.rng.shuffle(self.given)
+        taken, self.given = self.given[:2000], self.given[2000:]
+        return self.received(b"".join(map(self.line, taken)))
+
+    def line(self, number):
+        chance = self.rng.random()
+        results = [result_of_seed(setting, seed) for setting, seed in self.tries[number]]
+        line = far.line_of(number, Done(number, results, None)).encode() + b"\n"
+        if chance < 0.3:
+            self.lost += 1
+            return b"" if chance < 0.2 else line[: self.rng.randrange(len(line))] + b"\n"
+        self.twice += chance > 0.9
+        return line if chance < 0.9 else line + line
+
+
+def result_of_seed(setting, seed):
+    """What a simulated try comes to."""
+    is_bad = seed % 100 == 7
+    return Result(int(is_bad), 12000, seed % 90, "ended:%d" % setting, "", b"log %d %d" % (setting, seed) if is_bad else None)
+
+
+class TenThousandWorkers(Scratch):
+    LAST = 15_000
+
+    def test_nothing_is_lost_or_twice(self):
+        settings = [{"chunk": 16}, {"chunk": 32}]
+        plan = plans.Plan({"sphere": [{}]}, 0, "")
+        campaign = Campaign(["delorean"], plan, settings, [], 0)
+        progress = Progress(2 * self.LAST)
+        with contextlib.closing(Keeping("kept")) as keeping, contextlib.redirect_stdout(io.StringIO()):
+            keeping.open(Identity("", "", "", "0", "[]", "0"), {}, False)
+            keeping.keep = lambda *_: None
+            cluster = Cluster(10_000, random.Random(3))
+            Conductor(campaign, range(1, self.LAST + 1), keeping, progress, None, Stop()).conduct(cluster)
+            finds = dict(((setting, seed), log) for setting, seed, log in keeping.store.base.execute("select setting, seed, log from find"))
+        names = ["chunk=16", "chunk=32"]
+        wanted = [(names[setting], seed, *(("bad",) if seed % 100 == 7 else ("good",)), 12000, seed % 90, "ended:%d" % setting, "")
+                  for seed in range(1, self.LAST + 1) for setting in (0, 1)]
+        self.assertEqual(rows_in("kept"), wanted)
+        self.assertEqual(finds, {(s + 1, seed): b"log %d %d" % (s, seed) for s in (0, 1) for seed in range(7, self.LAST + 1, 100)})
+        self.assertGreater(min(cluster.lost, cluster.twice), 1000)
+        self.assertEqual(progress.counts, [2 * self.LAST - len(finds), len(finds), 0, 0])
 
 
 class Rates(unittest.TestCase):
