@@ -15,7 +15,7 @@ from .machines import Machines, read_logins
 from .pool import Pool
 from .program import Failed, Scratch, find_program
 from .progress import Progress
-from .trying import BAD, OUTCOMES, Campaign, condition_of
+from .trying import BAD, LIVE, OUTCOMES, Campaign, condition_of
 
 
 def campaign_of(given):
@@ -77,6 +77,8 @@ def tell(conductor, progress, given):
     if conductor.listed > LISTED:
         print("and %d more" % (conductor.listed - LISTED))
     print(outcomes_text(progress.counts))
+    if progress.counts[LIVE]:
+        print("live: threads could go on after %d events; --most-events gives more" % conductor.campaign.most_events)
     if conductor.had:
         print("with those of before: %s" % outcomes_text(conductor.store.counts()))
     if conductor.stop.is_set:

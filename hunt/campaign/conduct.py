@@ -17,6 +17,7 @@ from .work import Ordered, Work
 TICK = 0.25   # seconds that the command waits for results, at most
 WAITING = 64  # batches for each job that may wait for one before them
 LISTED = 20   # finds that are told one by one
+MOST_HELD = 10_000  # results that wait to be written, which is done once a second else
 
 
 class Stop:
@@ -129,7 +130,7 @@ class Conductor:
             self.ordered.put(one.number, one)
         for one in self.ordered.ready():
             self.take(one)
-        if time.monotonic() - self.written >= 1:
+        if time.monotonic() - self.written >= 1 or len(self.results) >= MOST_HELD:
             self.write()
         self.progress.show()
 

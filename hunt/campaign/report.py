@@ -56,13 +56,13 @@ def rates_text(rows):
 
 def needed_text(rate):
     if rate.bad == 0:
-        yield "no run failed: with 95%% a run fails in at most %s of cases" % percent(rate.high)
-        more = seeds_for(rate.high) if rate.high < 1 else None
-        if more:
-            yield "if one fails as often as that, %s are enough to meet it with 95%%" % counted(more, "further seed")
+        yield "no run failed; so, with 95%%, at most %s of runs do" % percent(rate.high)
+        if rate.high < 1:
+            yield "a failure that is as frequent as that is met by %s with 95%%" % counted(seeds_for(rate.high), "further seed")
     else:
-        yield "all together: %d of %d fail; with 95%% %s meet one, and at the lower end of the interval %d" % (
-            rate.bad, rate.tries, counted(seeds_for(rate.bad / rate.tries), "seed"), seeds_for(rate.low))
+        yield "all together: %d of %d runs failed" % (rate.bad, rate.tries)
+        yield "such a failure is met by %s with 95%%, and by %d if the rate is at the lower end of its interval" % (
+            counted(seeds_for(rate.bad / rate.tries), "seed"), seeds_for(rate.low))
 
 
 # ---------------------------------------------------------------- bugs

@@ -66,7 +66,7 @@ class Trier:
             result = self.tried_once(number, seed, events)
             if result is not None:
                 return result
-            events = min(events * MORE, self.campaign.most_events)
+            events = min(max(events, 1) * MORE, self.campaign.most_events)
 
     def tried_once(self, number, seed, events):
         """None if it is to be tried with more events."""

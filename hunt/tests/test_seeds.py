@@ -229,6 +229,19 @@ class Campaigns(Scratch):
         status, text = said("plan.toml", "--bad", "fault", "--keep", "kept", "--resume")
         self.assertEqual((status, text), (2, "seeds: the campaign in kept has other conditions\n"))
 
+    def test_stopped(self):
+        self.copy(RACE / "plan.toml", RACE / "race.elf")
+        words = [sys.executable, SEEDS, "plan.toml", "--bad", COUNT_IS_WRONG, "--seeds", "1-100000", "--keep", "kept", "--jobs", "2"]
+        with subprocess.Popen(words, stdout=subprocess.PIPE, text=True) as command:
+            self.assertIn("seed 3: bad", command.stdout.readline())
+            command.send_signal(signal.SIGINT)
+            text = command.stdout.read()
+        self.assertEqual(command.returncode, 130, text)
+        done = len(self.kept())
+        self.assertIn("%d tries: " % done, text)
+        self.assertIn("stopped; --resume goes on from here\n", text)
+        self.assertGreaterEqual(done, 3)
+
     def test_refused(self):
         self.copy(RACE / "plan.toml", RACE / "race.elf")
         for words, why in (
@@ -474,6 +487,31 @@ class Joins(Scratch):
         store.close()
         self.assertEqual(said("join", "a", "c"), (2, "seeds join: seed 3 ended otherwise in the other campaign\n"))
         self.assertEqual(rows_in("a")[0][4], 36)
+
+
+@unittest.skipUnless(support.can_walk() and HAS_COMPILER, NO_COMPILER)
+class Guide(Scratch):
+    """What seeds.md shows in examples/race comes out. Source lines are there only with pyelftools, and are passed over."""
+
+    def test_commands(self):
+        self.copy(RACE / "plan.toml", RACE / "race.elf")
+        text = (support.TOP / "hunt/seeds.md").read_text()
+        blocks = re.findall(r"(?:^    .*\n|^\n(?=    ))+", text, re.M)
+        shown = [part for block in blocks for part in re.split(r"^    \$ ", block, flags=re.M)[1:]]
+        self.assertEqual(len(shown), 4)
+        for part in shown:
+            command, _, output = part.partition("\n")
+            lines = [line.removeprefix("    ") for line in output.rstrip("\n").split("\n")]
+            with self.subTest(command):
+                self.assertEqual(self.compared(self.printed(command)), self.compared(lines))
+
+    def printed(self, command):
+        script = 'delorean() { %s "$@"; }\n%s\n' % (" ".join(program()), command.replace("../../hunt", str(support.TOP / "hunt")))
+        return subprocess.run(["sh", "-c", script], capture_output=True, text=True).stdout.rstrip("\n").split("\n")
+
+    @staticmethod
+    def compared(lines):
+        return [re.sub(r"(a thread is left before \w+), .*", r"\1", line) for line in lines]
 
 
 if __name__ == "__main__":
