@@ -1,6 +1,6 @@
-"""Finds put together to bugs: `Grouping(..).bugs(finds)`. One find of each end is shrunk first, then a second one of each, and so on.
-Two finds are of the same bug if the forced switches of their shrunk logs come at the same places, before accesses to the same
-variables. A find whose switches are those of a smaller one and more counts as that bug."""
+"""Finds put together to bugs: `Grouping(..).bugs(finds)`. One find of each end is shrunk first, then a second one of each, and so
+on. Two finds are of the same bug if the forced switches of their shrunk logs come at the same places, before accesses to the
+same variables. A find whose switches are those of a smaller one and more counts as that bug."""
 
 from collections import defaultdict, namedtuple
 from contextlib import closing
@@ -38,7 +38,8 @@ class Grouping:
         self.condition = condition
 
     def judge(self, find):
-        return Judge(self.sphere["image"], str(self.sphere["memory"]), self.conditions.get(find.outcome, self.condition))
+        condition = self.conditions.get(find.outcome, self.condition)
+        return Judge(self.sphere["image"], str(self.sphere["memory"]), condition)
 
     def bugs(self, finds):
         """(bugs, finds that weren't shrunk in time)."""
@@ -83,7 +84,8 @@ class Grouping:
 
     def engine(self, find, log, answers):
         options = Options(find.seed, self.input_name, version=log.version)
-        return Engine(self.image, self.conditions.get(find.outcome, self.condition), options, answers, [data for _, data in log.dmas])
+        condition = self.conditions.get(find.outcome, self.condition)
+        return Engine(self.image, condition, options, answers, [data for _, data in log.dmas])
 
 
 def is_same(least, shrunk):

@@ -1,5 +1,5 @@
-"""What a machine needs for its tries, in one archive: `Bundle(campaign)`. It has the program's file, the files that the plan reads,
-and the Python of this command; the sum of all names the folder in which a machine keeps it."""
+"""What a machine needs for its tries, in one archive: `Bundle(campaign)`. It has the program's file, the files that the plan
+reads, and the Python of this command. The sum of all names the folder in which a machine keeps it."""
 
 import hashlib
 import io

@@ -2,6 +2,7 @@
 
 import contextlib
 from pathlib import Path
+import sqlite3
 import sys
 
 from lib.conditions import BadCondition
@@ -69,7 +70,8 @@ def workers(campaign, given, total, scratch):
 
 
 def outcomes_text(counts):
-    return "%s: %s" % ("1 try" if sum(counts) == 1 else "%d tries" % sum(counts), ", ".join("%d %s" % pair for pair in zip(counts, OUTCOMES)))
+    tries = "1 try" if sum(counts) == 1 else "%d tries" % sum(counts)
+    return "%s: %s" % (tries, ", ".join("%d %s" % pair for pair in zip(counts, OUTCOMES)))
 
 
 def tell(conductor, progress, given):
@@ -88,7 +90,7 @@ def tell(conductor, progress, given):
 def main(texts):
     try:
         return conduct(words.read(texts))
-    except (BadCondition, Failed, OSError, Refused) as error:
+    except (BadCondition, Failed, OSError, Refused, sqlite3.Error) as error:
         print("seeds: %s" % error, file=sys.stderr)
         return 2
     except Differs as error:

@@ -86,7 +86,7 @@ def write_whole(name, data):
 
 
 class Conductor:
-    """workers: a Pool, or what is like one. seeds: a range. stop_after: bad ends, or None."""
+    """seeds: a range. stop_after: how many bad runs are enough, or None."""
 
     def __init__(self, campaign, seeds, keeping, progress, stop_after, stop):
         self.campaign, self.keeping, self.progress, self.stop = campaign, keeping, progress, stop
@@ -160,7 +160,8 @@ class Conductor:
         self.results.append((self.names[number], seed, result))
         self.progress.count(result.outcome)
         if result.outcome in (BAD, HUNG):
-            self.tell(self.names[number], seed, result, self.keeping.keep(self.campaign.plan, self.campaign.settings[number], seed, result))
+            log = self.keeping.keep(self.campaign.plan, self.campaign.settings[number], seed, result)
+            self.tell(self.names[number], seed, result, log)
         self.bad += result.outcome == BAD
         if self.stop_after and self.bad >= self.stop_after:
             self.is_over = True

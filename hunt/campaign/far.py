@@ -1,7 +1,7 @@
-"""A batch of tries on another machine: `python3 -m campaign.far TRIES` in a bundle's folder prints one line, which read_line reads.
+"""A batch of tries on another machine: `python3 -m campaign.far BATCH SEED TRIES` in a bundle's folder prints one line, which
+read_line reads. The line has a sum, so that half a line isn't taken for one.
 
-TRIES are the numbers of tries in their order, as `0-99,120`: with s settings, number s * k + j is the first seed and k with the
-setting j. The line has a sum, so that half a line isn't taken for one."""
+TRIES are the numbers of tries, as `0-99,120`. With s settings, number s * k + j is seed SEED + k with setting j."""
 
 import base64
 import hashlib

@@ -4,6 +4,7 @@ import argparse
 import contextlib
 from pathlib import Path
 import shutil
+import sqlite3
 import sys
 
 from lib.searching import Refused
@@ -23,6 +24,8 @@ def words(texts):
 def join(given):
     with contextlib.closing(Keeping(given.into)) as keeping:
         for folder in given.folders:
+            if Path(folder).resolve() == keeping.folder.resolve():
+                raise Refused("%s can't be joined to itself" % folder)
             with contextlib.closing(open_folder(folder)) as other:
                 identity, values = other.identity(), other.values()
             keeping.open(identity, values, True)
@@ -42,6 +45,6 @@ def copy_finds(source, into):
 def main(texts):
     try:
         return join(words(texts))
-    except (Refused, OSError) as error:
+    except (Refused, OSError, sqlite3.Error) as error:
         print("seeds join: %s" % error, file=sys.stderr)
         return 2

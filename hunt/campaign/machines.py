@@ -1,4 +1,4 @@
-"""Tries on other machines, by GNU parallel: `Machines(..)` is used as a Pool is.
+"""Tries on other machines, by GNU parallel: `Machines(..)` is used like a Pool.
 
 A machine gets a bundle once, by ssh, and then batches. parallel gives a batch whose machine has died to another one. What no
 machine came to the end of is given again, in a new call of parallel."""
@@ -23,7 +23,8 @@ from .program import Runner
 from .trying import BAD, HUNG, condition_of
 
 # A machine that doesn't answer for ten seconds is taken for dead. PARALLEL_SSH is parallel's own name for another command.
-SSH = os.environ.get("PARALLEL_SSH") or "ssh -o BatchMode=yes -o ConnectTimeout=10 -o ServerAliveInterval=5 -o ServerAliveCountMax=2"
+ALIVE = "-o ConnectTimeout=10 -o ServerAliveInterval=5 -o ServerAliveCountMax=2"
+SSH = os.environ.get("PARALLEL_SSH") or "ssh -o BatchMode=yes " + ALIVE
 RETRIES = 3  # of a batch, by parallel, each on a machine on which it hasn't failed
 CALLS = 4    # of parallel, for batches that aren't done
 FOLDER = "$HOME/.cache/delorean-seeds"
@@ -36,7 +37,10 @@ if [ ! -d "$folder" ]; then
 else
     cat >/dev/null
 fi
-command -v python3 >/dev/null || {{ echo "there is no python3" >&2; exit 1; }}
+python3 -c 'import tomllib' || {{ echo "there is no python3, or it is older than 3.11" >&2; exit 1; }}
+status=0
+"$folder/delorean" >/dev/null || status=$?
+[ "$status" -eq 2 ] || {{ echo "the program doesn't run there" >&2; exit 1; }}
 nproc
 """
 
@@ -104,14 +108,14 @@ class Machines:
     def words(self):
         logins = ["%d/%s" % (count, re.sub("^[0-9]+/", "", text)) for text, count in self.slots.items()]
         run = "cd %s/%s && exec python3 -m campaign.far" % (FOLDER, self.bundle.sum)
-        words = ["parallel", "--will-cite", "--no-notice", "--plain", "--line-buffer", "--colsep", " ", "--retries", str(RETRIES), "--ssh", SSH]
+        words = ["parallel", "--will-cite", "--plain", "--line-buffer", "--colsep", " ", "--retries", str(RETRIES), "--ssh", SSH]
         words += ["--joblog", "+" + str(self.joblog)] if self.joblog else []
         return [*words, "--sshlogin", ",".join(logins), run + " {1} {2} {3}"]
 
     def call(self):
         self.calls += 1
-        self.process = subprocess.Popen(self.words(), stdin=subprocess.PIPE, stdout=subprocess.PIPE, stderr=subprocess.DEVNULL,
-                                        start_new_session=True)
+        pipes = {"stdin": subprocess.PIPE, "stdout": subprocess.PIPE, "stderr": subprocess.DEVNULL}
+        self.process = subprocess.Popen(self.words(), start_new_session=True, **pipes)
         os.set_blocking(self.process.stdout.fileno(), False)
 
     def send(self, number):
@@ -123,7 +127,7 @@ class Machines:
         except (BrokenPipeError, ValueError):
             pass  # it is over; the batch is given to the next call
 
-    # ------------------------------------------------------------ as a Pool
+    # ------------------------------------------------------------ like a Pool
 
     def has_room(self):
         return len(self.tries) < 3 * len(self.workers)

@@ -9,6 +9,7 @@ from multiprocessing import connection
 import os
 import signal
 
+from lib.account import NotWalked
 from lib.judge import Differs
 from lib.searching import Refused
 
@@ -50,7 +51,7 @@ def close_all_but(*kept):
 
 
 def work(campaign, folder, pipe):
-    """What a worker does until its pipe is closed; it ends the process."""
+    """What a worker does until its pipe is closed. It ends the process."""
     signal.signal(signal.SIGINT, signal.SIG_IGN)
     signal.signal(signal.SIGTERM, signal.SIG_DFL)
     try:
@@ -75,6 +76,8 @@ def tried(trier, number, tries):
             results.append(trier.tried(setting, seed))
     except (Failed, Differs, Refused) as error:
         return Done(number, results, error)
+    except (NotWalked, OSError) as error:
+        return Done(number, results, Refused(str(error.args[0] if isinstance(error, NotWalked) else error)))
     return Done(number, results, None)
 
 
@@ -133,7 +136,8 @@ class Pool:
         for number in worker.batches:
             self.losses[number] = self.losses.get(number, 0) + 1
             if self.losses[number] == LOSSES:
-                raise Refused("%d workers died, one after another, in the tries from seed %d on" % (LOSSES, self.tries[number][0][1]))
+                first = self.tries[number][0][1]
+                raise Refused("%d workers died, one after another, in the tries from seed %d on" % (LOSSES, first))
             self.send(number)
 
     def close(self):

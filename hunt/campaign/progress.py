@@ -21,7 +21,8 @@ class Progress:
         return self.done / max(time.monotonic() - self.started, 1e-9)
 
     def line(self):
-        words = ["%s of %s tries" % (format(self.done, ","), format(self.total, ",")), "%s a second" % format(round(self.rate()), ",")]
+        words = ["%s of %s tries" % (format(self.done, ","), format(self.total, ","))]
+        words.append("%s a second" % format(round(self.rate()), ","))
         words += ["%s %s" % (format(self.counts[outcome], ","), OUTCOMES[outcome])
                   for outcome in (BAD, HUNG, LIVE) if self.counts[outcome]]
         if self.done:

@@ -5,8 +5,10 @@ from collections import Counter
 import contextlib
 import json
 from pathlib import Path
+import sqlite3
 import sys
 
+from lib.account import NotWalked
 from lib.conditions import BadCondition
 from lib.engine import NoEngine
 from lib.judge import Differs
@@ -39,8 +41,8 @@ def rate_lines(rates):
     for rate in rates:
         share = percent(rate.bad / rate.tries) if rate.tries else "-"
         needed = seeds_for(rate.bad / rate.tries if rate.tries else 0)
-        yield [rate.name or "the plan's", str(rate.tries), str(rate.bad), share, "%s to %s" % (percent(rate.low), percent(rate.high)),
-               str(needed) if needed else "-"]
+        interval = "%s to %s" % (percent(rate.low), percent(rate.high))
+        yield [rate.name or "the plan's", str(rate.tries), str(rate.bad), share, interval, str(needed or "-")]
 
 
 def rates_text(rows):
@@ -133,7 +135,10 @@ def main(texts):
     except NoEngine as error:
         print("seeds report: finds aren't put together: %s" % error, file=sys.stderr)
         return 2
-    except (BadCondition, Refused, OSError) as error:
+    except NotWalked as error:
+        print("seeds report: the walk failed: %s" % error.args[0], file=sys.stderr)
+        return 2
+    except (BadCondition, Refused, OSError, sqlite3.Error) as error:
         print("seeds report: %s" % error, file=sys.stderr)
         return 2
     except Differs as error:

@@ -1,7 +1,7 @@
 """Moves the forced switches of a shrunk run to where they are earliest: `slid(engine, turns, deadline)`.
 
-A race leaves a gap of some instructions, and any switch within it does. So two finds of one race are shrunk to switches at different
-places of the gap; its first place tells them to be the same."""
+A race leaves a gap of some instructions, and a switch anywhere in it does. So two finds of one race may be shrunk to switches at
+different places of the gap, and its first place shows that they are the same."""
 
 import time
 
@@ -35,8 +35,8 @@ def forced(turns):
 
 
 def earliest(engine, turns, place, deadline):
-    """The turns with the one at this place shorter, step by step, for as long as they end badly: the other end of a gap may be that
-    of another bug. What the turn doesn't do, its thread does in its next one."""
+    """The turns with the one at this place shorter, step by step, for as long as they end badly. Before the gap there may be
+    another one, of another bug, and that isn't looked for. What the turn doesn't do, its thread does in its next one."""
     later = next((other for other in neighbours(turns, place) if other > place), None)
     while later is not None and turns[place].steps > 1 and time.monotonic() < deadline:
         tried = list(turns)

@@ -1,4 +1,4 @@
-"""A script for `sbatch`: an array of tasks, each of which is a campaign of its own with a part of the seeds, in a folder of its own.
+"""A script for `sbatch`: an array of tasks, each of which is a campaign with a part of the seeds, in a folder of its own.
 
 A task that Slurm begins again, because its machine has died, goes on where it was. `hunt/seeds join` puts the parts together."""
 
@@ -31,9 +31,10 @@ def script_of(given):
     each = -(-len(given.seeds) // tasks)
     tasks = -(-len(given.seeds) // each)
     keep, seeds = shlex.quote(given.keep), shlex.quote(str(Path(sys.argv[0]).resolve()))
-    return SCRIPT.format(last_task=tasks - 1, jobs=given.jobs, output=shlex.quote(given.keep + "/part-%a.txt"), folder=shlex.quote(str(Path.cwd())),
-                         first=given.seeds[0], last=given.seeds[-1], each=each, keep=keep, command=" ".join([seeds, *map(shlex.quote, words_of(given))]),
-                         join="%s join %s %s/part-*/" % (seeds, keep, keep))
+    command = " ".join([seeds, *map(shlex.quote, words_of(given))])
+    return SCRIPT.format(last_task=tasks - 1, jobs=given.jobs, output=shlex.quote(given.keep + "/part-%a.txt"),
+                         folder=shlex.quote(str(Path.cwd())), first=given.seeds[0], last=given.seeds[-1], each=each, keep=keep,
+                         command=command, join="%s join %s %s/part-*/" % (seeds, keep, keep))
 
 
 def words_of(given):

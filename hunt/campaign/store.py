@@ -33,7 +33,8 @@ insert or ignore into setting (text) select text from other.setting order by id;
 insert or ignore into threads (text) select text from other.threads order by id;
 insert or ignore into console (sum) select sum from other.console order by id;
 create temp view if not exists theirs as
-    select main.setting.id as setting, t.seed, t.outcome, t.events, t.commits, main.threads.id as threads, main.console.id as console
+    select main.setting.id as setting, t.seed, t.outcome, t.events, t.commits, main.threads.id as threads,
+           main.console.id as console
     from other.try t join other.setting s on s.id = t.setting join main.setting on main.setting.text = s.text
                      join other.threads e on e.id = t.threads join main.threads on main.threads.text = e.text
                      join other.console c on c.id = t.console join main.console on main.console.sum = c.sum;
@@ -46,6 +47,13 @@ select main.setting.text, theirs.seed from theirs join main.setting on main.sett
     join main.try mine on mine.setting = theirs.setting and mine.seed = theirs.seed
     where (mine.outcome, mine.events, mine.commits, mine.threads, mine.console)
        <> (theirs.outcome, theirs.events, theirs.commits, theirs.threads, theirs.console) limit 1
+"""
+FINDS = """
+select t.* from try u join setting s on s.id = u.setting join tries t on t.setting = s.text and t.seed = u.seed
+    where u.outcome in (%s) order by u.seed, s.id
+"""
+RATES = """
+select s.text, sum(outcome <> ?), sum(outcome = ?) from try t join setting s on s.id = t.setting group by s.id order by s.id
 """
 NAME = "campaign.sqlite"
 
@@ -69,7 +77,8 @@ class Store:
         """Makes the tables of a new campaign."""
         self.is_new = False
         self.base.executescript("begin immediate;" + SCHEMA)
-        self.base.executemany("insert into campaign values (?, ?)", [*identity._asdict().items(), ("values", json.dumps(values))])
+        facts = [*identity._asdict().items(), ("values", json.dumps(values))]
+        self.base.executemany("insert into campaign values (?, ?)", facts)
         self.base.execute("commit")
 
     def identity(self):
@@ -116,7 +125,8 @@ class Store:
         finally:
             self.base.execute("detach other")
         if differing:
-            raise Refused("seed %d%s ended otherwise in the other campaign" % (differing[1], differing[0] and ", " + differing[0]))
+            setting, seed = differing
+            raise Refused("seed %d%s ended otherwise in the other campaign" % (seed, setting and ", " + setting))
 
     # ------------------------------------------------------------ reading
 
@@ -128,8 +138,9 @@ class Store:
 
     def count(self, settings, seeds):
         """How many of the seeds were tried with these settings."""
-        return sum(self.base.execute("select count(*) from try where setting = (select id from setting where text = ?)"
-                                     " and seed between ? and ?", (setting, seeds[0], seeds[-1])).fetchone()[0] for setting in settings)
+        ids = dict(self.base.execute("select text, id from setting"))
+        counted = "select count(*) from try where setting = ? and seed between ? and ?"
+        return sum(self.base.execute(counted, (ids.get(setting), seeds[0], seeds[-1])).fetchone()[0] for setting in settings)
 
     def counts(self):
         """How many tries came to each outcome."""
@@ -138,8 +149,7 @@ class Store:
 
     def rates(self):
         """(setting, tries that came to an end, bad ones)."""
-        return list(self.base.execute("select s.text, sum(outcome <> ?), sum(outcome = ?) from try t join setting s on s.id = t.setting"
-                                      " group by s.id order by s.id", (LIVE, BAD)))
+        return list(self.base.execute(RATES, (LIVE, BAD)))
 
     def seeds(self):
         """The first and the last seed that was tried."""
@@ -147,8 +157,7 @@ class Store:
 
     def finds(self, outcomes=(BAD, HUNG)):
         marks = ",".join(map(str, outcomes))
-        rows = self.base.execute("select t.* from tries t join setting s on s.text = t.setting join try u on u.setting = s.id"
-                                 " and u.seed = t.seed where u.outcome in (%s) order by t.seed, s.id" % marks)
+        rows = self.base.execute(FINDS % marks)
         return [Find(*row) for row in rows]
 
     def log(self, setting, seed):

@@ -1,163 +1,22 @@
 """Campaigns find what the seeds have, each seed once, however many work at it; and what they keep was walked."""
 
 import contextlib
-import importlib.machinery
-import importlib.util
-import io
 import os
-import random
 import re
 import shutil
 import signal
 import subprocess
 import sys
-import tempfile
 import unittest
 from pathlib import Path
 
 import support
-from campaign import far, machines, plans, rates
-from campaign.conduct import Conductor, Keeping, Stop
-from campaign.ends import console_sum, ended_of, threads_text
-from campaign.identity import Identity
-from campaign.pool import Done
-from campaign.program import Failed
-from campaign.progress import Progress
 from campaign.store import NAME, Store
-from campaign.trying import Campaign, Result
-from campaign.work import Ordered, Work
+from campaigns import COUNT_IS_WRONG, HAS_COMPILER, NO_COMPILER, NOT_BUILT, RACE, SEEDS, SLEEP, Scratch, rows_in, said
 from killing import kill_and_resume
 from lib.account import program
-from lib.conditions import Ended
-from lib.searching import Refused
 
-
-
-def load(name):
-    """A command of hunt/ as a module."""
-    loader = importlib.machinery.SourceFileLoader("hunt_" + name, str(support.TOP / "hunt" / name))
-    module = importlib.util.module_from_spec(importlib.util.spec_from_loader(loader.name, loader))
-    loader.exec_module(module)
-    return module
-
-
-RACE, SLEEP = support.TOP / "examples/race", support.TOP / "hunt/examples/sleep"
-SEEDS = support.TOP / "hunt/seeds"
-COUNT_IS_WRONG = "exit 0 != 0"
 BAD_SEEDS = [3, 9, 51]  # of the race's plan, up to 51, as a loop over `delorean run` finds them
-SEEDS_COMMAND = load("seeds")
-HAS_COMPILER = shutil.which(os.environ.get("CC", "cc")) is not None
-NO_COMPILER = "hangs and bugs, since there is no C compiler"
-NOT_BUILT = "campaigns, since the proved program isn't built"
-
-
-def said(*words):
-    """What the command ends with, and says on both outputs."""
-    out = io.StringIO()
-    main = SEEDS_COMMAND.main
-    with contextlib.redirect_stdout(out), contextlib.redirect_stderr(out):
-        status = main([str(word) for word in words])
-    return status, out.getvalue()
-
-
-def rows_in(folder):
-    """Setting, seed, outcome, events, commits, threads and console of each try."""
-    with contextlib.closing(Store(str(Path(folder) / NAME))) as store:
-        return list(store.base.execute("select * from tries order by seed, setting"))
-
-
-class Scratch(unittest.TestCase):
-    def setUp(self):
-        folder = tempfile.TemporaryDirectory()
-        self.addCleanup(folder.cleanup)
-        self.folder = Path(folder.name)
-        self.addCleanup(os.chdir, os.getcwd())
-        for number in signal.SIGINT, signal.SIGTERM:
-            self.addCleanup(signal.signal, number, signal.getsignal(number))
-        os.chdir(self.folder)
-
-    def copy(self, *files, **changes):
-        """Copies of files, the plan among them with other values."""
-        for file in files:
-            shutil.copy(file, self.folder)
-        text = Path("plan.toml").read_text()
-        for key, value in changes.items():
-            text = re.sub("^%s = .*" % key, "%s = %s" % (key, value), text, flags=re.M)
-        Path("plan.toml").write_text(text)
-
-
-class Plans(Scratch):
-    def test_ranges(self):
-        self.assertEqual(plans.read_range("1-4", "x"), range(1, 5))
-        self.assertEqual(plans.read_range("7", "x"), range(7, 8))
-        for wrong in ("", "4-1", "-1", "1-", "a", "1-2-3", "9223372036854775808"):
-            with self.assertRaises(Refused, msg=wrong):
-                plans.read_range(wrong, "x")
-
-    def test_settings(self):
-        varied = plans.read_varied(["chunk=16,32", "cores=1-3"])
-        names = [plans.setting_name(setting) for setting in plans.settings_of(varied)]
-        self.assertEqual(names, ["chunk=%d cores=%d" % (chunk, cores) for chunk in (16, 32) for cores in (1, 2, 3)])
-        self.assertEqual(plans.settings_of([]), [{}])
-        for wrong in (["speed=1"], ["chunk=1", "chunk=2"], ["chunk="], ["seed=1-400000"], ["events=1-400000"]):
-            with self.assertRaises(Refused, msg=wrong):
-                plans.settings_of(plans.read_varied(wrong))
-
-    def test_no_name_of_the_plan_is_written(self):
-        self.copy(RACE / "plan.toml")
-        plan = plans.read_plan("plan.toml")
-        text = plans.toml(plans.tried(plan, {"chunk": 16}, 500, "/there"))
-        self.assertEqual(sorted(re.findall(r'"(.*)"', text)),
-                         ["/there/account", "/there/log", "/there/report", "order-size", "race.elf", "record"])
-        self.assertIn("chunk = 16\n", text)
-        self.assertIn("events = 500\n", text)
-
-    def test_text_is_read_as_it_was(self):
-        Path("odd.toml").write_text('a = "x\\"\\\\\\n\\u0001"\n"k k" = 1\n[[sphere]]\nrole = "record"\nimage = "ä.elf"\n')
-        values = plans.read_plan("odd.toml").values
-        import tomllib
-
-        self.assertEqual(tomllib.loads(plans.toml(values)), values)
-
-    def test_plan_that_records_nothing(self):
-        Path("plain.toml").write_text('cores = 1\n[[sphere]]\nrole = "plain"\n')
-        with self.assertRaisesRegex(Refused, "no sphere of the plan is recorded"):
-            plans.read_plan("plain.toml")
-
-
-class Ends(unittest.TestCase):
-    def test_as_the_whole_account_tells(self):
-        for recorded in support.recorded():
-            account = recorded.account.read_bytes()
-            whole = Ended(account)
-            if not whole.is_complete:
-                continue
-            ended = ended_of(account, sorted(whole.rows))
-            self.assertEqual((ended.threads, ended.console, ended.rows, ended.commits, True),
-                             (whole.threads, whole.console, whole.rows, whole.commits, ended.is_complete), recorded.name)
-            self.assertEqual(bool(console_sum(ended)), bool(whole.console))
-            self.assertEqual(len(threads_text(ended).split()), len(whole.threads))
-
-
-class Orders(unittest.TestCase):
-    def test_what_comes_late_is_waited_for(self):
-        ordered = Ordered()
-        ordered.put(1, "b")
-        self.assertEqual(list(ordered.ready()), [])
-        ordered.put(0, "a")
-        ordered.put(3, "d")
-        self.assertEqual(list(ordered.ready()), ["a", "b"])
-        self.assertEqual(list(ordered.rest()), ["d"])
-
-    def test_work_leaves_out_what_was_done(self):
-        class Had:
-            def done(self, name, first, last):
-                return {seed for seed in {"": {2, 3}, "x": {5}}[name] if first <= seed <= last}
-
-        work = Work(range(1, 6), ["", "x"], Had())
-        self.assertEqual(work.take(3), [(0, 1), (1, 1), (1, 2)])
-        self.assertEqual(work.take(100), [(1, 3), (0, 4), (1, 4), (0, 5)])
-        self.assertEqual(work.take(1), [])
 
 
 @unittest.skipUnless(support.can_walk(), NOT_BUILT)
@@ -189,9 +48,10 @@ class Campaigns(Scratch):
     def test_stops_after_the_first_of_the_order(self):
         self.copy(RACE / "plan.toml", RACE / "race.elf")
         for jobs in 1, 3:
-            status, text = said("plan.toml", "--bad", COUNT_IS_WRONG, "--jobs", jobs, "--stop-after", 2, "--keep", "kept%d" % jobs)
+            folder = "kept-%d" % jobs
+            status, text = said("plan.toml", "--bad", COUNT_IS_WRONG, "--jobs", jobs, "--stop-after", 2, "--keep", folder)
             self.assertIn("9 tries: 7 good, 2 bad", text)
-            self.assertEqual([row[1] for row in self.kept("kept%d" % jobs)], list(range(1, 10)))
+            self.assertEqual([row[1] for row in self.kept(folder)], list(range(1, 10)))
 
     def test_more_events_where_there_are_too_few(self):
         self.copy(RACE / "plan.toml", RACE / "race.elf", events=3000)
@@ -213,7 +73,8 @@ class Campaigns(Scratch):
 
     def test_varied(self):
         self.copy(RACE / "plan.toml", RACE / "race.elf")
-        said("plan.toml", "--bad", COUNT_IS_WRONG, "--seeds", "1-3", "--vary", "chunk=16,32", "--vary", "depth=1-2", "--keep", "kept")
+        varied = "--vary", "chunk=16,32", "--vary", "depth=1-2"
+        said("plan.toml", "--bad", COUNT_IS_WRONG, "--seeds", "1-3", *varied, "--keep", "kept")
         names = ["chunk=%d depth=%d" % (chunk, depth) for chunk in (16, 32) for depth in (1, 2)]
         self.assertEqual([row[:2] for row in self.kept()], [(name, seed) for seed in (1, 2, 3) for name in names])
         self.assertIn(("chunk=32 depth=1", 3, "bad", 12000, "ended:16 ended:0 ended:1"), self.kept())
@@ -231,8 +92,8 @@ class Campaigns(Scratch):
 
     def test_stopped(self):
         self.copy(RACE / "plan.toml", RACE / "race.elf")
-        words = [sys.executable, SEEDS, "plan.toml", "--bad", COUNT_IS_WRONG, "--seeds", "1-100000", "--keep", "kept", "--jobs", "2"]
-        with subprocess.Popen(words, stdout=subprocess.PIPE, text=True) as command:
+        words = "plan.toml", "--bad", COUNT_IS_WRONG, "--seeds", "1-100000", "--keep", "kept", "--jobs", "2"
+        with subprocess.Popen([sys.executable, SEEDS, *words], stdout=subprocess.PIPE, text=True) as command:
             self.assertIn("seed 3: bad", command.stdout.readline())
             command.send_signal(signal.SIGINT)
             text = command.stdout.read()
@@ -286,118 +147,8 @@ class Killed(Scratch):
         return logs
 
 
-class OtherMachines(unittest.TestCase):
-    def test_numbers(self):
-        for numbers, text in (([0], "0"), ([0, 1, 2, 5], "0-2,5"), ([3, 4, 9, 10, 12], "3-4,9-10,12")):
-            self.assertEqual((far.ranges_of(numbers), far.numbers_of(text)), (text, numbers))
-
-    def test_lines(self):
-        done = Done(7, [Result(1, 12000, 36, "ended:16", "", b"DLRN\0"), Result(0, 0, 3, "", "ab", None)], None)
-        line = far.line_of(7, done)
-        self.assertEqual(far.read_line(line), done)
-        for wrong in (line[:-1], line[:20], "", line.replace(" 7 ", " "), line[:-9] + "A" + line[-8:]):
-            self.assertIsNone(far.read_line(wrong), wrong)
-        failed = far.read_line(far.line_of(8, Done(8, [], Failed("refused plan 4"))))
-        self.assertEqual((failed.results, type(failed.failure), str(failed.failure)), ([], Failed, "refused plan 4"))
-
-    def test_logins(self):
-        found = [(login.slots, login.command[-1]) for login in machines.read_logins(["4/me@host:22,:", "host-2"], [])]
-        self.assertEqual(found, [(4, "me@host"), (None, "-c"), (None, "host-2")])
-        for wrong in ("a b", "-v", "-oProxyCommand=x", "$(x)", "host;x", "x/host", ""):
-            with self.assertRaises(Refused, msg=wrong):
-                machines.read_logins([wrong], [])
-
-
-class Cluster(machines.Machines):
-    """Stands in for ten thousand workers behind GNU parallel: batches come back in any order, a third of them is lost with its
-    worker, some come twice or cut off, and now and then parallel ends before its work does."""
-
-    SECONDS, LEAST, MOST = 0.25, 3, 3
-
-    def __init__(self, count, rng):
-        self.workers, self.rng, self.tries, self.read = range(count), rng, {}, b""
-        self.given, self.lost, self.twice, self.calls, self.process = [], 0, 0, 0, True
-        self.checker = self
-
-    def checked(self, tries, done):
-        return done.results, done.failure
-
-    def send(self, number):
-        self.given.append(number)
-
-    def finish(self):
-        pass
-
-    def wait(self, seconds):
-        if not self.given:
-            for number in sorted(self.tries):
-                self.send(number)
-        self.rng.shuffle(self.given)
-        taken, self.given = self.given[:2000], self.given[2000:]
-        return self.received(b"".join(map(self.line, taken)))
-
-    def line(self, number):
-        chance = self.rng.random()
-        results = [result_of_seed(setting, seed) for setting, seed in self.tries[number]]
-        line = far.line_of(number, Done(number, results, None)).encode() + b"\n"
-        if chance < 0.3:
-            self.lost += 1
-            return b"" if chance < 0.2 else line[: self.rng.randrange(len(line))] + b"\n"
-        self.twice += chance > 0.9
-        return line if chance < 0.9 else line + line
-
-
-def result_of_seed(setting, seed):
-    """What a simulated try comes to."""
-    is_bad = seed % 100 == 7
-    return Result(int(is_bad), 12000, seed % 90, "ended:%d" % setting, "", b"log %d %d" % (setting, seed) if is_bad else None)
-
-
-class TenThousandWorkers(Scratch):
-    LAST = 15_000
-
-    def test_nothing_is_lost_or_twice(self):
-        settings = [{"chunk": 16}, {"chunk": 32}]
-        plan = plans.Plan({"sphere": [{}]}, 0, "")
-        campaign = Campaign(["delorean"], plan, settings, [], 0)
-        progress = Progress(2 * self.LAST)
-        with contextlib.closing(Keeping("kept")) as keeping, contextlib.redirect_stdout(io.StringIO()):
-            keeping.open(Identity("", "", "", "0", "[]", "0"), {}, False)
-            keeping.keep = lambda *_: None
-            cluster = Cluster(10_000, random.Random(3))
-            Conductor(campaign, range(1, self.LAST + 1), keeping, progress, None, Stop()).conduct(cluster)
-            finds = dict(((setting, seed), log) for setting, seed, log in keeping.store.base.execute("select setting, seed, log from find"))
-        names = ["chunk=16", "chunk=32"]
-        wanted = [(names[setting], seed, *(("bad",) if seed % 100 == 7 else ("good",)), 12000, seed % 90, "ended:%d" % setting, "")
-                  for seed in range(1, self.LAST + 1) for setting in (0, 1)]
-        self.assertEqual(rows_in("kept"), wanted)
-        self.assertEqual(finds, {(s + 1, seed): b"log %d %d" % (s, seed) for s in (0, 1) for seed in range(7, self.LAST + 1, 100)})
-        self.assertGreater(min(cluster.lost, cluster.twice), 1000)
-        self.assertEqual(progress.counts, [2 * self.LAST - len(finds), len(finds), 0, 0])
-
-
-class Rates(unittest.TestCase):
-    def test_interval(self):
-        # By hand: for 5 of 10 the middle is 1/2, and half the width 1.96 sqrt(2.5 + 0.9604) / 13.8415.
-        for (bad, tries), (low, high) in (((5, 10), (0.2366, 0.7634)), ((0, 10), (0, 0.2775)), ((10, 10), (0.7225, 1)), ((0, 0), (0, 1))):
-            found = rates.wilson(bad, tries)
-            self.assertAlmostEqual(found[0], low, 4)
-            self.assertAlmostEqual(found[1], high, 4)
-
-    def test_seeds_for_a_rate(self):
-        # (1 - rate)^n is at most 0.05, and (1 - rate)^(n - 1) more than that: 0.5^5 = 0.031, 0.9^29 = 0.0471, 0.9^28 = 0.0523.
-        for rate, seeds in ((0.5, 5), (0.1, 29), (1, 1), (0, None)):
-            self.assertEqual(rates.seeds_for(rate), seeds)
-
-    def test_values_of_several_settings(self):
-        rows = [("chunk=16 depth=1", 10, 3), ("chunk=16 depth=2", 20, 1), ("chunk=32 depth=1", 30, 0)]
-        self.assertEqual([rate[:3] for rate in rates.by_value(rows)],
-                         [("chunk=16", 30, 4), ("chunk=32", 30, 0), ("depth=1", 40, 3), ("depth=2", 20, 1)])
-        self.assertEqual([rate.name for rate in rates.by_setting(rows)], [rows[0][0], rows[1][0], rows[2][0]])
-
-
-# Two threads add 1 to the word 400 and then to the word 404, each by a load and a store with fourteen instructions between. Thread 0
-# ends with 1 if either is wrong at the end. So there are two bugs, which end alike.
+# Two threads add 1 to the word 400 and then to the word 404, each by a load and a store with fourteen instructions between.
+# Thread 0 ends with 1 if either is wrong at the end. So there are two bugs, which end alike.
 TWO_BUGS = """
         addi x5, x0, 2
 spawn:  addi x17, x0, 1
