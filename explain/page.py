@@ -50,5 +50,5 @@ def page():
 
 
 def table(columns, rows):
-    lines = [columns, len(columns) * ["---"], *rows]
-    return "".join("| %s |\n" % " | ".join(line) for line in lines).replace("| --- ", "|---").replace("|--- |", "|---|")
+    head, *lines = ("| %s |\n" % " | ".join(line) for line in [columns, *rows])
+    return head + "|" + len(columns) * "---|" + "\n" + "".join(lines)

@@ -41,7 +41,7 @@ def read_source(data):
 
 
 def check_line(n, line, address, labels):
-    for rule, check in enumerate((wrong_form, wrong_mnemonic, wrong_operands), 1):
+    for rule, check in ((SYNTAX, wrong_form), (MNEMONIC, wrong_mnemonic), (OPERANDS, wrong_operands)):
         wrong = check(line)
         if wrong:
             raise broken(n, rule, *wrong)
