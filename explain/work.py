@@ -37,12 +37,12 @@ def sentences(name, broken, rule):
 
 def check(reader, name, sphere, read, *arguments):
     """Hands the arguments to what reads such a file; what is broken becomes the program's refusal."""
-    status, rules = READERS[reader]
+    status, place, rules = READERS[reader]
     try:
         return read(*arguments)
     except Broken as broken:
         before = () if sphere is None else (sphere,)
-        rule = rules[broken.numbers[1 if reader == "source" else 0]]
+        rule = rules[[*before, *broken.numbers][place]]
         line = " ".join(map(str, ("refused", reader, *before, *broken.numbers)))
         raise Refusal(status, line, sentences(name, broken, rule)) from None
 
