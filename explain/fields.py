@@ -2,7 +2,7 @@
 raises Broken((number, offset), ..) by the numbers of rules.LOG."""
 
 from explain.refusal import Broken
-from explain.shown import count, number
+from explain.shown import count, listed, number
 from explain.words import range_of
 
 SHORT, MAGIC, VERSION, MODE, FIELD, NOT_SORTED, TRAILING = range(1, 8)
@@ -37,7 +37,7 @@ class Fields:
         start = self.at
         v = int.from_bytes(self.take(width, what), "little")
         if v not in values:
-            raise bad(wrong, start, what, v, any_of(values))
+            raise bad(wrong, start, what, v, listed(map(number, values)))
         return v
 
     def beginning(self, wanted):
@@ -72,21 +72,16 @@ def bad(wrong, start, what, v, wanted):
     return Broken((wrong, start), "%s is %s, but it has to be %s" % (what, number(v), wanted), "byte %d" % start)
 
 
-def any_of(values):
-    texts = [number(v) for v in values]
-    return texts[0] if len(texts) == 1 else ", ".join(texts[:-1]) + " or " + texts[-1]
+FOREIGN = {
+    b"DLRN": "It is a log: `delorean walk` plays it, and a replayed sphere takes it by the key `log`.",
+    b"DLRT": "It is a tail: `delorean tail` plays it, and no other command takes it.",
+    b"DLRS": "It is strata, which only a replayed sphere takes, by the key `strata`.",
+    b"\x7fELF": "It is an ELF file: are the names in the right order?",
+}
 
 
-def looks_like(found):
+def looks_like(beginning):
     """What another file may be, as a sentence, or None."""
-    if found == b"DLRN":
-        return "It is a log: `delorean walk` plays it, and a replayed sphere takes it by the key `log`."
-    if found == b"DLRT":
-        return "It is a tail: `delorean tail` plays it, and no other command takes it."
-    if found == b"DLRS":
-        return "It is strata, which only a replayed sphere takes, by the key `strata`."
-    if found == b"\x7fELF":
-        return "It is an ELF file: are the names in the right order?"
-    if found[:2] in (b"c ", b"t ", b"l ", b"en"):
+    if beginning[:2] in (b"c ", b"t ", b"l ", b"en"):
         return "Is it an account?"
-    return None
+    return FOREIGN.get(beginning)

@@ -24,7 +24,7 @@ def read(name, is_log=False):
             raise Unreadable(name)
         with open(name, "rb") as file:
             return file.read()
-    except (FileNotFoundError, ValueError):
+    except FileNotFoundError:
         raise absent(name) from None
     except OSError as error:
         raise fault(name, because(error)) from None
@@ -57,20 +57,18 @@ def unwritable(name):
     """Why a file can't be written, as a part of a sentence after its name, or None if nothing shows."""
     if not name:
         return "isn't a name: it is empty"
-    folder = os.path.dirname(name) or "."
     try:
-        os.stat(folder)
-        found = os.stat(name) if os.path.lexists(name) else None
+        return refused_file(name, os.stat(name))
     except FileNotFoundError:
-        return "can't be made: there is no folder %s, and folders aren't made" % quoted(folder)
+        return refused_place(os.path.dirname(os.path.realpath(name) if os.path.islink(name) else name) or ".")
     except OSError as error:
         return because(error)
-    return refused_place(folder) if found is None else refused_file(name, found)
 
 
 def refused_place(folder):
-    if not os.path.isdir(folder):
-        return "can't be made: %s isn't a folder" % quoted(folder)
+    """Why a file that isn't there can't be made in the folder, or None."""
+    if not os.path.exists(folder):
+        return "can't be made: there is no folder %s, and folders aren't made" % quoted(folder)
     if is_read_only(folder):
         return "can't be made: its file system is read-only"
     if not os.access(folder, os.W_OK | os.X_OK, effective_ids=True):
@@ -79,6 +77,7 @@ def refused_place(folder):
 
 
 def refused_file(name, found):
+    """Why a file that is there can't be written, or None. found: what it is, as os.stat says."""
     if stat.S_ISDIR(found.st_mode):
         return "is a folder, and not a file"
     if is_read_only(name) and stat.S_ISREG(found.st_mode):

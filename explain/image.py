@@ -79,7 +79,7 @@ def extensions(flags):
 
 
 def read_segments(data):
-    headers, = struct.unpack_from("<I", data, 28)
+    headers = struct.unpack_from("<I", data, 28)[0]
     header_size, many = struct.unpack_from("<HH", data, 42)
     if header_size != PROGRAM_HEADER:
         raise Broken((8,), "its program headers have %s each, and not 32" % count(header_size, "byte"), "byte 42")

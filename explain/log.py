@@ -51,16 +51,12 @@ def read_threads(f, version, present):
 
 def read_halves(f, entries):
     """The order of version 1: half a byte for each commit. Each is good, except that a spare last half is 0."""
-    for _ in range(entries % 2):
-        if f.at + entries // 2 + 1 <= len(f.data):
-            f.at += entries // 2
-            f.number(1, "the last byte of the order, whose high half is spare,", 15)
-            return
-    skip(f, (entries + 1) // 2, "the order")
-
-
-def skip(f, width, what):
-    f.take(width, what)
+    whole = entries // 2
+    if entries % 2 and f.at + whole < len(f.data):
+        f.at += whole
+        f.number(1, "the last byte of the order, whose high half is spare,", 15)
+    else:
+        f.take(whole + entries % 2, "the order")
 
 
 def read_order(f, entries, threads):
@@ -80,8 +76,8 @@ def read_sizes(f, mode, version, s, commits, threads):
     if mode == ORDER_SIZE:
         f.one_of(4, "the number of entries of the sizes", (commits,))
         read_all_sizes(f, width, s, commits)
-        return
-    read_short_sizes(f, width, s, threads)
+    else:
+        read_short_sizes(f, width, s, threads)
 
 
 def read_all_sizes(f, width, s, commits):

@@ -15,9 +15,13 @@ word, the byte or the file, as far as that can be found:
 
 The line on standard output and the status are the program's own, and never change. Everything else goes to standard error alone.
 `DELOREAN_EXPLAIN=1` in the environment adds the sentences also if standard error isn't a terminal, for example in a script, and
-`DELOREAN_EXPLAIN=0` leaves them out everywhere. They are found by Python code beside the program, in `explain/`, which reads the
-words and the files once more and writes nothing. If a file has changed since, came through a pipe, or is too large to read in
-some seconds, only what is certain is said: the rule in words, as it is here.
+`DELOREAN_EXPLAIN=0` leaves them out everywhere.
+
+They are found by Python code in `explain/`, which isn't proved. It reads the words and the files once more, by rules that are
+written down a second time there, and writes nothing. If it doesn't come to the program's answer, only what is certain is said:
+the rule in words, as it is here. The same goes for a file that came through a pipe, or is too large to read in some seconds. The
+program's line is known only if standard output is a file. Otherwise the status alone is compared, so a file that has changed since
+the program read it is explained as it is now.
 """
 
 SECTIONS = (
@@ -50,5 +54,5 @@ def page():
 
 
 def table(columns, rows):
-    lines = [columns, len(columns) * ["---"], *rows]
-    return "".join("| %s |\n" % " | ".join(line) for line in lines).replace("| --- ", "|---").replace("|--- |", "|---|")
+    head, *lines = ("| %s |\n" % " | ".join(line) for line in [columns, *rows])
+    return head + "|" + len(columns) * "---|" + "\n" + "".join(lines)

@@ -1,5 +1,5 @@
-"""Plans: `read_plan(name, document)` raises Broken with the first rule that the whole plan
-breaks, the key that breaks it, and its line. The rules are those of rules.PLAN; rule 1 is document.py's."""
+"""Plans: `read_plan(name, document)` raises Broken with the first rule that the whole plan breaks, the key that breaks it, and
+its line. The rules are those of rules.PLAN; rule 1 is document.py's, and roles.py has 6 and 8 to 10."""
 
 from collections import Counter
 import difflib

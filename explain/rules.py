@@ -81,17 +81,23 @@ OTHERS = {
     10: Rule("a file that is to be read isn't there", "Names are looked up from the folder of the command."),
 }
 
-# The status, the words of the line before its numbers, and the rules by the number that names one.
-READERS = {"plan": (3, PLAN), "image": (4, IMAGE), "log": (5, LOG), "strata": (5, STRATA), "source": (9, SOURCE)}
+# By the word of a line after `refused`: the status, the place of the rule among the line's numbers, and the rules.
+READERS = {"plan": (3, 0, PLAN), "image": (4, 1, IMAGE), "log": (5, 1, LOG), "strata": (5, 1, STRATA), "source": (9, 1, SOURCE)}
+
+
+def named_rule(line):
+    """The reader and the number of the rule that a line names, or None."""
+    what, reader, *numbers = (line.split(" ") + [""])[:5]
+    if what != "refused" or reader not in READERS:
+        return None
+    _, place, rules = READERS[reader]
+    number = next((int(word) for word in numbers[place : place + 1] if word.isdigit()), None)
+    return (reader, number) if number in rules else None
 
 
 def rule_of(line):
     """The rule that a line names, or None."""
-    what, reader, *numbers = (line.split(" ") + ["", ""])[:6]
-    numbers = [int(word) for word in numbers if word.isdigit()]
-    if what != "refused":
-        return None
-    if reader == "script":
+    if line.startswith("refused script "):
         return SCRIPT
-    at = {"plan": 0, "image": 1, "log": 1, "strata": 1, "source": 1}.get(reader)
-    return READERS[reader][1].get(numbers[at]) if at is not None and at < len(numbers) else None
+    named = named_rule(line)
+    return READERS[named[0]][2][named[1]] if named else None

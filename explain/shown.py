@@ -36,9 +36,9 @@ def number(v):
     return format(v, ",")
 
 
-def count(n, what, many=None):
+def count(n, what):
     """For example `1 byte`, `2 bytes`."""
-    return "%s %s" % (number(n), what if n == 1 else many or what + "s")
+    return "%s %s" % (number(n), what if n == 1 else what + "s")
 
 
 def listed(items, last="or"):

@@ -41,7 +41,7 @@ def read_source(data):
 
 
 def check_line(n, line, address, labels):
-    for rule, check in enumerate((wrong_form, wrong_mnemonic, wrong_operands), 1):
+    for rule, check in ((SYNTAX, wrong_form), (MNEMONIC, wrong_mnemonic), (OPERANDS, wrong_operands)):
         wrong = check(line)
         if wrong:
             raise broken(n, rule, *wrong)
@@ -130,7 +130,7 @@ def wrong_operands(line):
 
 def hint(operand):
     """What to do about a register by another name."""
-    if operand.value and re.fullmatch("zero|ra|sp|gp|tp|fp|[tsa][0-9]+", operand.value):
+    if any(re.fullmatch("zero|ra|sp|gp|tp|fp|[tsa][0-9]+", text or "") for text in (operand.value, operand.register)):
         return "Registers are `x0` to `x31`."
     return None
 
@@ -162,7 +162,8 @@ def words_of(line):
         return 0
     if line.mnemonic != ".zero":
         return 1
-    return number_of(line.operands[0].value) if is_well_formed(line) and in_range(ZEROS, number_of(line.operands[0].value)) else 0
+    words = number_of(line.operands[0].value) if is_well_formed(line) else 0
+    return words if in_range(ZEROS, words) else 0
 
 
 # ---------------------------------------------------------------- values

@@ -33,7 +33,7 @@ STATEMENTS = {name: kinds for names, kinds in TABLE for name in names.split()}
 
 # What is written elsewhere in place of one of these.
 PSEUDO = {"li": "addi x5, x0, V", "mv": "addi x5, x6, 0", "j": "jal x0, LABEL", "nop": "addi x0, x0, 0", "ret": "jalr x0, 0(x1)",
-          "beqz": "beq x5, x0, LABEL", "bnez": "bne x5, x0, LABEL", "call": "jal x1, LABEL", "la": "lui and addi"}
+          "beqz": "beq x5, x0, LABEL", "bnez": "bne x5, x0, LABEL", "call": "jal x1, LABEL", "la": "lui x5, V` and `addi x5, x5, V"}
 
 
 def form(name):

@@ -74,18 +74,19 @@ def operands(name, words):
             is_escaped = True
         elif not is_escaped and word.startswith("-") and word != "-":
             found = "%s isn't an operand: there are no options, and a name that begins with - is given after `--`"
-            raise of(name, found % quoted(word))
+            raise misused(name, found % quoted(word))
         else:
             taken.append(word)
     wanted = COMMANDS[name]
     if len(taken) < len(wanted):
-        raise of(name, "%s missing" % (listed(wanted[len(taken):], "and") + (" is" if len(wanted) - len(taken) == 1 else " are")))
+        missing = wanted[len(taken) :]
+        raise misused(name, "%s %s missing" % (listed(missing, "and"), "is" if len(missing) == 1 else "are"))
     if len(taken) > len(wanted):
-        raise of(name, "%s is one word too many: %s takes %s" % (quoted(taken[len(wanted)]), name, count(len(wanted), "word")))
+        raise misused(name, "%s is one word too many: %s takes %s" % (quoted(taken[len(wanted)]), name, count(len(wanted), "word")))
     return taken
 
 
-def of(name, found):
+def misused(name, found):
     """What is wrong with the words of a command, and its synopsis."""
     return usage("%s. The words are `%s`." % (found, synopsis(name)))
 
@@ -97,7 +98,7 @@ def numbers(name, given):
         if key in NUMBERS:
             read[key] = one_number(name, key, given[key], *limits(key, read))
     if read.get("I", 0) > read.get("J", MOST_COMMITS):
-        raise of(name, "I is %d, and J is %d: I can't be over J" % (read["I"], read["J"]))
+        raise misused(name, "I is %d, and J is %d: I can't be over J" % (read["I"], read["J"]))
     return read
 
 
@@ -108,10 +109,11 @@ def limits(key, read):
 
 def one_number(name, key, word, least, most, step):
     if not re.fullmatch("0|[1-9][0-9]*", word, re.ASCII):
-        raise of(name, "%s is %s, but it has to be decimal digits, without a sign and without a 0 in front" % (key, quoted(word)))
+        wanted = "decimal digits, without a sign and without a 0 in front"
+        raise misused(name, "%s is %s, but it has to be %s" % (key, quoted(word), wanted))
     v = int(word) if len(word) < 20 else 1 << 64
     if not least <= v <= most or v % step:
-        raise of(name, "%s is %s, but it has to be %s" % (key, quoted(word), range_of(least, most, step)))
+        raise misused(name, "%s is %s, but it has to be %s" % (key, quoted(word), range_of(least, most, step)))
     return v
 
 

@@ -2,10 +2,10 @@
 Refusal on the way, or None. A file that can't be read again raises Unreadable."""
 
 from explain import files
+from explain.document import Document
 from explain.image import read_image
 from explain.log import read_log
 from explain.plan import read_names, read_plan, written_names
-from explain.document import Document
 from explain.refusal import Broken, Refusal
 from explain.rules import READERS, SCRIPT
 from explain.script import read_script
@@ -37,12 +37,12 @@ def sentences(name, broken, rule):
 
 def check(reader, name, sphere, read, *arguments):
     """Hands the arguments to what reads such a file; what is broken becomes the program's refusal."""
-    status, rules = READERS[reader]
+    status, place, rules = READERS[reader]
     try:
         return read(*arguments)
     except Broken as broken:
         before = () if sphere is None else (sphere,)
-        rule = rules[broken.numbers[1 if reader == "source" else 0]]
+        rule = rules[[*before, *broken.numbers][place]]
         line = " ".join(map(str, ("refused", reader, *before, *broken.numbers)))
         raise Refusal(status, line, sentences(name, broken, rule)) from None
 
@@ -61,23 +61,28 @@ def check_writable(names):
             raise files.fault(name, reason)
 
 
+def check_written(given):
+    """The file that a command writes, if it writes one."""
+    check_writable([given["NAME"]] if "NAME" in given else [])
+
+
 # ---------------------------------------------------------------- the commands
 
 
 def play(command):
     """walk, interval, watch, who, when and strata."""
-    of = command.operands
-    image, log = files.read(of["IMAGE"]), files.read(of["LOG"], is_log=True)
-    check("image", of["IMAGE"], 0, read_image, image, of["MEMORY"])
-    check("log", of["LOG"], 0, read_log, log)
-    check_writable(of[key] for key in ("NAME",) if key in of)
+    given = command.operands
+    image, log = files.read(given["IMAGE"]), files.read(given["LOG"], is_log=True)
+    check("image", given["IMAGE"], 0, read_image, image, given["MEMORY"])
+    check("log", given["LOG"], 0, read_log, log)
+    check_written(given)
 
 
 def read_only_log(command):
     """inspect and migrate."""
-    of = command.operands
-    check("log", of["LOG"], 0, read_log, files.read(of["LOG"], is_log=True))
-    check_writable(of[key] for key in ("NAME",) if key in of)
+    given = command.operands
+    check("log", given["LOG"], 0, read_log, files.read(given["LOG"], is_log=True))
+    check_written(given)
 
 
 def play_tail(command):
@@ -88,11 +93,11 @@ def play_tail(command):
 def assemble(command):
     name = command.operands["SOURCE"]
     check("source", name, None, read_source, files.read(name))
-    check_writable([command.operands["NAME"]])
+    check_written(command.operands)
 
 
 def make(command):
-    check_writable([command.operands["NAME"]])
+    check_written(command.operands)
 
 
 def drill(command):

@@ -12,6 +12,15 @@ TOP = pathlib.Path(__file__).resolve().parent.parent.parent
 sys.path.insert(0, str(TOP))
 
 from explain.explaining import explain  # noqa: E402
+from explain.rules import READERS, named_rule  # noqa: E402
+
+TESTED = set()  # the readers and numbers of the rules that the tests so far have broken
+
+
+def untested():
+    """What all tests together should have broken, and haven't."""
+    return [(reader, number) for reader, (_, _, rules) in READERS.items() for number in rules if (reader, number) not in TESTED]
+
 
 SILENT = {**os.environ, "DELOREAN_EXPLAIN": "0"}
 
@@ -82,6 +91,7 @@ class Explained(unittest.TestCase):
     def means(self, words, status, line, text):
         """The program answers so, and this is said of it, whether or not its line is known."""
         words = words.split(" ") if isinstance(words, str) else words
+        TESTED.add(named_rule(line))
         self.assertEqual(self.answer(*words), (status, line))
         self.assertEqual(explain(status, words, line), text)
         self.assertEqual(explain(status, words), text)

@@ -3,7 +3,6 @@
 import os
 from pathlib import Path
 import subprocess
-import sys
 import unittest
 from unittest import mock
 
@@ -68,11 +67,18 @@ class Writing(Explained):
 
     def test_folders(self):
         self.fault("make 1 nowhere/m.elf", "nowhere/m.elf", "can't be made: there is no folder `nowhere`, and folders aren't made")
-        self.fault("asm a.s a.log/x", "a.log/x", "can't be made: `a.log` isn't a folder")
+        self.fault("asm a.s a.log/x", "a.log/x", "can't be there: a part of it that should be a folder is a file")
         self.fault("asm a.s .", ".", "is a folder, and not a file")
         self.fault("migrate a.log nowhere/b", "nowhere/b", "can't be made: there is no folder `nowhere`, and folders aren't made")
         self.fault("strata a.elf 4096 a.log nowhere/b", "nowhere/b",
                    "can't be made: there is no folder `nowhere`, and folders aren't made")
+
+    def test_links_and_long_names(self):
+        os.symlink("nowhere/x", "link")
+        folder = os.path.realpath("nowhere")
+        self.fault("make 1 link", "link", "can't be made: there is no folder `%s`, and folders aren't made" % folder)
+        name = 300 * "a"
+        self.means(["make", "1", name], 6, "fault " + name, "`%s..` is too long for a name." % (58 * "a"))
 
     def test_each_file_of_a_plan(self):
         plan = Path("plan.toml").read_text()
@@ -100,7 +106,7 @@ class Permission(Explained):
         os.chmod(".", 0o755)
         try:
             done = subprocess.run([PROGRAM, *words.split()], stdout=subprocess.PIPE, env=SILENT, **other)
-            told = subprocess.run([sys.executable, TOP / "explain/main", "6", *words.split()], stderr=subprocess.PIPE, **other)
+            told = subprocess.run([TOP / "explain/main", "6", *words.split()], stderr=subprocess.PIPE, **other)
         except PermissionError:
             self.skipTest("permissions, because no other user may run the program where it is")
         self.assertEqual((done.returncode, done.stdout.decode()), (6, line + "\n"))

@@ -1,6 +1,5 @@
 """Images that break each rule."""
 
-import struct
 import unittest
 
 from support import CODE, IMAGE, Explained, elf_header, program_header

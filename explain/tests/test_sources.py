@@ -36,6 +36,7 @@ class Sources(Explained):
                 ("lr.w x1, 0(x2)", "`0(x2)` doesn't fit there. Write it as `lr.w x1, (x2)`."),
                 ("sc.w.rl x1, x2, x3", "`x3` doesn't fit there. Write it as `sc.w.rl x1, x2, (x3)`."),
                 ("add a0, x2, x3", "`a0` doesn't fit there. Registers are `x0` to `x31`."),
+                ("lw x1, 4(sp)", "`4(sp)` doesn't fit there. Registers are `x0` to `x31`."),
                 (".zero a", "`a` doesn't fit there. Write it as `.zero N`.")):
             with self.subTest(line):
                 self.refused(line + "\n", 1, 3, text)
