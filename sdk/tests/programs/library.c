@@ -1,4 +1,5 @@
 /* The C library: texts, numbers, sorting, jumps, errors, floating point. What is printed is the same on the host. */
+#define _GNU_SOURCE
 #include <assert.h>
 #include <ctype.h>
 #include <errno.h>
@@ -10,6 +11,7 @@
 #include <stdio.h>
 #include <stdlib.h>
 #include <string.h>
+#include <sys/types.h>
 #include <time.h>
 
 static int by_value(const void *a, const void *b) { return *(const int *)a - *(const int *)b; }
@@ -78,6 +80,11 @@ static void input(void) {
     getchar();
     char line[32];
     printf("%s", fgets(line, sizeof line, stdin));
+    char *whole = NULL;
+    size_t room = 0;
+    ssize_t length = getline(&whole, &room, stdin);
+    printf("%d %s", (int)length, whole);
+    free(whole);
     int c, count = 0;
     while ((c = getchar()) != EOF)
         count += c == '\n';

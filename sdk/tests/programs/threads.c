@@ -170,6 +170,16 @@ static void atomics(void) {
     printf("atomics %d %d %u %lld\n", byte, half, word, (long long)eight);
 }
 
+static void older(void) {
+    static unsigned char byte = 255;
+    static short half = 7;
+    static long long eight = 1;
+    assert(__sync_fetch_and_add(&byte, 2) == 255 && byte == 1 && __sync_sub_and_fetch(&half, 8) == -1);
+    assert(__sync_val_compare_and_swap(&eight, 1, 1LL << 33) == 1 && __sync_add_and_fetch(&eight, 1) == (1LL << 33) + 1);
+    assert(!__sync_bool_compare_and_swap(&byte, 0, 9) && __sync_bool_compare_and_swap(&byte, 1, 9) && __sync_lock_test_and_set(&byte, 3) == 9);
+    printf("older %d %d\n", byte, __sync_fetch_and_or(&half, 1));
+}
+
 static void times(void) {
     struct timespec before, after, span = {0, 30000};
     clock_gettime(CLOCK_MONOTONIC, &before);
@@ -187,6 +197,7 @@ int main(void) {
     attributes();
     c11();
     atomics();
+    older();
     times();
     return 0;
 }
