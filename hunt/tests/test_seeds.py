@@ -45,6 +45,15 @@ class Campaigns(Scratch):
         self.assertEqual(Path("race.log").read_bytes(), Path("kept/seed-3.log").read_bytes())
         self.assertEqual(Path("a.txt").read_bytes(), (RACE / "expected/a.txt").read_bytes())
 
+    def test_log_of_a_recording_in_epochs_is_whole(self):
+        self.copy(RACE / "plan.toml", RACE / "race.elf", role='"record"\nversion = 2\nepoch = 4\nkeep = 2')
+        _, text = said("plan.toml", "--bad", COUNT_IS_WRONG, "--seeds", "2-3", "--keep", "kept")
+        self.assertIn("2 tries: 1 good, 1 bad, 0 live, 0 hung\n", text)
+        walk = subprocess.run([*program(), "walk", "race.elf", "4096", "kept/seed-3.log"], stdout=subprocess.PIPE).stdout
+        self.assertEqual(walk, (RACE / "expected/a.txt").read_bytes())
+        subprocess.run([*program(), "run", "kept/seed-3.toml"], check=True, stdout=subprocess.DEVNULL)
+        self.assertEqual(Path("race.log").read_bytes(), Path("kept/seed-3.log").read_bytes())
+
     def test_stops_after_the_first_of_the_order(self):
         self.copy(RACE / "plan.toml", RACE / "race.elf")
         for jobs in 1, 3:
