@@ -11,6 +11,7 @@ import unittest
 from pathlib import Path
 
 import support
+from campaign.conduct import FILES
 from campaign.store import NAME, Store
 from campaigns import COUNT_IS_WRONG, HAS_COMPILER, NO_COMPILER, NOT_BUILT, RACE, SEEDS, SLEEP, Scratch, rows_in, said
 from killing import kill_and_resume
@@ -147,10 +148,10 @@ class Killed(Scratch):
         print("killed %d times in its work, %d seeds, %d finds" % (killed, self.LAST, len(self.finds("killed"))))
 
     def finds(self, folder):
-        """The logs of a campaign; each is in its folder too."""
+        """The logs of a campaign, in the order of their seeds; the first ones are in its folder too."""
         with contextlib.closing(Store("%s/%s" % (folder, NAME))) as store:
-            logs = dict(store.base.execute("select seed, log from find"))
-        for seed, log in logs.items():
+            logs = dict(store.base.execute("select seed, log from find order by seed"))
+        for seed, log in list(logs.items())[:FILES]:
             self.assertEqual(Path("%s/seed-%d.log" % (folder, seed)).read_bytes(), log)
         self.assertEqual(set(logs), {row[1] for row in rows_in(folder) if row[2] == "bad"})
         return logs
