@@ -9,6 +9,7 @@ import subprocess
 import sys
 import unittest
 from pathlib import Path
+from unittest import mock
 
 import support
 from campaign.conduct import FILES
@@ -88,6 +89,17 @@ class Campaigns(Scratch):
         names = ["chunk=%d depth=%d" % (chunk, depth) for chunk in (16, 32) for depth in (1, 2)]
         self.assertEqual([row[:2] for row in self.kept()], [(name, seed) for seed in (1, 2, 3) for name in names])
         self.assertIn(("chunk=32 depth=1", 3, "bad", 12000, "ended:16 ended:0 ended:1"), self.kept())
+
+    def test_walk_that_says_otherwise(self):
+        self.copy(RACE / "plan.toml", RACE / "race.elf")
+        liar = self.folder / "liar"
+        liar.write_text('#!/bin/sh\n[ "$1" != walk ] || { echo "end complete 0"; exit; }\nexec %s "$@"\n' % " ".join(program()))
+        liar.chmod(0o755)
+        with mock.patch.dict(os.environ, DELOREAN=str(liar)):
+            status, text = said("plan.toml", "--bad", COUNT_IS_WRONG, "--seeds", "1-3", "--keep", "kept")
+        self.assertEqual(status, 3, text)
+        self.assertIn("seeds: seed 3: the walk of the log has another account than the run\n", text)
+        self.assertEqual((os.listdir("kept"), [row[1] for row in self.kept()]), ([NAME], [1, 2]))
 
     def test_goes_on(self):
         self.copy(RACE / "plan.toml", RACE / "race.elf")
