@@ -16,7 +16,7 @@ READ = ("image", "log", "strata")  # keys of a sphere that name files that are r
 
 class Bundle:
     def __init__(self, campaign):
-        self.files = {"delorean": Path(campaign.program[0]).read_bytes()}
+        self.files = {"delorean": Path(campaign.program[-1]).read_bytes()}
         try:
             self.files["engine"] = Path(engine.built()).read_bytes()
         except NoEngine:

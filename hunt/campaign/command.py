@@ -56,7 +56,7 @@ def conduct_in(keeping, campaign, given):
             pool.close()
         scratch.close()
         progress.clear()
-        if progress.done or not conductor.failure:
+        if pool and (progress.done or not conductor.failure):
             tell(conductor, progress, given)
     return 130 if stop.is_set else 0 if keeping.store.counts()[BAD] else 1
 

@@ -17,6 +17,7 @@ from .work import Ordered, Work
 TICK = 0.25   # seconds that the command waits for results, at most
 WAITING = 64  # batches for each job that may wait for one before them
 LISTED = 20   # finds that are told one by one
+FILES = 1000  # finds whose logs are files too; those of all others are in the campaign's file alone
 MOST_HELD = 10_000  # results that wait to be written, which is done once a second else
 
 
@@ -37,7 +38,7 @@ class Keeping:
     """The folder in which a campaign keeps its file and its finds; None keeps nothing after the end."""
 
     def __init__(self, folder):
-        self.folder, self.lock, self.store = folder and Path(folder), None, None
+        self.folder, self.lock, self.files = folder and Path(folder), None, 0
         if folder is not None:
             self.take_folder()
         self.store = Store(str(self.folder / NAME) if folder is not None else ":memory:")
@@ -57,6 +58,7 @@ class Keeping:
         if self.store.is_new:
             self.store.begin(identity, values)
             return
+        self.files = self.store.count_finds()
         if not resumes:
             raise Refused("%s has a campaign: go on with it by --resume, or take another folder" % self.folder)
         for name, mine, theirs in zip(identity._fields, identity, self.store.identity()):
@@ -64,9 +66,10 @@ class Keeping:
                 raise Refused("the campaign in %s has %s" % (self.folder, DIFFERENT[name]))
 
     def keep(self, plan, setting, seed, result):
-        """Writes a find's log and plan; the name of the log, or None."""
-        if self.folder is None:
+        """Writes a find's log and plan; the name of the log, or None if there are enough."""
+        if self.folder is None or self.files >= FILES:
             return None
+        self.files += 1
         name = "-".join([*("%s-%d" % item for item in setting.items()), "seed-%d" % seed])
         write_whole(self.folder / (name + ".log"), result.log)
         write_whole(self.folder / (name + ".toml"), plans.found_plan(plan, setting, seed, result.events or None).encode())

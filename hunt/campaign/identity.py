@@ -15,7 +15,7 @@ DIFFERENT = {"plan_sum": "another plan", "program_sum": "another program", "file
 
 def identity_of(campaign):
     plan = campaign.plan
-    return Identity(plan.sum, sum_of_file(campaign.program[0]), files_sum(plan), str(plan.number), json.dumps(campaign.bad),
+    return Identity(plan.sum, sum_of_file(campaign.program[-1]), files_sum(plan), str(plan.number), json.dumps(campaign.bad),
                     str(campaign.most_events))
 
 

@@ -13,6 +13,7 @@ import tomllib
 from lib.searching import Refused
 
 SETTINGS = ("cores", "chunk", "buffer", "window", "depth", "signature", "events")
+EPOCHS = ("epoch", "keep")
 MOST_EVENTS = 1 << 24
 MOST_SEED = (1 << 63) - 1
 MOST_SETTINGS = 100_000
@@ -48,7 +49,7 @@ def recorded_sphere(spheres, number):
 
 def sum_of(values):
     """What tells plans apart: all that they say, except the seed."""
-    return hashlib.sha256(toml({key: value for key, value in values.items() if key != "seed"}).encode()).hexdigest()
+    return hashlib.sha256(toml(without(values, ("seed",))).encode()).hexdigest()
 
 
 # ---------------------------------------------------------------- settings
@@ -101,7 +102,7 @@ def events_of(plan, setting):
 def tried(plan, setting, events, folder, whole=False):
     """The values of a try's plan, without its seed. All that it writes is in the folder. If it is to be whole, no epochs are
     given up."""
-    values = {key: value for key, value in plan.values.items() if key not in ("seed", "console", "report", "sphere")} | setting
+    values = without(plan.values, ("seed", "console", "report", "sphere")) | setting
     if events is not None:
         values["events"] = events
     spheres = [tried_sphere(sphere, number, folder, number == plan.number, whole)
@@ -109,9 +110,12 @@ def tried(plan, setting, events, folder, whole=False):
     return values | {"report": "%s/report" % folder, "sphere": spheres}
 
 
+def without(values, keys):
+    return {key: value for key, value in values.items() if key not in keys}
+
+
 def tried_sphere(sphere, number, folder, is_judged, whole):
-    left_out = {"account", "epoch", "keep"} if whole else {"account"}
-    changed = {key: value for key, value in sphere.items() if key not in left_out}
+    changed = without(sphere, ("account", *EPOCHS) if whole else ("account",))
     if sphere.get("role") == "record":
         changed["log"] = "%s/log" % folder if is_judged else "%s/log-%d" % (folder, number)
     if is_judged:
@@ -125,8 +129,10 @@ def of_seed(values, seed):
 
 
 def found_plan(plan, setting, seed, events):
-    """The text of the user's plan with what a find has: its names are the user's own."""
-    values = {key: value for key, value in plan.values.items() if key != "seed"} | setting
+    """The text of the user's plan with what a find has. Its names are the user's own, and its log is whole."""
+    values = without(plan.values, ("seed",)) | setting
+    spheres = enumerate(values["sphere"])
+    values["sphere"] = [without(sphere, EPOCHS) if number == plan.number else sphere for number, sphere in spheres]
     if events is not None:
         values["events"] = events
     return of_seed(values, seed)

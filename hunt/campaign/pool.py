@@ -17,9 +17,9 @@ from .program import Failed
 from .trying import Trier
 
 AHEAD = 2    # batches that a worker has, so that it needn't wait for the next
-LOSSES = 3   # of workers in the same batch
+LOSSES = 5   # of workers in the same batch
 
-# number: of the batch. results: of its tries, in order. failure: what kept it from its end, or None. seconds: of its work.
+# number: of the batch. results: of its tries, in order. failure: what kept it from its end, or None.
 Done = namedtuple("Done", "number results failure")
 
 
@@ -86,8 +86,7 @@ class Pool:
 
     def __init__(self, campaign, jobs, scratch):
         self.campaign, self.scratch, self.started = campaign, scratch, 0
-        self.tries, self.losses, self.again = {}, {}, deque()
-        self.workers = []
+        self.tries, self.losses, self.workers = {}, {}, []
         for _ in range(jobs):
             self.start()
 

@@ -155,6 +155,9 @@ class Store:
         """The first and the last seed that was tried."""
         return self.base.execute("select min(seed), max(seed) from try").fetchone()
 
+    def count_finds(self):
+        return self.base.execute("select count(*) from find").fetchone()[0]
+
     def finds(self, outcomes=(BAD, HUNG)):
         marks = ",".join(map(str, outcomes))
         rows = self.base.execute(FINDS % marks)

@@ -9,8 +9,10 @@ import subprocess
 import sys
 import unittest
 from pathlib import Path
+from unittest import mock
 
 import support
+from campaign.conduct import FILES
 from campaign.store import NAME, Store
 from campaigns import COUNT_IS_WRONG, HAS_COMPILER, NO_COMPILER, NOT_BUILT, RACE, SEEDS, SLEEP, Scratch, rows_in, said
 from killing import kill_and_resume
@@ -45,6 +47,15 @@ class Campaigns(Scratch):
         self.assertEqual(Path("race.log").read_bytes(), Path("kept/seed-3.log").read_bytes())
         self.assertEqual(Path("a.txt").read_bytes(), (RACE / "expected/a.txt").read_bytes())
 
+    def test_log_of_a_recording_in_epochs_is_whole(self):
+        self.copy(RACE / "plan.toml", RACE / "race.elf", role='"record"\nversion = 2\nepoch = 4\nkeep = 2')
+        _, text = said("plan.toml", "--bad", COUNT_IS_WRONG, "--seeds", "2-3", "--keep", "kept")
+        self.assertIn("2 tries: 1 good, 1 bad, 0 live, 0 hung\n", text)
+        walk = subprocess.run([*program(), "walk", "race.elf", "4096", "kept/seed-3.log"], stdout=subprocess.PIPE).stdout
+        self.assertEqual(walk, (RACE / "expected/a.txt").read_bytes())
+        subprocess.run([*program(), "run", "kept/seed-3.toml"], check=True, stdout=subprocess.DEVNULL)
+        self.assertEqual(Path("race.log").read_bytes(), Path("kept/seed-3.log").read_bytes())
+
     def test_stops_after_the_first_of_the_order(self):
         self.copy(RACE / "plan.toml", RACE / "race.elf")
         for jobs in 1, 3:
@@ -78,6 +89,17 @@ class Campaigns(Scratch):
         names = ["chunk=%d depth=%d" % (chunk, depth) for chunk in (16, 32) for depth in (1, 2)]
         self.assertEqual([row[:2] for row in self.kept()], [(name, seed) for seed in (1, 2, 3) for name in names])
         self.assertIn(("chunk=32 depth=1", 3, "bad", 12000, "ended:16 ended:0 ended:1"), self.kept())
+
+    def test_walk_that_says_otherwise(self):
+        self.copy(RACE / "plan.toml", RACE / "race.elf")
+        liar = self.folder / "liar"
+        liar.write_text('#!/bin/sh\n[ "$1" != walk ] || { echo "end complete 0"; exit; }\nexec %s "$@"\n' % " ".join(program()))
+        liar.chmod(0o755)
+        with mock.patch.dict(os.environ, DELOREAN=str(liar)):
+            status, text = said("plan.toml", "--bad", COUNT_IS_WRONG, "--seeds", "1-3", "--keep", "kept")
+        self.assertEqual(status, 3, text)
+        self.assertIn("seeds: seed 3: the walk of the log has another account than the run\n", text)
+        self.assertEqual((os.listdir("kept"), [row[1] for row in self.kept()]), ([NAME], [1, 2]))
 
     def test_goes_on(self):
         self.copy(RACE / "plan.toml", RACE / "race.elf")
@@ -138,10 +160,10 @@ class Killed(Scratch):
         print("killed %d times in its work, %d seeds, %d finds" % (killed, self.LAST, len(self.finds("killed"))))
 
     def finds(self, folder):
-        """The logs of a campaign; each is in its folder too."""
+        """The logs of a campaign, in the order of their seeds; the first ones are in its folder too."""
         with contextlib.closing(Store("%s/%s" % (folder, NAME))) as store:
-            logs = dict(store.base.execute("select seed, log from find"))
-        for seed, log in logs.items():
+            logs = dict(store.base.execute("select seed, log from find order by seed"))
+        for seed, log in list(logs.items())[:FILES]:
             self.assertEqual(Path("%s/seed-%d.log" % (folder, seed)).read_bytes(), log)
         self.assertEqual(set(logs), {row[1] for row in rows_in(folder) if row[2] == "bad"})
         return logs
