@@ -23,7 +23,7 @@ def without_hangs(condition):
 def met(recording, condition):
     """The Aim in the way in which the recording meets the condition, or None if it doesn't: at its run's end; or else where the
     log ends, although threads could go on. There nothing is a hang."""
-    if recording.at_end.meets(condition, recording.leaf != "goes-on"):
+    if recording.at_end.meets(condition, recording.is_at_end()):
         return Aim(condition, TO_ITS_END)
     here = without_hangs(condition)
     return Aim(here, TO_LAST_TURN) if recording.at_log_end.meets(here, True) else None
