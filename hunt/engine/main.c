@@ -126,12 +126,13 @@ static void take_acquire(char *rest) {
 }
 
 static void take_turn(char *rest) {
-    unsigned actor;
+    unsigned actor, end;
     unsigned long long steps;
-    struct turn turn = {.end = FORCED};
-    if (sscanf(rest, "%u %llu %x", &actor, &steps, &turn.value) != 3)
+    struct turn turn = {.value = 0};
+    if (sscanf(rest, "%u %llu %x %u", &actor, &steps, &turn.value, &end) != 4)
         fail("no turn");
     turn.actor = (uint8_t)actor;
+    turn.end = end;
     turn.steps = steps;
     guide = more_room(guide, guide_count + 1, sizeof turn);
     guide[guide_count++] = turn;

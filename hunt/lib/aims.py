@@ -23,7 +23,7 @@ def without_hangs(condition):
 def met(recording, condition):
     """The Aim in the way in which the recording meets the condition, or None if it doesn't: at its run's end; or else where the
     log ends, although threads could go on. There nothing is a hang."""
-    if recording.at_end.meets(condition, recording.leaf != "goes-on"):
+    if recording.at_end.meets(condition, recording.is_at_end()):
         return Aim(condition, TO_ITS_END)
     here = without_hangs(condition)
     return Aim(here, TO_LAST_TURN) if recording.at_log_end.meets(here, True) else None
@@ -66,11 +66,12 @@ class Tries:
     def found(self, aim):
         """The aim, the measure of the least run that it led to, and that run as Told."""
         with self.job.engine(self.recording.answers, self.recording.dmas, aim.condition) as engine:
-            self.shrinkers.append(Shrinker(engine, aim.until, self.deadline))
-            least = self.shrinkers[-1].shrunk(self.recording.turns)
+            shrinker = Shrinker(engine, aim.until, self.deadline)
+            self.shrinkers.append(shrinker)
+            least = shrinker.shrunk(self.recording.turns)
             if least is None:
                 raise Differs("the engine loses the log's end")
-            return aim, measure(least.turns), self.shrinkers[-1].told(least)
+            return aim, measure(least), shrinker.told()
 
     def least(self, aims):
         """Of the first aim, or of a later one if that has fewer forced switches."""
@@ -86,5 +87,5 @@ class Tries:
         least = [shrinker.least for shrinker in self.shrinkers if shrinker.least]
         if not least:
             return "nothing was tried yet, and nothing is written"
-        forced, switches, *_ = min(measure(run.turns) for run in least)
+        forced, switches, *_ = min(map(measure, least))
         return "in %s it came down to %s, %d forced; nothing is written" % (runs, counted(switches, "switch"), forced)
