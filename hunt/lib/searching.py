@@ -17,6 +17,7 @@ CONDITIONS = """\
   exit THREAD = CODE        the thread has ended with the code; or != < > <= >=. THREAD is a number, or any
   fault [THREAD [= CAUSE]]  it has faulted
   hang [THREAD]             it never ends: neither it nor any other thread goes on
+  stuck [THREAD]            it never ends, in whatever order: no thread goes on, or those that do go round without an end
   word WORD = VALUE         at the end the word has the value; WORD is a symbol or an address, with +OFFSET or without
   console = TEXT            what was put on the console; or !=
   console has TEXT          TEXT is a word of the shell, with \\n and \\xHH in it

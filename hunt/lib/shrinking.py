@@ -134,17 +134,19 @@ class Descent:
         size = max(1, len(self.turns) // 2)
         while True:
             at = 0
-            while at < len(self.turns):
+            while at < len(self.turns) and not self.shrinker.is_late():
                 rest = self.turns[:at] + self.turns[at + size :]
                 if not (self.accept(rest) or self.accept(joined(rest))):
                     at += size if size > 4 else 1
-            if size == 1:
+            if size == 1 or self.shrinker.is_late():
                 return
             size //= 2
 
     def lengthen_turns(self):
         """A thread goes on until it ends or waits, so the switch after it isn't forced."""
         for place in range(len(self.turns)):
+            if self.shrinker.is_late():
+                return
             if place < len(self.turns) and is_thread(self.turns[place]) and self.turns[place].end == "forced":
                 longer = self.turns[place]._replace(steps=WHOLE)
                 self.accept(self.turns[:place] + [longer] + self.turns[place + 1 :])
@@ -152,7 +154,7 @@ class Descent:
     def move_turns(self):
         """A thread does what it does in one turn in its next one, or in the one before."""
         place = 0
-        while place < len(self.turns):
+        while place < len(self.turns) and not self.shrinker.is_late():
             near = [j for j in neighbours(self.turns, place)] if is_thread(self.turns[place]) else []
             if not any(self.accept(joined(moved(self.turns, place, j))) for j in near[:2]):
                 place += 1

@@ -89,6 +89,13 @@ class Names:
         self.code_at = [s.addr for s in self.code]
         self.data_at = [s.addr for s in self.data]
 
+    def has(self, name):
+        return name in self.by_name
+
+    def value(self, name):
+        """The address of a symbol."""
+        return self.by_name[name].addr
+
     def function(self, pc):
         """The function of a pc, for example `work`, or None. Of `work.isra.0`, a compiler's name, it is `work` too."""
         j = bisect_right(self.code_at, pc) - 1

@@ -1,0 +1,27 @@
+"""What isn't there, in sentences: `explained(errors)` adds them to what the linker says."""
+
+import re
+
+FILES = "there are no files: stdin reads the plan's input, and stdout is the console"
+PROCESSES = "there is one process: take threads"
+SIGNALS = "there are no signals: let a thread look at a word"
+SOCKETS = "there is no network"
+WHY = {
+    FILES: "open close lseek fstat stat unlink rename fcntl ioctl select poll mkdir opendir fopen freopen tmpfile",
+    PROCESSES: "fork vfork execv execve execvp waitpid wait popen system getppid kill",
+    SIGNALS: "sigaction sigprocmask raise signal alarm setitimer pause sigwait",
+    SOCKETS: "socket bind listen accept connect send recv getaddrinfo",
+    "threads have no processors of their own": "pthread_setaffinity_np pthread_getaffinity_np sched_setaffinity",
+    "memory isn't mapped: take malloc, and a larger --heap": "mmap munmap mprotect sbrk brk",
+}
+SENTENCES = {name: why for why, names in WHY.items() for name in names.split()}
+UNDEFINED = re.compile(r"undefined (?:reference to|symbol:) [`']?(\w+)")
+TOO_LARGE = re.compile(r"will not fit in region|relocation truncated|out of range")
+
+
+def explained(errors):
+    names = sorted(set(UNDEFINED.findall(errors)))
+    told = ["delorean-cc: %s: %s" % (name, SENTENCES[name]) for name in names if name in SENTENCES]
+    if "main" in names:
+        told.append("delorean-cc: no source has a main")
+    return "\n".join([errors.rstrip(), *told])
