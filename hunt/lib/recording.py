@@ -39,6 +39,7 @@ class Recording:
     at_end: an Ended where the log ends, and where its run does. leaf: ended, waits, repeats, or goes-on at the limit."""
 
     def __init__(self, job, data):
+        self.job = job
         try:
             self.log = read_log(data)
             account = job.judge.walked(data)
@@ -66,6 +67,11 @@ class Recording:
         told = engine.told(self.turns, EXACTLY)[1]
         any_end = [[]]
         return Judge(job.given.image, job.given.memory, any_end).judged(told).ended, told.leaf
+
+    def passes(self, condition):
+        """Whether the log comes to a moment that the condition is of."""
+        with self.job.engine(self.answers, self.dmas, condition) as engine:
+            return engine.guided(self.turns, EXACTLY, TO_LAST_TURN)[0] == "bad"
 
     # ------------------------------------------------------------ its end
 
