@@ -268,7 +268,7 @@ static enum result at_place(struct trial *t, enum stop stop, bool *past) {
 }
 
 static enum result at_turn_end(struct trial *t, enum turn_end end) {
-    if (holds_for_good(bad, &run->machine)) {
+    if (is_bad_already(run, bad)) {
         end_turn(run, end);
         return IS_BAD;
     }

@@ -7,6 +7,7 @@ one is taken only if that has fewer forced switches.
 from collections import namedtuple
 import time
 
+from .conditions import is_of_moment
 from .engine import TO_ITS_END, TO_LAST_TURN
 from .judge import Differs
 from .searching import counted
@@ -22,16 +23,20 @@ def without_hangs(condition):
 
 def met(recording, condition):
     """The Aim in the way in which the recording meets the condition, or None if it doesn't: at its run's end; or else where the
-    log ends, although threads could go on. There nothing is a hang."""
+    log ends, although threads could go on, where nothing is a hang; or else at a moment before."""
     if recording.at_end.meets(condition, recording.is_at_end()):
         return Aim(condition, TO_ITS_END)
-    here = without_hangs(condition)
-    return Aim(here, TO_LAST_TURN) if recording.at_log_end.meets(here, True) else None
+    here, moments = without_hangs(condition), [case for case in condition if is_of_moment(case)]
+    if recording.at_log_end.meets(here, True):
+        return Aim(here, TO_LAST_TURN)
+    return Aim(moments, TO_LAST_TURN) if moments and recording.passes(moments) else None
 
 
 def narrowed(aim, recording):
     """The Aim that the log's own end is kept too; None if it has none."""
     own = recording.end()
+    if any(map(is_of_moment, aim.condition)):
+        return None  # the run is at its end there
     if aim.until == TO_LAST_TURN:
         own = [atom for atom in own if atom.kind != "hang"]
     return aim._replace(condition=[case + own for case in aim.condition]) if own else None

@@ -40,6 +40,7 @@ class Recording:
     or doubtful."""
 
     def __init__(self, job, data):
+        self.job = job
         try:
             self.log = read_log(data)
             account = job.judge.walked(data)
@@ -69,6 +70,11 @@ class Recording:
             return Judge(job.given.image, job.given.memory, any_end).judged(told).ended, told.leaf
         except Differs:
             return self.at_log_end, "doubtful"
+
+    def passes(self, condition):
+        """Whether the log comes to a moment that the condition is of."""
+        with self.job.engine(self.answers, self.dmas, condition) as engine:
+            return engine.guided(self.turns, EXACTLY, TO_LAST_TURN)[0] == "bad"
 
     # ------------------------------------------------------------ its end
 

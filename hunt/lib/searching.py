@@ -19,6 +19,7 @@ CONDITIONS = """\
   hang [THREAD]             it never ends: neither it nor any other thread goes on
   stuck [THREAD]            it never ends, in whatever order: no thread goes on, or those that do go round without an end
   word WORD = VALUE         at the end the word has the value; WORD is a symbol or an address, with +OFFSET or without
+  ever word WORD = VALUE    the same at some moment, for example ever word count < 0, or ever word a = 1 and word b = 1
   console = TEXT            what was put on the console; or !=
   console has TEXT          TEXT is a word of the shell, with \\n and \\xHH in it
 Several of them may be joined by `and`; of several --bad one is enough."""

@@ -8,6 +8,7 @@ from . import isa
 from .account import Differs, NotWalked
 from .halfway import Early, Overwritten, early_looks, overwritten, taken_over
 from .hangs import hang_lines
+from .stacks import stack_lines
 from .telling import place, what_served
 from .trace import NotRead, context_name, open_trace
 from .whatif import Otherwise
@@ -102,7 +103,7 @@ def explained(image, memory, log, is_hang=False):
         file.flush()
         try:
             trace = open_trace(image, memory, file.name)
-            return switch_lines(trace) + (hang_lines(trace) if is_hang else [])
+            return [*stack_lines(trace), *switch_lines(trace), *(hang_lines(trace) if is_hang else [])]
         except (Differs, NotRead, NotWalked):
             return []
 
