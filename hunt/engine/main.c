@@ -7,6 +7,8 @@
 #include "guide.h"
 #include "run.h"
 #include "search.h"
+#include "segments.h"
+#include "sharing.h"
 
 #include <signal.h>
 #include <stdio.h>
@@ -146,9 +148,12 @@ static void ready(void) {
     if (run.machine.setup != NULL)
         return;
     start_machine(&run.machine, &setup);
-    for (size_t j = 0; j < bad.count; j++)
-        if (bad.atoms[j].kind == WORD_IS_EVER)
-            always_share(bad.atoms[j].address);
+    for (size_t j = 0; j < bad.count; j++) {
+        if (bad.atoms[j].kind != WORD_IS_EVER)
+            continue;
+        always_share(bad.atoms[j].address);
+        make_place(bad.atoms[j].address); /* each access to it comes at a place, so each value that it has is seen */
+    }
 }
 
 static void tell_turns(void) {

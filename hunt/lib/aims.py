@@ -7,7 +7,7 @@ one is taken only if that has fewer forced switches.
 from collections import namedtuple
 import time
 
-from .conditions import is_of_moment
+from .conditions import HANGS, is_of_moment
 from .engine import TO_ITS_END, TO_LAST_TURN
 from .judge import Differs
 from .searching import counted
@@ -18,7 +18,7 @@ Aim = namedtuple("Aim", "condition until")
 
 
 def without_hangs(condition):
-    return [case for case in condition if not any(atom.kind == "hang" for atom in case)]
+    return [case for case in condition if not any(atom.kind in HANGS for atom in case)]
 
 
 def met(recording, condition):
@@ -38,7 +38,7 @@ def narrowed(aim, recording):
     if any(map(is_of_moment, aim.condition)):
         return None  # the run is at its end there
     if aim.until == TO_LAST_TURN:
-        own = [atom for atom in own if atom.kind != "hang"]
+        own = [atom for atom in own if atom.kind not in HANGS]
     return aim._replace(condition=[case + own for case in aim.condition]) if own else None
 
 
