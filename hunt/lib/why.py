@@ -112,11 +112,10 @@ def switch_lines(trace):
     """Two lines for each switch at which a load became stale and was used, or at which others saw what was half done. If there are
     none, those at which the load had been announced, or a thread found another value than its own. None at all: []."""
     stale = stale_uses(trace)
-    first = [(s.load[1].step, s) for s in stale if not s.is_announced]
-    first += [(e.load[1].step, e) for e in early_looks(trace)]
-    other = [(s.load[1].step, s) for s in stale] + [(o.load[1].step, o) for o in overwritten(trace)] if not first else []
-    told = sorted(first or other, key=lambda pair: pair[0])
-    return [line for _, found in told[:MOST_TOLD] for line in _TELL[type(found)](trace, found)] + _more(told)
+    known = {s.load[1].step for s in stale}
+    first = [s for s in stale if not s.is_announced] + [e for e in early_looks(trace) if e.load[1].step not in known]
+    told = sorted(first or stale + overwritten(trace), key=lambda found: found.load[1].step)
+    return [line for found in told[:MOST_TOLD] for line in _TELL[type(found)](trace, found)] + _more(told)
 
 
 def _more(told):
