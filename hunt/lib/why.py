@@ -141,7 +141,7 @@ def _stale_lines(trace, stale):
     yield "%s is left with %s = %s (%s); %s stores %s (%s%s)," % (
         _who(trace, load), trace.names.name(load[1].addr), _value(load[1]), _at(trace, load),
         _who(trace, last), _value(last[1]), _at(trace, last), more)
-    how = "goes on with %s" % _value(load[1]) if stale.use.instead is None else "doesn't look again"
+    how = "goes on with %s" % _value(load[1]) if stale.use.instead is None else "doesn't check again"
     yield "    and %s %s: it %s" % (_who(trace, load), how, _use(trace, stale.use))
     for own, other in taken_over(trace, load, _moment(trace, stale.use)):
         yield "    meanwhile %s stores %s to %s (%s), where %s had stored %s" % (
