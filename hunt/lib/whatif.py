@@ -9,7 +9,7 @@ from collections import namedtuple
 from . import isa
 from .words import bits_of
 
-MOST_STEPS = 20_000  # of the thread after the load
+MOST_STEPS = 5_000  # of the thread after the load
 
 # What a thread did because a load found what it did. commit, access: a store, or a call or a fault (access None), or nothing more
 # until the log's end (both None). instead: where a branch would have gone; None if only a stored value, its address or an argument

@@ -60,8 +60,8 @@ def _stale(trace, shared, look):
     for stores, back in _returns(trace, look):
         last = stores[-1][1]
         if (last.new ^ load.new) & bits_of(load):
-            use, late = (Otherwise(trace, shared, look.load, last.new, back - 1, is_late).use() for is_late in (False, True))
-            if use and late:
+            use = Otherwise(trace, shared, look.load, last.new, back - 1).use()
+            if use and Otherwise(trace, shared, look.load, last.new, back - 1, is_late=True).use():
                 return Stale(load.addr & ~3, look.load, stores, use, _is_announced(trace, look.load, stores[0]))
     return None
 
