@@ -7,6 +7,8 @@
 #include "guide.h"
 #include "run.h"
 #include "search.h"
+#include "segments.h"
+#include "sharing.h"
 
 #include <signal.h>
 #include <stdio.h>
@@ -130,12 +132,13 @@ static void take_acquire(char *rest) {
 }
 
 static void take_turn(char *rest) {
-    unsigned actor;
+    unsigned actor, end;
     unsigned long long steps;
-    struct turn turn = {.end = FORCED};
-    if (sscanf(rest, "%u %llu %x", &actor, &steps, &turn.value) != 3)
+    struct turn turn = {.value = 0};
+    if (sscanf(rest, "%u %llu %x %u", &actor, &steps, &turn.value, &end) != 4)
         fail("no turn");
     turn.actor = (uint8_t)actor;
+    turn.end = end;
     turn.steps = steps;
     guide = more_room(guide, guide_count + 1, sizeof turn);
     guide[guide_count++] = turn;
@@ -145,9 +148,12 @@ static void ready(void) {
     if (run.machine.setup != NULL)
         return;
     start_machine(&run.machine, &setup);
-    for (size_t j = 0; j < bad.count; j++)
-        if (bad.atoms[j].kind == WORD_IS_EVER)
-            always_share(bad.atoms[j].address);
+    for (size_t j = 0; j < bad.count; j++) {
+        if (bad.atoms[j].kind != WORD_IS_EVER)
+            continue;
+        always_share(bad.atoms[j].address);
+        make_place(bad.atoms[j].address); /* each access to it comes at a place, so each value that it has is seen */
+    }
 }
 
 static void tell_turns(void) {

@@ -312,16 +312,24 @@ bool some_are_blocked(struct run *r) {
     return false;
 }
 
+static void go_to_loop(struct run *r, uint32_t thread) {
+    begin_turn(r, thread);
+    enum stop stop = go_steps(r, r->turn_limit);
+    end_turn(r, stop == AT_WAIT ? WAITS : stop == AT_STOP ? STOPPED : SPENT);
+}
+
 void try_locks(struct run *r) {
     for (uint32_t k = 0; k < r->machine.thread_count; k++) {
         if (!is_blocked(r, &r->machine.threads[k]))
             continue;
         r->tries_locks = true;
-        begin_turn(r, k);
-        enum stop stop = go_steps(r, r->turn_limit);
-        end_turn(r, stop == AT_WAIT ? WAITS : stop == AT_STOP ? STOPPED : SPENT);
+        go_to_loop(r, k);
         r->tries_locks = false;
     }
+    /* a loop that stores was known with the memory as it was before */
+    for (uint32_t k = 0; k < r->machine.thread_count; k++)
+        if (is_enabled(r, k))
+            go_to_loop(r, k);
 }
 
 bool is_enabled(struct run *r, uint32_t thread) {

@@ -428,6 +428,7 @@ enum finish search(struct run *r, const struct condition *bad_, const struct lim
     double started = now_seconds();
     enum finish limit;
     run = r;
+    run->tries_locks = false;
     bad = bad_;
     limits = limits_;
     tally = tally_;

@@ -19,6 +19,7 @@ import re
 import shlex
 
 KINDS = ("exit", "fault", "hang", "word", "is", "has", "stuck", "ever")
+HANGS = ("hang", "stuck")
 COMPARISONS = ("=", "!=", "<", ">", "<=", ">=")
 SIGNED = len(COMPARISONS) - COMPARISONS.index("<")  # from a comparison to that of signed numbers
 ANY = 255
@@ -164,7 +165,7 @@ class Ended:
         return int.from_bytes(row[address & 28 : (address & 28) + 4], "little")
 
     def holds_of_thread(self, atom, status, code):
-        if atom.kind in ("hang", "stuck"):
+        if atom.kind in HANGS:
             return status == "live"
         return status == {"exit": "ended", "fault": "fault"}[atom.kind] and HOLDS[atom.comparison](code, atom.value)
 

@@ -34,11 +34,11 @@ def _symbols(words):
     return ["-Wl,--defsym=%s=%d" % pair for pair in given.items()]
 
 
-def link(top, tools, folder, words, optimize):
+def link(top, tools, folder, words, defaults):
     with tempfile.TemporaryDirectory() as aside:
         made = Path(aside) / "settings.S"
         made.write_text(settings(words))
-        command = [*tools.compiler, *optimize, *words.passed, str(made), str(folder / "start.o"), "-nostdlib", "-static", "-Wl,--build-id=none",
+        command = [*tools.compiler, *defaults, *words.passed, str(made), str(folder / "start.o"), "-nostdlib", "-static", "-Wl,--build-id=none",
                    "-Wl,-n", "-Wl,--gc-sections", *tools.linker, "-T", str(top / "lib/program.ld"), *_symbols(words),
                    "-Wl,--start-group", str(folder / "libdelorean.a"), *tools.archives, "-Wl,--end-group", "-o", words.output]
         done = subprocess.run(command, stderr=subprocess.PIPE, text=True, errors="replace")

@@ -15,13 +15,11 @@ WHY = {
     "memory isn't mapped: take malloc, and a larger --heap": "mmap munmap mprotect sbrk brk",
 }
 SENTENCES = {name: why for why, names in WHY.items() for name in names.split()}
+OTHER = "it isn't in the SDK's library (sdk/README.md says what is), nor in a source that was given"
 UNDEFINED = re.compile(r"undefined (?:reference to|symbol:) [`']?(\w+)")
-TOO_LARGE = re.compile(r"will not fit in region|relocation truncated|out of range")
 
 
 def explained(errors):
     names = sorted(set(UNDEFINED.findall(errors)))
-    told = ["delorean-cc: %s: %s" % (name, SENTENCES[name]) for name in names if name in SENTENCES]
-    if "main" in names:
-        told.append("delorean-cc: no source has a main")
+    told = ["delorean-cc: " + ("no source has a main" if name == "main" else "%s: %s" % (name, SENTENCES.get(name, OTHER))) for name in names]
     return "\n".join([errors.rstrip(), *told])

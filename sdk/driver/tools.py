@@ -16,7 +16,7 @@ LIBGCC = "/usr/lib/gcc/riscv64-unknown-elf"
 CALLED = ["-fno-builtin-" + name for name in ("malloc", "calloc", "realloc", "free", "aligned_alloc", "strdup")]
 MACHINE = ["-march=rv32ima", "-mabi=ilp32"]
 # POSIX functions that picolibc's headers declare only if they are asked for.
-ASKED = ["-D_GNU_SOURCE", "-D_POSIX_TIMERS=1", "-D_POSIX_MONOTONIC_CLOCK=200112L"]
+ASKED = ["-D_POSIX_TIMERS=1", "-D_POSIX_MONOTONIC_CLOCK=200112L"]
 
 
 @dataclass

@@ -9,7 +9,7 @@ SECTIONS
     .null : { __null_page = .; LONG(0x4E554C4D) . = 0x100; } :null =0x4D4C554E
     .text : {
         KEEP(*(.text.start))
-        *(EXCLUDE_FILE(*libdelorean.a *libc.a *libm.a *libgcc.a) .text EXCLUDE_FILE(*libdelorean.a *libc.a *libm.a *libgcc.a) .text.*)
+        *(EXCLUDE_FILE(*libdelorean.a:* *libc.a:* *libm.a:* *libgcc.a:*) .text EXCLUDE_FILE(*libdelorean.a:* *libc.a:* *libm.a:* *libgcc.a:*) .text.*)
         __library_code = .; /* what comes after it isn't the program's own: hunt/find tells calls of it as calls */
         *(.text .text.*)
     } :code
@@ -46,7 +46,6 @@ SECTIONS
     __thread_room = __stack_size + 512 + __tls_room;
     __main_stack_room = __main_extra + __stack_size;
     memory_used = .;
-    end = .; _end = .;
     .delorean.acquires 0 (INFO) : { KEEP(*(.delorean.acquires)) }
     .delorean.releases 0 (INFO) : { KEEP(*(.delorean.releases)) }
     /DISCARD/ : { *(.comment) *(.note .note.*) *(.eh_frame .eh_frame_hdr) *(.riscv.attributes) }

@@ -32,9 +32,9 @@ def program():
     return os.environ.get("DELOREAN") or str(TOP / "bin" / "delorean")
 
 
-def call(*words, **more):
+def call(*words, env=None, **more):
     return subprocess.run([str(word) for word in words], stdout=subprocess.PIPE, stderr=subprocess.STDOUT, text=True, errors="replace",
-                          env={**os.environ, "DELOREAN": program()}, **more)
+                          env={**os.environ, "DELOREAN": program(), **(env or {})}, **more)
 
 
 def called(*words):
@@ -92,11 +92,11 @@ def searched(*words, seconds=60, bad=BAD, more=()):
         return Found(done.returncode, done.stdout)
 
 
-def on_host(source, *words, **more):
+def on_host(source, *words, arguments=(), **more):
     """What the same source prints on the host, compiled by gcc -pthread."""
     with tempfile.TemporaryDirectory() as folder:
         called("gcc", "-w", "-O1", "-pthread", source, "-o", Path(folder) / "host", "-lm", *words)
-        return call(Path(folder) / "host", timeout=20, **more)
+        return call(Path(folder) / "host", *arguments, timeout=20, **more)
 
 
 HOST = unittest.skipUnless(shutil.which("gcc"), "no gcc for the host: what programs print there isn't compared")
