@@ -90,9 +90,8 @@ class Job:
         except NoWord as error:
             raise BadCondition("%s: %s" % error.args) from None
         raises = tuple(map(read_raise, getattr(given, "raises", ())))
-        threads = getattr(given, "log_threads", None)
-        self.options = Options(given.seed, given.input, given.tick, given.turn, given.steps, raises, given.log_version, threads,
-                               getattr(given, "all_places", False))
+        self.options = Options(given.seed, given.input, given.tick, given.turn, given.steps, raises, given.log_version,
+                               getattr(given, "log_threads", None), getattr(given, "all_places", False))
         self.judge = Judge(given.image, given.memory, self.condition)
 
     def engine(self, answers=(), dmas=(), condition=None):

@@ -17,13 +17,21 @@ SP = 2
 Overrun = namedtuple("Overrun", "thread step begin whose lowest")
 
 
+_NO_REGISTER = frozenset((0x63, 0x23, 0x0F, 0x73))  # opcodes of branches, stores, fences and calls
+
+
 def _is_addition(word):
     """addi sp, sp, .."""
     return word & 0xFFFFF == SP << 15 | SP << 7 | 0x13
 
 
+def _sets(word):
+    return word >> 7 & 31 == SP and word & 0x7F not in _NO_REGISTER
+
+
 def _pointers(trace, commit):
-    """(step, sp) at the beginning of a chunk, and after each addition to it."""
+    """(step, sp) at the beginning of a chunk, and after each addition to it. After another instruction that sets it, it isn't known
+    for the rest of the chunk."""
     sp = commit.before.x[SP]
     yield commit.first, sp
     for step in range(commit.first, commit.last):
@@ -31,6 +39,8 @@ def _pointers(trace, commit):
         if _is_addition(word):
             sp = sp + extend(word >> 20, 12) & 0xFFFFFFFF
             yield step, sp
+        elif _sets(word):
+            return
 
 
 def _tops(trace):
