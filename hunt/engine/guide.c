@@ -20,10 +20,11 @@ static enum stop take_freely(struct run *r, uint32_t thread, uint64_t steps) {
     return stop;
 }
 
-static enum stop take_exactly(struct run *r, uint32_t thread, uint64_t steps) {
-    begin_turn(r, thread);
-    enum stop stop = go_exactly(r, steps);
-    end_turn(r, end_of(stop));
+/* To an end that is known, if the turn comes so far. */
+static enum stop take_exactly(struct run *r, const struct turn *turn, enum turn_end end) {
+    begin_turn(r, turn->actor);
+    enum stop stop = go_exactly(r, turn->steps);
+    end_turn(r, stop == AT_PLACE ? end : end_of(stop));
     return stop;
 }
 
@@ -46,9 +47,11 @@ static void take_other(struct run *r, const struct turn *turn) {
 static enum stop take_turn(struct run *r, const struct turn *turn, enum manner manner) {
     if (turn->actor >= DMA)
         take_other(r, turn);
-    else if (is_live(r, turn->actor))
-        return manner == EXACTLY && turn->steps < WHOLE ? take_exactly(r, turn->actor, turn->steps)
-                                                        : take_freely(r, turn->actor, turn->steps);
+    else if (is_live(r, turn->actor)) {
+        if (manner == FREELY || turn->steps >= WHOLE)
+            return take_freely(r, turn->actor, turn->steps);
+        return take_exactly(r, turn, manner == AGAIN ? turn->end : FORCED);
+    }
     return AT_PLACE;
 }
 
@@ -65,7 +68,7 @@ static uint32_t next_thread(struct run *r, uint32_t last) {
 static enum outcome finished(struct run *r, uint32_t last, const struct condition *bad) {
     for (;;) {
         uint32_t thread = next_thread(r, last);
-        if (holds_for_good(bad, &r->machine))
+        if (is_bad_already(r, bad))
             return BAD;
         if (thread == NO_ONE && !r->machine.requested)
             return ends_badly(r, bad) ? BAD : GOOD;
@@ -84,7 +87,6 @@ static enum outcome finished(struct run *r, uint32_t last, const struct conditio
 
 enum outcome guided(struct run *r, const struct guide *guide, const struct condition *bad) {
     uint32_t last = 0;
-    r->tries_locks = true; /* so that each thread that waits is in its loop */
     start_run(r);
     for (size_t j = 0; j < guide->count; j++) {
         const struct turn *turn = &guide->turns[j];
@@ -92,7 +94,7 @@ enum outcome guided(struct run *r, const struct guide *guide, const struct condi
             return LIMITED;
         if (turn->actor < MOST_THREADS)
             last = turn->actor;
-        if (guide->until == LAST_TURN ? holds_at_end(bad, &r->machine) : holds_for_good(bad, &r->machine))
+        if (is_bad_already(r, bad) || (guide->until == LAST_TURN && holds_at_end(bad, &r->machine)))
             return BAD;
     }
     return guide->until == LAST_TURN ? GOOD : finished(r, last, bad);

@@ -8,8 +8,9 @@
 enum outcome { GOOD, BAD, LIMITED };
 
 /* How turns are taken. Freely: a turn ends where its thread comes to wait, and a thread that is known to wait is passed over.
-   Exactly: a turn is as many steps as it says, as the commits of a log are; one of WHOLE steps is taken freely. */
-enum manner { FREELY, EXACTLY };
+   Exactly: a turn is as many steps as it says, as the commits of a log are; one of WHOLE steps is taken freely. Again: as the
+   turns of an earlier run, each of which had so many steps and this end. */
+enum manner { FREELY, EXACTLY, AGAIN };
 #define WHOLE (1ull << 62)
 
 /* Where the run ends: where no thread goes on, or after the last turn at the latest. */

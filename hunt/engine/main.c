@@ -7,6 +7,8 @@
 #include "guide.h"
 #include "run.h"
 #include "search.h"
+#include "segments.h"
+#include "sharing.h"
 
 #include <signal.h>
 #include <stdio.h>
@@ -100,6 +102,10 @@ static void take_atom(char *rest) {
     a.bytes = bytes_of(text, &a.length);
     bad.atoms = more_room(bad.atoms, bad.count + 1, sizeof a);
     bad.atoms[bad.count++] = a;
+    if (a.kind == WORD_IS_EVER) {
+        run.watched = &bad;
+        run.all_places = true;
+    }
 }
 
 static void take_raise(char *rest) {
@@ -126,20 +132,28 @@ static void take_acquire(char *rest) {
 }
 
 static void take_turn(char *rest) {
-    unsigned actor;
+    unsigned actor, end;
     unsigned long long steps;
-    struct turn turn = {.end = FORCED};
-    if (sscanf(rest, "%u %llu %x", &actor, &steps, &turn.value) != 3)
+    struct turn turn = {.value = 0};
+    if (sscanf(rest, "%u %llu %x %u", &actor, &steps, &turn.value, &end) != 4)
         fail("no turn");
     turn.actor = (uint8_t)actor;
+    turn.end = end;
     turn.steps = steps;
     guide = more_room(guide, guide_count + 1, sizeof turn);
     guide[guide_count++] = turn;
 }
 
 static void ready(void) {
-    if (run.machine.setup == NULL)
-        start_machine(&run.machine, &setup);
+    if (run.machine.setup != NULL)
+        return;
+    start_machine(&run.machine, &setup);
+    for (size_t j = 0; j < bad.count; j++) {
+        if (bad.atoms[j].kind != WORD_IS_EVER)
+            continue;
+        always_share(bad.atoms[j].address);
+        make_place(bad.atoms[j].address); /* each access to it comes at a place, so each value that it has is seen */
+    }
 }
 
 static void tell_turns(void) {
@@ -179,6 +193,8 @@ static void do_search(char *rest) {
     printf("tally %llu %llu %llu %llu %u %u %u\n", (unsigned long long)tally.tries, (unsigned long long)tally.ended,
            (unsigned long long)(tally.waited + tally.repeated), (unsigned long long)tally.limited,
            tally.most_places, tally.bound, tally.restarts);
+    run.minds_marks = false;
+    learn(false);
     if (finish == FOUND)
         tell_run();
     printf("end %s\n", finishes[finish]);

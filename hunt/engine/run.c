@@ -9,6 +9,7 @@ void start_run(struct run *r) {
     reset_machine(&r->machine);
     memset(r->seats, 0, sizeof r->seats);
     r->raised = 0;
+    r->met = false;
     r->turn_count = 0;
     r->current = NO_ONE;
 }
@@ -81,14 +82,13 @@ void end_turn(struct run *r, enum turn_end end) {
     r->current = NO_ONE;
 }
 
-/* Where interrupts may come, a handler may find a lock that its own thread holds, so there marks say nothing. */
 static bool is_acquire(const struct run *r, const struct thread *t) {
     const struct setup *s = r->machine.setup;
-    return s->acquires != NULL && r->raise_count == 0 && t->pc < s->size && s->acquires[t->pc / 4];
+    return r->minds_marks && s->acquires != NULL && t->pc < s->size && s->acquires[t->pc / 4];
 }
 
 static bool is_blocked(struct run *r, const struct thread *t) {
-    if (r->tries_locks || t->status != LIVE || !is_acquire(r, t))
+    if (t->status != LIVE || !is_acquire(r, t))
         return false;
     struct next next = next_of(&r->machine, t);
     return next.kind == MEMORY && word_at(&r->machine, next.address) != 0;
@@ -111,8 +111,17 @@ static bool is_place(const struct run *r, const struct thread *t, struct next ne
     }
 }
 
+bool is_bad_already(const struct run *r, const struct condition *bad) { return r->met || holds_for_good(bad, &r->machine); }
+
+/* After a step or DMA, before which there were so many stores. */
+static void look_at_moment(struct run *r, uint64_t stores) {
+    if (r->watched != NULL && r->machine.stores != stores)
+        r->met = r->met || holds_now(r->watched, &r->machine);
+}
+
 static void take_step(struct run *r, struct next next) {
     struct served served;
+    uint64_t stores = r->machine.stores;
     present(r)->steps++;
     if (is_place(r, &r->machine.threads[r->current], next))
         begin_segment(r->current);
@@ -124,6 +133,7 @@ static void take_step(struct run *r, struct next next) {
         run_access(&r->machine, r->current, next.address, NULL);
     else
         serve(&r->machine, r->current, next, &served);
+    look_at_moment(r, stores);
 }
 
 static bool same_thread(const struct thread *t, const struct thread *u) { return memcmp(t, u, sizeof *t) == 0; }
@@ -231,7 +241,7 @@ static bool is_spent(const struct run *r) {
 static enum stop step_on(struct run *r, struct next next) {
     struct machine *m = &r->machine;
     take_step(r, next);
-    if (m->threads[r->current].status != LIVE)
+    if (m->threads[r->current].status != LIVE || r->met)
         return AT_STOP;
     if (comes_again(r)) {
         wait_here(r);
@@ -253,6 +263,8 @@ enum stop go_on(struct run *r, bool past) {
     for (;; past = false) {
         const struct thread *t = &r->machine.threads[r->current];
         struct next next = next_of(&r->machine, t);
+        if (r->met)
+            return AT_STOP;
         if (is_blocked(r, t))
             return AT_WAIT;
         if (!past && is_place(r, t, next))
@@ -267,6 +279,8 @@ enum stop go_on(struct run *r, bool past) {
 
 enum stop go_steps(struct run *r, uint64_t steps) {
     for (uint64_t j = 0; j < steps; j++) {
+        if (r->met)
+            return AT_STOP;
         if (is_blocked(r, &r->machine.threads[r->current]))
             return AT_WAIT;
         enum stop stop = step_on(r, next_of(&r->machine, &r->machine.threads[r->current]));
@@ -279,6 +293,8 @@ enum stop go_steps(struct run *r, uint64_t steps) {
 enum stop go_exactly(struct run *r, uint64_t steps) {
     struct machine *m = &r->machine;
     for (uint64_t j = 0; j < steps; j++) {
+        if (r->met)
+            return AT_STOP;
         if (m->time >= r->step_limit)
             return AT_LIMIT;
         take_step(r, next_of(m, &m->threads[r->current]));
@@ -305,9 +321,9 @@ void try_locks(struct run *r) {
     for (uint32_t k = 0; k < r->machine.thread_count; k++) {
         if (!is_blocked(r, &r->machine.threads[k]))
             continue;
-        r->tries_locks = true;
+        r->minds_marks = false;
         go_to_loop(r, k);
-        r->tries_locks = false;
+        r->minds_marks = true;
     }
     /* a loop that stores was known with the memory as it was before */
     for (uint32_t k = 0; k < r->machine.thread_count; k++)
@@ -338,8 +354,10 @@ bool can_raise(const struct run *r, uint32_t number) {
 }
 
 void do_dma(struct run *r) {
+    uint64_t stores = r->machine.stores;
     add_turn(r, DMA)->end = STOPPED;
     do_request(&r->machine);
+    look_at_moment(r, stores);
 }
 
 void do_raise(struct run *r, uint32_t number) {

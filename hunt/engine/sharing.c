@@ -27,12 +27,14 @@ uint32_t context_of(const struct machine *m, uint32_t thread) {
 }
 
 static void share(struct touchers *t) {
-    if (t->shared)
+    if (t->shared || !is_learning())
         return;
     t->shared = true;
     count++;
     tell_news();
 }
+
+void always_share(uint32_t address) { share(&touchers[address / 4]); }
 
 static uint8_t joined(uint8_t who, uint32_t context) { return who == NOBODY || who == context + 1 ? (uint8_t)(context + 1) : MANY; }
 

@@ -24,21 +24,21 @@ def block_size(call):
 class _Finder:
     def __init__(self, trace, own):
         self.trace, self.own, self.moment = trace, own, Moment(trace)
-        self.entries = {s.addr: s.name for s in trace.names.code if s.addr >= own.library}
-        self.open, self.last_own, self.done, self.is_own = {}, {}, [], {}
+        public_last = sorted(trace.names.code, key=lambda s: not s.name.startswith("_"))
+        self.entries = {s.addr: s.name for s in public_last if s.addr >= own.library}
+        self.open, self.last_own, self.done = {}, {}, []
 
     def registers(self, step, thread):
-        self.moment.seek(step)
-        return tuple(self.moment.machine.threads[thread].x[10:14])
-
-    def code_is_own(self, pc):
-        if pc not in self.is_own:
-            self.is_own[pc] = self.own.is_code(pc)
-        return self.is_own[pc]
+        commit, moment = self.trace.commit_of(step), self.moment
+        if moment.commit is not commit or moment.step > step:
+            moment.seek(commit.first)
+        if moment.step < step:
+            moment.advance(step)
+        return tuple(moment.machine.threads[thread].x[10:14])
 
     def look(self, step, who, thread):
         pc = self.trace.pcs[step]
-        if self.code_is_own(pc):
+        if self.own.is_code(pc):
             if who in self.open:
                 self.close(who, step, self.registers(step, thread)[0])
             self.last_own[who] = pc

@@ -24,8 +24,9 @@ SOURCES = Path(__file__).resolve().parent.parent / "engine"
 FLAGS = ("-std=c11", "-O2")
 DMA, RAISE = 127, 128  # actors of turns beside threads; an interrupt has its thread as `steps`
 WHOLE = (1 << 62)      # steps of a turn that goes on until its thread ends or waits
-FREELY, EXACTLY = 0, 1  # how a list of turns leads a run; guide.h says what they are
-TO_ITS_END, TO_LAST_TURN = 0, 1
+FREELY, EXACTLY, AGAIN = range(3)  # how a list of turns leads a run; guide.h says what they are
+TO_ITS_END, TO_LAST_TURN = range(2)
+ENDS = ("forced", "stopped", "waits", "spent")  # of turns
 
 # actor: a thread, DMA, or RAISE and more. end: forced, stopped (the thread ended), waits, or spent (its steps were over).
 Turn = namedtuple("Turn", "actor steps value end")
@@ -38,7 +39,8 @@ Bound = namedtuple("Bound", "bound tries states places shared seconds")
 Search = namedtuple("Search", "how bounds tries ended hung limited places bound told ends")
 # memory: the bytes asked for. threads: (status, code) of each; status 0 is live, 1 ended, 2 faulted. forced: the fewest switches.
 End = namedtuple("End", "memory threads forced")
-# threads: the most that there may be, or None for as many as the version has.
+# threads: the most that there may be, or None for as many as the version has. all_places: threads may come before any access to a
+# shared word.
 Options = namedtuple("Options", "seed input tick turn steps raises version threads all_places",
                      defaults=(0, None, 64, 10000, 1000000, (), 1, None, False))
 
@@ -187,7 +189,7 @@ class Engine:
         self.send("ends %d %d" % (address, length))
 
     def lead(self, turns, word):
-        self.send(*("turn %d %d %x" % (t.actor, t.steps, t.value) for t in turns), word)
+        self.send(*("turn %d %d %x %d" % (t.actor, t.steps, t.value, ENDS.index(t.end)) for t in turns), word)
 
     def read_turns(self):
         turns = []

@@ -9,12 +9,25 @@ from .chains import places
 from .found import LOG, PICTURE, PLAN, plan_text
 from .hangs import hang_lines
 from .notes import note_lines, notes_of
-from .story import Story, lines
+from .story import Story
+from .storylines import lines
 from .trace import open_trace
 from .why import switch_lines
 
 # why, waits, story: lines. threads: (number, function, state, code, places where it failed) of each. console: text. files: name -> text or bytes.
 Told = namedtuple("Told", "why waits story threads console files folder")
+
+
+def why_lines(trace, story):
+    """Blocks that were used after they were freed, and what why.switch_lines says of the program's own code."""
+    yield from story.after_free.values()
+    own, is_kept = story.own.files(), True
+    for line in switch_lines(trace):
+        if not line.startswith(" "):
+            places = re.findall(r"\(commit \d+, [^,()]+, ([^:()]+):\d+", line)
+            is_kept = not story.own.has_library or all(file in own for file in places)
+        if is_kept:
+            yield line
 
 
 def waiting_lines(trace, own, run):
@@ -64,5 +77,5 @@ def explained(program, finding, folder):
         trace = open_trace(program.image, program.memory, file.name)
     story, image = Story(trace, finding.run.left), Path(program.image).name
     files = {LOG: finding.run.log, PICTURE: picture_of(trace, image), PLAN: plan_text(image, program.memory)}
-    return Told([*switch_lines(trace), *story.after_free.values()], waiting_lines(trace, story.own, finding.run), list(lines(story)), list(states(trace, story)),
+    return Told(list(why_lines(trace, story)), waiting_lines(trace, story.own, finding.run), list(lines(story)), list(states(trace, story)),
                 console_of(trace), files, folder)

@@ -106,8 +106,7 @@ def least(job, told, seconds):
     """The run with as few turns as could be found, as told."""
     with job.engine() as engine:
         shrinker = Shrinker(engine, TO_ITS_END, time.monotonic() + seconds)
-        best = shrinker.shrunk(told.turns)
-        return shrinker.told(best) if best else told
+        return shrinker.told() if shrinker.shrunk(told.turns) else told
 
 
 def judged(job, told, seconds):

@@ -3,7 +3,7 @@ program's code, from the symbol `__library_code` on. An image without this symbo
 
 import struct
 
-_LIBRARY, _STACKS, _END = "__library_code", "__threads", "memory_used"
+_LIBRARY, _HEAP, _HEAP_END, _STACKS, _END = "__library_code", "__heap", "__heap_end", "__threads", "memory_used"
 _LOADED, _WRITABLE = 1, 2
 
 
@@ -30,6 +30,8 @@ class Own:
         self.names, self.spans = names, writable_spans(image.file)
         self.lock_code = frozenset(section_words(image.file, ".delorean.acquires") + section_words(image.file, ".delorean.releases"))
         self.library = self._symbol(_LIBRARY, image.size)
+        self.heap = self._symbol(_HEAP, image.size), self._symbol(_HEAP_END, image.size)
+        self._known = {}
         self.stacks = self._symbol(_STACKS, image.size), self._symbol(_END, image.size)
 
     def _symbol(self, name, default):
@@ -41,13 +43,20 @@ class Own:
 
     def is_code(self, pc):
         """Whether an instruction is the program's own, and not the library's or its start's."""
-        if not self.has_library:
-            return True
-        return pc < self.library and not (self.names.function(pc) or "_").startswith("_")
+        if pc not in self._known:
+            self._known[pc] = not self.has_library or pc < self.library and not (self.names.function(pc) or "_").startswith("_")
+        return self._known[pc]
+
+    def files(self):
+        """The names of the source files that the program's own code has lines of."""
+        return {text.partition(":")[0] for pc, text in self.names.lines() if text and self.is_code(pc)}
 
     def is_stack(self, addr):
         """Whether a word is in the stacks of threads, or among their blocks."""
         return self.stacks[0] <= addr < self.stacks[1]
+
+    def is_heap(self, addr):
+        return self.heap[0] <= addr < self.heap[1]
 
     def is_data(self, addr):
         """Whether a word is a variable or on the heap: it can be written, and isn't in a stack."""

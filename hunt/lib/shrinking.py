@@ -5,13 +5,10 @@ turns that may lead anywhere: it counts only if its run ends badly too. Most are
 passed over; where that leads elsewhere, exactly.
 """
 
-from collections import namedtuple
 import time
 
-from .engine import DMA, EXACTLY, FREELY, WHOLE
+from .engine import AGAIN, DMA, EXACTLY, FREELY, WHOLE
 
-# A run that ends badly: the turns that it took, and the manner in which they lead to it.
-Run = namedtuple("Run", "turns manner")
 
 
 def is_thread(turn):
@@ -60,7 +57,8 @@ def neighbours(turns, place):
 
 
 class Shrinker:
-    """until: where the runs end. deadline: of time.monotonic. tries: how many runs there were. least: the least Run so far."""
+    """until: where the runs end. deadline: of time.monotonic. tries: how many runs there were. least: the turns of the least run
+    so far that ends badly."""
 
     def __init__(self, engine, until, deadline):
         self.engine, self.until, self.deadline, self.tries, self.least = engine, until, deadline, 0, None
@@ -69,43 +67,39 @@ class Shrinker:
         return time.monotonic() > self.deadline
 
     def shrunk(self, turns):
-        """The least Run that was found, or None if these turns, taken exactly, don't end badly."""
+        """The turns of the least run that was found, or None if these turns, taken exactly, don't end badly."""
         exact = self.tried(turns, EXACTLY)
         if exact is None:
             return None
-        self.keep(exact)
         useful = [turn for turn in self.engine.without_idle_steps(turns) if not is_thread(turn) or turn.steps]
         useful_exact = self.tried(useful, EXACTLY) or exact
-        for start, manners in ((self.tried(turns, FREELY), [FREELY]), (self.tried(useful, FREELY), [FREELY]),
+        for start, manners in ((self.tried(useful, FREELY), [FREELY]), (self.tried(turns, FREELY), [FREELY]),
                                (useful_exact, [FREELY, EXACTLY])):
-            if start and not self.is_late():
+            if start:
                 Descent(self, start, manners).descend()
         return self.least
 
     def tried(self, turns, manner):
-        """The Run that the turns lead to, or None if it doesn't end badly."""
+        """The turns that a run takes if these lead it, or None if it doesn't end badly."""
         self.tries += 1
         outcome, taken = self.engine.guided(as_led(turns, manner), manner, self.until)
-        return Run([turn for turn in taken if not is_thread(turn) or turn.steps], manner) if outcome == "bad" else None
+        if outcome != "bad":
+            return None
+        taken = [turn for turn in taken if not is_thread(turn) or turn.steps]
+        if self.least is None or measure(taken) < measure(self.least):
+            self.least = taken
+        return taken
 
-    def told(self, run):
-        """The engine's Told of a Run."""
-        return self.engine.told(as_led(run.turns, run.manner), run.manner, self.until)[1]
-
-    def keep(self, run):
-        if self.least is None or measure(run.turns) < measure(self.least.turns):
-            self.least = run
+    def told(self):
+        """The engine's Told of the least run, which it does again step by step."""
+        return self.engine.told(self.least, AGAIN, self.until)[1]
 
 
 class Descent:
-    """From one run to a lesser one, as long as a move leads to one. manners: those in which turns are tried, in this order."""
+    """From a run to a lesser one, as long as a move leads to one. manners: those in which turns are tried, in this order."""
 
-    def __init__(self, shrinker, start, manners):
-        self.shrinker, self.run, self.manners = shrinker, start, manners
-
-    @property
-    def turns(self):
-        return self.run.turns
+    def __init__(self, shrinker, turns, manners):
+        self.shrinker, self.turns, self.manners = shrinker, turns, manners
 
     def descend(self):
         before = None
@@ -120,12 +114,9 @@ class Descent:
     def accept(self, turns):
         """Goes on with the turns if they lead to a bad end too, and are less."""
         for manner in self.manners:
-            if self.shrinker.is_late():
-                return False
-            run = self.shrinker.tried(turns, manner)
-            if run and measure(run.turns) < measure(self.turns):
-                self.run = run
-                self.shrinker.keep(run)
+            taken = None if self.shrinker.is_late() else self.shrinker.tried(turns, manner)
+            if taken and measure(taken) < measure(self.turns):
+                self.turns = taken
                 return True
         return False
 

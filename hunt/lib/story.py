@@ -1,4 +1,4 @@
-"""A run told in lines of its program: `Story(trace).turns`, and `lines(story)` as text.
+"""A run told in lines of its program: `Story(trace).turns`; storylines.py has them as text.
 
 A turn is what one thread does before another one comes. Its rows are accesses of the program's own code to variables and to the
 heap, the locks that it takes and gives back, its calls of the library that touch what it gave them, and what the kernel does
@@ -8,6 +8,7 @@ from collections import namedtuple
 
 from . import isa
 from .calls import GIVING, TAKING_BACK, Heap, calls_of
+from .machine import CONSOLE_CHANNEL, NO_PC
 from .own import Own
 from .telling import values, verb
 from .trace import context_name
@@ -23,9 +24,7 @@ LOCKING = {"__delorean_took", "__delorean_lock", "__delorean_wait", "__delorean_
 TWO_ARGUMENTS = {"pthread_cond_wait", "pthread_cond_timedwait"}
 UNTOLD = LOCKING | set(GIVING) | set(TAKING_BACK) | {"pthread_create", "pthread_join"}
 QUIET = {"exit", "write", "clock", "self", "yield", "handler", "iret", "ended", "spawn", "fault", "break", "device store"}
-MOST_ROWS = 28       # of a turn; more are cut in the middle
 LOCK_BYTES = 16      # of a pthread_mutex_t
-WIDEST = 36          # a word that is longer pushes what comes after it
 REACH = 64           # an access so many bytes from an argument counts as one to what was given
 CAUSES = {0: "a jump to a place that isn't a multiple of 4", 1: "a jump out of the memory", 2: "no instruction is there",
           3: "a break", 4: "a load from an address that isn't a multiple of its width", 5: "a load from outside the memory",
@@ -57,7 +56,7 @@ class Story:
         self.locks = {a.addr for a in trace.accesses if a.pc in self.own.lock_code}
         self.heap, self.at, self.within, self.told = Heap(), {}, {}, set()
         self.after_free = {}  # lines: what was done to blocks that had been freed
-        self.functions = {}
+        self.functions, self.touched = {}, {}
         self.turns = [turn for turn in self._turns(list(left)) if turn.rows or turn.is_left]
 
     def function_of(self, thread):
@@ -97,7 +96,7 @@ class Story:
                 del self.within[who]
                 yield from self._of_heap(call)
         pc = self.trace.pcs[step]
-        if pc != 0xFFFFFFFF and self.own.is_code(pc):
+        if pc != NO_PC and self.own.is_code(pc):
             self.at[who] = pc
             self.functions.setdefault(who, self.names.function(pc))
         if step in self.begins:
@@ -120,7 +119,7 @@ class Story:
             yield from self._of_lock(a, who)
         elif self._is_in_lock(a.addr):
             return
-        elif a.pc != 0xFFFFFFFF and self.own.is_code(a.pc):
+        elif a.pc != NO_PC and self.own.is_code(a.pc):
             if self.own.is_data(a.addr) or self.is_shared(a.addr):
                 yield Row(verb(a.kind), self.word(a.addr), values(a), self.place_of(a.pc))
         elif call and call.first not in self.told and self._is_given(a, call):
@@ -132,7 +131,7 @@ class Story:
         return call.name not in UNTOLD and is_near and (self.is_shared(a.addr) or call.name == "pthread_once")
 
     def _look_at_block(self, a, who, call):
-        block = self.heap.block(a.addr)
+        block = self.block(a.addr)
         if block is None or block.freed is None or call and call.name in GIVING + TAKING_BACK:
             return
         where = block_name(self.names, block)
@@ -150,19 +149,17 @@ class Story:
 
     def is_shared(self, addr):
         """Whether several threads touch a word."""
-        if not hasattr(self, "_touched"):
-            self._touched = {}
         word = addr & ~3
-        if word not in self._touched:
+        if word not in self.touched:
             actors = {self.trace.context(self.trace.commit_of(self.trace.accesses[j].step)) for j in self.trace.words[word]}
-            self._touched[word] = len(actors) > 1
-        return self._touched[word]
+            self.touched[word] = len(actors) > 1
+        return self.touched[word]
 
     # ------------------------------------------------------------ what the kernel does
 
     def _served(self, commit, who):
         served, place = commit.served, self.place_of(self.at.get(who, self.trace.pcs[commit.first]))
-        if served.output and served.output[1] and served.output[0] == 8:
+        if served.output and served.output[1] and served.output[0] == CONSOLE_CHANNEL:
             yield Row("prints", repr(served.output[1].decode("utf-8", "replace"))[1:-1], "", place)
         elif served.name == "spawn" and served.result < 64:
             yield Row("starts", "thread %d" % served.result, "", place)
@@ -177,8 +174,11 @@ class Story:
 
     # ------------------------------------------------------------ names
 
+    def block(self, addr):
+        return self.heap.block(addr) if self.own.is_heap(addr) else None
+
     def word(self, addr):
-        block = self.heap.block(addr)
+        block = self.block(addr)
         if block:
             return word_in_block(self.names, block, addr)
         name = self.names.name(addr)
@@ -197,36 +197,3 @@ def add(rows, row):
         rows[-1] = row._replace(times=rows[-1].times + 1)
     else:
         rows.append(row)
-
-
-def cut(rows):
-    """At most MOST_ROWS of the rows; None where some are left out."""
-    if len(rows) <= MOST_ROWS:
-        return rows
-    return rows[: MOST_ROWS // 3] + [None] + rows[-(MOST_ROWS - MOST_ROWS // 3) :]
-
-
-def row_lines(rows):
-    """Rows as lines, in columns."""
-    what = max((len(row.what) for row in rows), default=0)
-    word = max((len(row.word) for row in rows if len(row.word) <= WIDEST), default=0)
-    value = max((len(row.value) for row in rows), default=0)
-    for row in rows:
-        times = "  (%d times)" % row.times if row.times > 1 else ""
-        yield ("%-*s  %-*s  %-*s  %s%s" % (what, row.what, word, row.word, value, row.value, row.place, times)).rstrip()
-
-
-def head(turn):
-    return context_name(turn.who) + (" (%s)" % turn.function if turn.function else "")
-
-
-def lines(story):
-    """The story as lines: of each turn who it is, and below it its rows."""
-    shown = [(turn, cut(turn.rows)) for turn in story.turns]
-    texts = row_lines([row for _, rows in shown for row in rows if row])
-    for turn, rows in shown:
-        yield head(turn)
-        for row in rows:
-            yield "    " + next(texts) if row else "    .. %d more" % (len(turn.rows) - len(rows) + 1)
-        if turn.is_left:
-            yield "    -- forced switch: it could have gone on"

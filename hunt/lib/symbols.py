@@ -104,10 +104,18 @@ class Names:
         s = self.code[j]
         return s.name.partition(".")[0] if not s.size or pc < s.addr + s.size else None
 
-    def line(self, pc):
-        """The source line of a pc, for example `race.c:24`, or None."""
+    def lines(self):
+        """(pc, its source line, or None) of each pc at which a line begins."""
+        return zip(*self._lines_table())
+
+    def _lines_table(self):
         if self._table is None:
             self._table = self._read_lines()
+        return self._table
+
+    def line(self, pc):
+        """The source line of a pc, for example `race.c:24`, or None."""
+        self._lines_table()
         j = bisect_right(self._table[0], pc) - 1
         return self._table[1][j] if j >= 0 else None
 

@@ -158,6 +158,13 @@ class Moment:
             self.done += len(machine.accesses)
         self.step = step
 
+    def advance(self, step):
+        """Goes on to a later step of the same commit, at the cost of the steps between."""
+        before = len(self.machine.accesses)
+        self.machine.run(self.commit.actor, step - self.step)
+        self.done += len(self.machine.accesses) - before
+        self.step = step
+
     def _memory_to(self, count):
         words, accesses = self.machine.words, self.trace.accesses
         while self.done < count:

@@ -7,8 +7,9 @@ and the other one the value. The first thing that they do differently, and that 
 from collections import namedtuple
 
 from . import isa
+from .words import bits_of
 
-MOST_STEPS = 20_000  # of the thread after the load
+MOST_STEPS = 5_000  # of the thread after the load
 
 # What a thread did because a load found what it did. commit, access: a store, or a call or a fault (access None), or nothing more
 # until the log's end (both None). instead: where a branch would have gone; None if only a stored value, its address or an argument
@@ -42,14 +43,15 @@ class _Copy:
 
 class Otherwise:
     """load: (Commit, Access). value: the word that it might have found. since: the step after which a use counts. shared: the
-    addresses of words that others may see. is_late: its commit's other loads, and those up to that step, find what was there by then, too."""
+    addresses of words that others may see. is_late: its commit's other loads, and those up to that step, find what was there by then,
+    too. has_turned: once it is over, whether the copies have parted at a branch."""
 
     def __init__(self, trace, shared, load, value, since, is_late=False):
         self.trace, self.shared, self.value, self.since = trace, shared, value, since
         self.commit, self.load = load
         self.word, self.context = self.load.addr & ~3, trace.context(self.commit)
         self.mine, self.other = (_Copy(trace.image.size, self.commit.before.x) for _ in range(2))
-        self.has_looked, self.is_over, self.steps = False, False, 0
+        self.has_checked, self.has_turned, self.is_over, self.steps = False, False, False, 0
         self.is_late, self.own_stores = is_late, set()
 
     def use(self):
@@ -85,10 +87,10 @@ class Otherwise:
     def instruction(self, commit, step, access):
         after = self.both(step, access)
         if step > self.since and access and access.addr & ~3 == self.word and self.trace.is_look(access):
-            self.has_looked = True
+            self.has_checked = self.has_checked or self.is_check(commit, access)
         if after[0] != after[1]:
-            self.is_over = True
-            return None if self.has_looked else self.effect(step, after[1])
+            self.is_over = self.has_turned = True
+            return None if self.has_checked else self.effect(step, after[1])
         if access and access.kind in isa.STORES and self.is_stored_otherwise(access) and step > self.since:
             self.is_over = True
             return None if self.is_done_again(access) else Use(commit, access, None)
@@ -146,6 +148,17 @@ class Otherwise:
                 return False
         return False
 
+    def is_check(self, commit, access):
+        """Whether a later look at the word decides a branch: with what the first one found, or might have found, the thread would go
+        elsewhere."""
+        for value in (self.load.new, self.value):
+            if (access.old ^ value) & bits_of(self.load):
+                check = _Branch(self.trace, self.shared, (commit, access), value, access.step)
+                check.use()
+                if check.has_turned:
+                    return True
+        return False
+
     def later(self, step):
         """(Commit, Access) of all, after a step."""
         trace = self.trace
@@ -153,16 +166,29 @@ class Otherwise:
             yield from ((commit, a) for a in trace.accesses_of(commit) if a.step > step)
 
     def effect(self, branch, instead):
-        """What the thread does after a branch that would have gone elsewhere, before it looks at the word again."""
+        """What the thread does after a branch that would have gone elsewhere, before it checks the word again."""
         begin = max(branch, self.since)
         for commit in self.trace.commits_of(self.context, self.trace.commit_of(branch).number):
             for a in self.trace.accesses_of(commit):
                 if a.step <= begin:
                     continue
-                if a.addr & ~3 == self.word and self.trace.is_look(a):
+                if a.addr & ~3 == self.word and self.trace.is_look(a) and self.is_check(commit, a):
                     return None
                 if self.trace.is_blind(a) and a.addr & ~3 in self.shared and not self.is_done_again(a):
                     return Use(commit, a, instead)
             if commit.served and commit.first > begin and commit.served.name not in _SILENT:
                 return Use(commit, None, instead)
         return Use(None, None, instead)
+
+
+class _Branch(Otherwise):
+    """Only finds out whether the copies part at a branch before they store different things."""
+
+    def is_check(self, commit, access):
+        return False
+
+    def effect(self, branch, instead):
+        return None
+
+    def is_done_again(self, access):
+        return False

@@ -8,6 +8,7 @@ from . import isa
 from .account import Differs, NotWalked
 from .halfway import Early, Overwritten, early_looks, overwritten, taken_over
 from .hangs import hang_lines
+from .stacks import stack_lines
 from .telling import place, what_served
 from .trace import NotRead, context_name, open_trace
 from .whatif import Otherwise
@@ -59,8 +60,8 @@ def _stale(trace, shared, look):
     for stores, back in _returns(trace, look):
         last = stores[-1][1]
         if (last.new ^ load.new) & bits_of(load):
-            use, late = (Otherwise(trace, shared, look.load, last.new, back - 1, is_late).use() for is_late in (False, True))
-            if use and late:
+            use = Otherwise(trace, shared, look.load, last.new, back - 1).use()
+            if use and Otherwise(trace, shared, look.load, last.new, back - 1, is_late=True).use():
                 return Stale(load.addr & ~3, look.load, stores, use, _is_announced(trace, look.load, stores[0]))
     return None
 
@@ -102,7 +103,7 @@ def explained(image, memory, log, is_hang=False):
         file.flush()
         try:
             trace = open_trace(image, memory, file.name)
-            return switch_lines(trace) + (hang_lines(trace) if is_hang else [])
+            return [*stack_lines(trace), *switch_lines(trace), *(hang_lines(trace) if is_hang else [])]
         except (Differs, NotRead, NotWalked):
             return []
 
@@ -111,11 +112,10 @@ def switch_lines(trace):
     """Two lines for each switch at which a load became stale and was used, or at which others saw what was half done. If there are
     none, those at which the load had been announced, or a thread found another value than its own. None at all: []."""
     stale = stale_uses(trace)
-    first = [(s.load[1].step, s) for s in stale if not s.is_announced]
-    first += [(e.load[1].step, e) for e in early_looks(trace)]
-    other = [(s.load[1].step, s) for s in stale] + [(o.load[1].step, o) for o in overwritten(trace)] if not first else []
-    told = sorted(first or other, key=lambda pair: pair[0])
-    return [line for _, found in told[:MOST_TOLD] for line in _TELL[type(found)](trace, found)] + _more(told)
+    known = {s.load[1].step for s in stale}
+    first = [s for s in stale if not s.is_announced] + [e for e in early_looks(trace) if e.load[1].step not in known]
+    told = sorted(first or stale + overwritten(trace), key=lambda found: found.load[1].step)
+    return [line for found in told[:MOST_TOLD] for line in _TELL[type(found)](trace, found)] + _more(told)
 
 
 def _more(told):
@@ -141,7 +141,7 @@ def _stale_lines(trace, stale):
     yield "%s is left with %s = %s (%s); %s stores %s (%s%s)," % (
         _who(trace, load), trace.names.name(load[1].addr), _value(load[1]), _at(trace, load),
         _who(trace, last), _value(last[1]), _at(trace, last), more)
-    how = "goes on with %s" % _value(load[1]) if stale.use.instead is None else "doesn't look again"
+    how = "goes on with %s" % _value(load[1]) if stale.use.instead is None else "doesn't check again"
     yield "    and %s %s: it %s" % (_who(trace, load), how, _use(trace, stale.use))
     for own, other in taken_over(trace, load, _moment(trace, stale.use)):
         yield "    meanwhile %s stores %s to %s (%s), where %s had stored %s" % (

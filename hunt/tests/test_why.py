@@ -119,6 +119,11 @@ class ByHand(unittest.TestCase):
         (stale,) = stale_uses(by_hand((0, LW), (1, SW), (0, IF), (0, NOTHING), (1, LW4), (0, NOTHING)))
         self.assertEqual((stale.use.commit, stale.use.access, stale.use.instead), (None, None, stale.load[1].pc + 8))
 
+    def test_a_look_that_decides_nothing(self):
+        """The word was 0, so the branch leaves out the nop. After that the word is only loaded, and then there is a store."""
+        (stale,) = stale_uses(by_hand((0, LW), (1, SW), (0, IF), (0, NOTHING), (0, LW), (1, LW4), (0, SW4)))
+        self.assertEqual((stale.use.commit.number, stale.use.instead), (7, stale.load[1].pc + 8))
+
     def test_a_fresh_look(self):
         self.assertEqual(uses(by_hand((0, LW), (1, SW), (0, LW), (0, SW4), (1, LW4))), [])
 

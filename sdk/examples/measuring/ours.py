@@ -41,7 +41,7 @@ def is_replayed(folder):
 
 def line_of(source):
     """The line that a program's first comment names, as `account.c:12`."""
-    named = re.search(r"line (\d+)(?: of (\w+\.c))?", source.read_text())
+    named = re.search(r"line\s+(\d+)(?: of (\w+\.c))?", source.read_text())
     return "%s:%s" % (named[2] or source.name, named[1])
 
 
