@@ -24,8 +24,7 @@ LONG = [("kinds", "-DTHREADS=3 -DKIND=1"), ("signal", "-DTHREADS=3"), ("broadcas
 class Primitives(Case):
     def test_all_orders(self):
         cases = CASES + (LONG if "SDK_LONG" in os.environ else [])
-        for _, found in self.each(cases, lambda case: searched(SEARCHED / (case[0] + ".c"), *case[1].split(), seconds=600)):
-            self.assertClear(found)
+        self.each(cases, lambda case: searched(SEARCHED / (case[0] + ".c"), *case[1].split(), seconds=600), lambda _, found: self.assertClear(found))
 
 
 if __name__ == "__main__":
