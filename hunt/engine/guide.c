@@ -1,14 +1,28 @@
 #include "guide.h"
 
+#include "idle.h"
+#include "stuck.h"
+
 static enum turn_end end_of(enum stop stop) {
     return stop == AT_STOP ? STOPPED : stop == AT_WAIT ? WAITS : stop == AT_SPENT ? SPENT : FORCED;
 }
 
-static enum stop take_thread(struct run *r, uint32_t thread, uint64_t steps) {
-    if (thread >= r->machine.thread_count || !is_enabled(r, thread))
+static bool is_live(const struct run *r, uint32_t thread) {
+    return thread < r->machine.thread_count && r->machine.threads[thread].status == LIVE;
+}
+
+static enum stop take_freely(struct run *r, uint32_t thread, uint64_t steps) {
+    if (!is_enabled(r, thread))
         return AT_PLACE;
     begin_turn(r, thread);
     enum stop stop = go_steps(r, steps);
+    end_turn(r, end_of(stop));
+    return stop;
+}
+
+static enum stop take_exactly(struct run *r, uint32_t thread, uint64_t steps) {
+    begin_turn(r, thread);
+    enum stop stop = go_exactly(r, steps);
     end_turn(r, end_of(stop));
     return stop;
 }
@@ -21,14 +35,20 @@ static void take_raise(struct run *r, const struct turn *turn) {
     r->raised = 0;
 }
 
-static enum stop take_turn(struct run *r, const struct turn *turn) {
-    if (turn->actor == DMA) {
-        if (r->machine.requested)
-            do_dma(r);
-    } else if (turn->actor >= RAISE)
+/* What isn't a thread's. */
+static void take_other(struct run *r, const struct turn *turn) {
+    if (turn->actor >= RAISE)
         take_raise(r, turn);
-    else
-        return take_thread(r, turn->actor, turn->steps);
+    else if (r->machine.requested)
+        do_dma(r);
+}
+
+static enum stop take_turn(struct run *r, const struct turn *turn, enum manner manner) {
+    if (turn->actor >= DMA)
+        take_other(r, turn);
+    else if (is_live(r, turn->actor))
+        return manner == EXACTLY && turn->steps < WHOLE ? take_exactly(r, turn->actor, turn->steps)
+                                                        : take_freely(r, turn->actor, turn->steps);
     return AT_PLACE;
 }
 
@@ -48,7 +68,7 @@ static enum outcome finished(struct run *r, uint32_t last, const struct conditio
         if (holds_for_good(bad, &r->machine))
             return BAD;
         if (thread == NO_ONE && !r->machine.requested)
-            return holds_at_end(bad, &r->machine) ? BAD : GOOD;
+            return ends_badly(r, bad) ? BAD : GOOD;
         if (thread == NO_ONE) {
             do_dma(r);
             continue;
@@ -62,16 +82,47 @@ static enum outcome finished(struct run *r, uint32_t last, const struct conditio
     }
 }
 
-enum outcome guided(struct run *r, const struct turn *turns, size_t count, const struct condition *bad) {
+enum outcome guided(struct run *r, const struct guide *guide, const struct condition *bad) {
     uint32_t last = 0;
+    r->tries_locks = true; /* so that each thread that waits is in its loop */
     start_run(r);
-    for (size_t j = 0; j < count; j++) {
-        if (take_turn(r, &turns[j]) == AT_LIMIT)
+    for (size_t j = 0; j < guide->count; j++) {
+        const struct turn *turn = &guide->turns[j];
+        if (take_turn(r, turn, guide->manner) == AT_LIMIT)
             return LIMITED;
-        if (turns[j].actor < MOST_THREADS)
-            last = turns[j].actor;
-        if (holds_for_good(bad, &r->machine))
+        if (turn->actor < MOST_THREADS)
+            last = turn->actor;
+        if (guide->until == LAST_TURN ? holds_at_end(bad, &r->machine) : holds_for_good(bad, &r->machine))
             return BAD;
     }
-    return finished(r, last, bad);
+    return guide->until == LAST_TURN ? GOOD : finished(r, last, bad);
+}
+
+/* ---------------------------------------------------------------- idle steps */
+
+static void note_steps(struct run *r, struct idle *idle, const struct turn *turn) {
+    begin_turn(r, turn->actor);
+    size_t number = r->turn_count - 1;
+    note_turn(idle, &r->machine, turn->actor, number);
+    enum stop stop = AT_PLACE;
+    for (uint64_t j = 0; j < turn->steps && stop == AT_PLACE; j++) {
+        stop = go_exactly(r, 1);
+        note_step(idle, &r->machine, turn->actor, number);
+    }
+    end_turn(r, end_of(stop));
+}
+
+void without_idle_steps(struct run *r, const struct turn *turns, size_t count) {
+    static struct idle idle;
+    start_idle(&idle);
+    start_run(r);
+    for (size_t j = 0; j < count; j++) {
+        if (turns[j].actor >= DMA)
+            take_other(r, &turns[j]);
+        else if (is_live(r, turns[j].actor))
+            note_steps(r, &idle, &turns[j]);
+    }
+    for (size_t j = 0; j < idle.turn_count; j++)
+        if (r->turns[j].actor < MOST_THREADS)
+            r->turns[j].steps = idle.kept[j];
 }

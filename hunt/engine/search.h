@@ -12,14 +12,16 @@ struct limits {
 };
 
 /* Why the search ended. */
-enum finish { FOUND, BOUND_DONE, ALL_DONE, OUT_OF_TRIES, OUT_OF_TIME, OUT_OF_STATES };
+enum finish { FOUND, BOUND_DONE, ALL_DONE, OUT_OF_TRIES, OUT_OF_TIME, OUT_OF_STATES, INTERRUPTED };
 
 struct tally {
-    uint64_t tries, ended, waited, repeated, limited, spent;
+    uint64_t tries, ended, waited, repeated, limited;
     uint32_t most_places, bound, restarts;
 };
 
 enum finish search(struct run *r, const struct condition *bad, const struct limits *limits, struct tally *tally);
+/* The search ends after the present run. A signal may call this. */
+void interrupt_search(void);
 /* What a state is in which no thread is enabled: all have ended, all wait, or it comes again in turns. */
 enum leaf { ALL_ENDED, ALL_WAIT, COMES_AGAIN };
 enum leaf leaf_of(struct run *r);

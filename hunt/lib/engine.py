@@ -6,20 +6,26 @@ each log walked by the proved program, and compares.
 """
 
 from collections import namedtuple
+from contextlib import suppress
 import hashlib
 import os
 from pathlib import Path
 import shutil
+import signal
+import struct
 import subprocess
 import tempfile
 
 from .conditions import KINDS
+from .image import section
 from .logs import ORDER_SIZE, Input, Log
 
 SOURCES = Path(__file__).resolve().parent.parent / "engine"
 FLAGS = ("-std=c11", "-O2")
 DMA, RAISE = 127, 128  # actors of turns beside threads; an interrupt has its thread as `steps`
 WHOLE = (1 << 62)      # steps of a turn that goes on until its thread ends or waits
+FREELY, EXACTLY = 0, 1  # how a list of turns leads a run; guide.h says what they are
+TO_ITS_END, TO_LAST_TURN = 0, 1
 
 # actor: a thread, DMA, or RAISE and more. end: forced, stopped (the thread ended), waits, or spent (its steps were over).
 Turn = namedtuple("Turn", "actor steps value end")
@@ -27,9 +33,14 @@ Turn = namedtuple("Turn", "actor steps value end")
 # thread that is live its commits until it is back in this state, as (size, Input or None), or None. answers: (thread, Input).
 Told = namedtuple("Told", "leaf turns log account loops answers")
 Bound = namedtuple("Bound", "bound tries states places shared seconds")
-# how: found, bound (all up to the greatest bound are done), all (there are no more orders), tries, seconds or states.
-Search = namedtuple("Search", "how bounds tries ended hung limited spent places bound told")
-Options = namedtuple("Options", "seed input tick turn steps raises version", defaults=(0, None, 64, 10000, 1000000, (), 1))
+# how: found, bound (all up to the greatest bound are done), all (there are no more orders), tries, seconds or states (a limit was
+# met), or stopped (by Ctrl-C). ends: the different ends that were met, if the engine was made to collect them.
+Search = namedtuple("Search", "how bounds tries ended hung limited places bound told ends")
+# memory: the bytes asked for. threads: (status, code) of each; status 0 is live, 1 ended, 2 faulted. forced: the fewest switches.
+End = namedtuple("End", "memory threads forced")
+# threads: the most that there may be, or None for as many as the version has.
+Options = namedtuple("Options", "seed input tick turn steps raises version threads all_places",
+                     defaults=(0, None, 64, 10000, 1000000, (), 1, None, False))
 
 
 class NoEngine(Exception):
@@ -61,6 +72,12 @@ def built():
     return program
 
 
+def acquires(image):
+    """The addresses of the instructions that the image marks as those that take a lock."""
+    marks = section(image.file, b".delorean.acquires")
+    return [pc for (pc,) in struct.iter_unpack("<I", marks[:len(marks) // 4 * 4]) if 0 < pc < image.size]
+
+
 def hexed(data):
     return data.hex().upper() or "-"
 
@@ -89,7 +106,7 @@ class Engine:
     def setup_lines(self, image, name):
         o = self.options
         yield "memory %d %d %s" % (image.size, image.entry, name)
-        yield "threads %d" % (15 if o.version == 1 else 63)
+        yield "threads %d" % self.most_threads()
         yield "standard %d" % self.standard()
         yield "seed %d" % o.seed
         yield "tick %d" % o.tick
@@ -98,13 +115,30 @@ class Engine:
         if o.input:
             yield "input %s" % Path(o.input).resolve()
         yield from ("raise %d %x" % raised for raised in o.raises)
+        if o.all_places:
+            yield "all-places"
+        else:
+            yield from ("acquire %x" % pc for pc in acquires(image))
+
+    def most_threads(self):
+        return self.options.threads or (15 if self.options.version == 1 else 63)
 
     def standard(self):
         return 4096 if self.options.version == 1 else 65536
 
     def close(self):
-        self.process.stdin.close()
+        with suppress(BrokenPipeError):
+            self.process.stdin.close()
         self.process.wait()
+        self.process.stdout.close()
+
+    def __enter__(self):
+        return self
+
+    def __exit__(self, kind, *_):
+        if kind is not None:
+            self.process.kill()
+        self.close()
 
     def send(self, *lines):
         try:
@@ -126,32 +160,55 @@ class Engine:
     # ------------------------------------------------------------ what it does
 
     def search(self, switches, tries, states, seconds, on_bound=lambda bound: None):
-        self.send("search %d %d %d %f" % (switches, tries, states, seconds))
-        bounds, told = [], None
+        before = signal.signal(signal.SIGINT, lambda *_: self.process.send_signal(signal.SIGINT))
+        try:
+            self.send("search %d %d %d %f" % (switches, tries, states, seconds))
+            return self.read_search(on_bound)
+        finally:
+            signal.signal(signal.SIGINT, before)
+
+    def read_search(self, on_bound):
+        bounds, ends, told = [], [], None
         while (words := self.line())[0] == "bound":
             bounds.append(Bound(*map(int, words[1:10:2]), float(words[11])))
             on_bound(bounds[-1])
-        tries, ended, hung, limited, spent, places, bound, _ = map(int, words[1:])
+        while words[0] == "met":
+            ends.append(read_end(words))
+            words = self.line()
+        tries, ended, hung, limited, places, bound, _ = map(int, words[1:])
         words = self.line()
         if words[0] == "leaf":
             told = self.read_told(words)
             words = self.line()
-        return Search(words[1], bounds, tries, ended, hung, limited, spent, places, bound, told)
+        return Search(words[1], bounds, tries, ended, hung, limited, places, bound, told, ends)
+
+    def collect_ends(self, address, length):
+        """From now on searches tell the different ends that they meet, each with these bytes of memory."""
+        self.send("ends %d %d" % (address, length))
 
     def lead(self, turns, word):
         self.send(*("turn %d %d %x" % (t.actor, t.steps, t.value) for t in turns), word)
-        return self.line()[1]
 
-    def guided(self, turns):
-        """(outcome, turns): bad, good, or limited, and the turns that were taken."""
-        outcome, taken = self.lead(turns, "guide"), []
+    def read_turns(self):
+        turns = []
         while (words := self.line())[0] == "turn":
-            taken.append(self.read_turn(words))
-        return outcome, taken
+            turns.append(self.read_turn(words))
+        return turns
 
-    def told(self, turns):
+    def guided(self, turns, manner=FREELY, until=TO_ITS_END):
+        """(outcome, turns): bad, good, or limited, and the turns that were taken."""
+        self.lead(turns, "guide %d %d" % (manner, until))
+        return self.line()[1], self.read_turns()
+
+    def without_idle_steps(self, turns):
+        """The turns, taken exactly, without steps that lead their thread back to where it was and change nothing."""
+        self.lead(turns, "without-idle-steps")
+        return self.read_turns()
+
+    def told(self, turns, manner=FREELY, until=TO_ITS_END):
         """(outcome, Told)."""
-        outcome = self.lead(turns, "tell")
+        self.lead(turns, "tell %d %d" % (manner, until))
+        outcome = self.line()[1]
         told = self.read_told(self.line())
         self.line()
         return outcome, told
@@ -185,8 +242,8 @@ class Engine:
         commits = [line.split()[2:] for line in texts["order"].splitlines()]
         order, sizes = [int(actor) for actor, _ in commits], [int(size) for _, size in commits]
         dmas = [(int(at), bytes.fromhex(data.strip("-"))) for _, at, data in map(str.split, texts["dmas"].splitlines())]
-        threads = 15 if self.options.version == 1 else 63
-        return Log(self.options.version, threads, ORDER_SIZE, self.standard(), len(order), order, sizes, interrupts, answers, dmas)
+        return Log(self.options.version, self.most_threads(), ORDER_SIZE, self.standard(), len(order), order, sizes, interrupts,
+                   answers, dmas)
 
     @staticmethod
     def read_loop(words):
@@ -197,6 +254,11 @@ class Engine:
             size, *answer = word.split(":")
             commits.append((int(size), Input(int(answer[0]), int(answer[1], 16), b"") if answer else None))
         return int(words[1]), commits
+
+
+def read_end(words):
+    threads = tuple(tuple(map(int, word.split(":"))) for word in words[3:])
+    return End(bytes.fromhex(words[2]), threads, int(words[1]))
 
 
 def read_answer(line):

@@ -23,8 +23,9 @@ class Differs(Exception):
 
 
 class Judge:
-    def __init__(self, image, memory, condition):
-        self.image, self.memory, self.condition = image, memory, condition
+    def __init__(self, image, memory, condition, is_cut=False):
+        """is_cut: the condition, without hangs, is of where a log ends, even if threads could go on."""
+        self.image, self.memory, self.condition, self.is_cut = image, memory, condition, is_cut
 
     def walked(self, log):
         """The account that the proved program's walk puts for the log's bytes."""
@@ -39,7 +40,7 @@ class Judge:
         account = self.walked(log)
         self.compare(told.account, account)
         ended = Ended(account)
-        if not ended.meets(self.condition, told.leaf != "goes-on"):
+        if not ended.meets(self.condition, self.is_cut or told.leaf != "goes-on"):
             raise Differs("the account of the walk doesn't meet the condition")
         looped = 0
         if told.leaf in ("waits", "repeats"):

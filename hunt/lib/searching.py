@@ -9,12 +9,15 @@ from .engine import DMA as DMA_TURN
 from .engine import Engine, Options
 from .image import NotAnImage, read_image
 from .judge import Differs, Judge, switches_of
+from .manners import NoOutput, try_output
 from .symbols import Names, NoWord
+from .why import explained
 
 CONDITIONS = """\
   exit THREAD = CODE        the thread has ended with the code; or != < > <= >=. THREAD is a number, or any
   fault [THREAD [= CAUSE]]  it has faulted
   hang [THREAD]             it never ends: neither it nor any other thread goes on
+  stuck [THREAD]            it never ends, in whatever order: no thread goes on, or those that do go round without an end
   word WORD = VALUE         at the end the word has the value; WORD is a symbol or an address, with +OFFSET or without
   console = TEXT            what was put on the console; or !=
   console has TEXT          TEXT is a word of the shell, with \\n and \\xHH in it
@@ -32,7 +35,7 @@ def add_common(parser, with_log=False):
         parser.add_argument("log", metavar="LOG", help="the log that ends badly")
     else:
         parser.add_argument("--log-version", type=int, choices=(1, 2), default=1, help="of the log; 2 has up to 63 threads (1)")
-    parser.add_argument("--bad", action="append", required=True, metavar="CONDITION", help="what a bad end is, below")
+    parser.add_argument("--bad", action="append", required=not with_log, metavar="CONDITION", help="what a bad end is, below")
     parser.add_argument("--out", required=True, metavar="LOG", help="the log to be written")
     parser.add_argument("--seed", type=int, default=0, metavar="N", help="of the random bytes, as a plan's (0)")
     parser.add_argument("--input", metavar="FILE", help="the devices' input")
@@ -48,6 +51,13 @@ def counted(number, what):
     return "%d %s%s" % (number, noun + ending, " ended" + rest if rest else "")
 
 
+def ends_of(ended):
+    """A line for each thread."""
+    for thread, (status, code) in enumerate(ended.threads):
+        yield "thread %d %s" % (thread, {"live": "is live", "ended": "ended with %d" % code,
+                                         "fault": "faulted, cause %d" % code}[status])
+
+
 def read_raise(text):
     match = re.fullmatch(r"(\d{1,2}):(0x[0-9A-Fa-f]{1,8}|\d{1,10})", text)
     if not match:
@@ -60,6 +70,10 @@ class Job:
 
     def __init__(self, given):
         self.given = given
+        try:
+            try_output(given.out)
+        except NoOutput as error:
+            raise Refused(error.args[0]) from None
         if not re.fullmatch(r"[1-9][0-9]{3,7}", given.memory) or int(given.memory) % 4096 or int(given.memory) > 1 << 24:
             raise Refused("MEMORY is a multiple of 4096 up to 16777216")
         try:
@@ -71,15 +85,20 @@ class Job:
         except NotAnImage as error:
             raise Refused("refused image 0 %d" % error.args) from None
         try:
-            self.condition = read_condition(given.bad, Names(self.image))
+            self.condition = read_condition(given.bad or [], Names(self.image))
         except NoWord as error:
             raise BadCondition("%s: %s" % error.args) from None
         raises = tuple(map(read_raise, getattr(given, "raises", ())))
-        self.options = Options(given.seed, given.input, given.tick, given.turn, given.steps, raises, given.log_version)
+        threads = getattr(given, "log_threads", None)
+        self.options = Options(given.seed, given.input, given.tick, given.turn, given.steps, raises, given.log_version, threads)
         self.judge = Judge(given.image, given.memory, self.condition)
 
-    def engine(self, answers=(), dmas=()):
-        return Engine(self.image, self.condition, self.options, answers, dmas)
+    def engine(self, answers=(), dmas=(), condition=None):
+        return Engine(self.image, self.condition if condition is None else condition, self.options, answers, dmas)
+
+    def allow_steps(self, steps):
+        """The limit of steps is met so much later."""
+        self.options = self.options._replace(steps=self.given.steps + steps)
 
     def write(self, told):
         """Has the run judged, writes its log, and says what it is."""
@@ -91,7 +110,9 @@ class Job:
             Path(self.given.out).write_bytes(verdict.log)
         except OSError as error:
             raise Refused("%s: %s" % (error.filename, error.strerror)) from None
-        print("\n".join(self.summary(told, verdict)))
+        is_hang = told.leaf in ("waits", "repeats")
+        why = explained(self.given.image, self.given.memory, verdict.log, is_hang)
+        print("\n".join([*self.summary(told, verdict), *why]))
 
     def summary(self, told, verdict):
         log = told.log
@@ -102,12 +123,10 @@ class Job:
         others = (cut, "chunk ended early"), (len(log.interrupts), "interrupt"), (len(log.dmas), "DMA")
         counts += [counted(n, what) for n, what in others if n]
         yield "%s: %s; walked" % (self.given.out, ", ".join(counts))
-        for thread, (status, code) in enumerate(verdict.ended.threads):
-            yield "thread %d %s" % (thread, {"live": "is live", "ended": "ended with %d" % code,
-                                             "fault": "faulted, cause %d" % code}[status])
+        yield from ends_of(verdict.ended)
         if told.leaf == "waits":
             yield "no thread goes on, in whatever order: the loop of each that is live was walked, and changes nothing"
         if told.leaf == "repeats":
             yield "the state comes again: the loop of each that is live was walked, and leads back to it"
         if told.leaf == "goes-on":
-            yield "others could go on; that changes nothing of this"
+            yield "others could go on; %s" % ("this is of the log's end" if self.judge.is_cut else "that changes nothing of this")

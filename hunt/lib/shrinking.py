@@ -1,8 +1,17 @@
-"""Makes a run's turns fewer while it still ends badly: `Shrinker(engine).shrunk(turns)`."""
+"""Makes a run's turns fewer while it still ends badly: `Shrinker(engine).shrunk(turns)`.
 
+The turns of a log, taken exactly, are where it begins, so what ends badly is never lost. From there on each try is a list of
+turns that may lead anywhere: it counts only if its run ends badly too. Most are taken freely, so that a thread that waits is
+passed over; where that leads elsewhere, exactly.
+"""
+
+from collections import namedtuple
 import time
 
-from .engine import DMA, RAISE, WHOLE, Turn
+from .engine import DMA, EXACTLY, FREELY, WHOLE
+
+# A run that ends badly: the turns that it took, and the manner in which they lead to it.
+Run = namedtuple("Run", "turns manner")
 
 
 def is_thread(turn):
@@ -29,6 +38,13 @@ def joined(turns):
     return out
 
 
+def as_led(turns, manner):
+    """The turns as they are handed to the engine: what ended in waiting does so again, however many steps that takes."""
+    if manner == FREELY:
+        return turns
+    return [turn._replace(steps=WHOLE) if is_thread(turn) and turn.end in ("waits", "stopped") else turn for turn in turns]
+
+
 def moved(turns, place, other):
     """The turn's steps given to another turn of its thread."""
     steps = min(WHOLE, turns[place].steps + turns[other].steps)
@@ -44,78 +60,101 @@ def neighbours(turns, place):
 
 
 class Shrinker:
-    def __init__(self, engine, seconds=60.0):
-        self.engine, self.deadline, self.tries = engine, time.monotonic() + seconds, 0
+    """until: where the runs end. deadline: of time.monotonic. tries: how many runs there were. least: the least Run so far."""
+
+    def __init__(self, engine, until, deadline):
+        self.engine, self.until, self.deadline, self.tries, self.least = engine, until, deadline, 0, None
 
     def is_late(self):
         return time.monotonic() > self.deadline
 
-    def accept(self, turns):
-        """Takes the turns where they lead to a bad end too, and are less than the best."""
-        if self.is_late():
-            return False
-        self.tries += 1
-        outcome, taken = self.engine.guided(turns)
-        taken = [turn for turn in taken if not is_thread(turn) or turn.steps]
-        if outcome != "bad" or measure(taken) >= measure(self.best):
-            return False
-        self.best = taken
-        return True
-
     def shrunk(self, turns):
-        """The least turns that were found, where these end badly; else None."""
-        outcome, self.best = self.engine.guided(turns)
-        if outcome != "bad":
+        """The least Run that was found, or None if these turns, taken exactly, don't end badly."""
+        exact = self.tried(turns, EXACTLY)
+        if exact is None:
             return None
+        self.keep(exact)
+        useful = [turn for turn in self.engine.without_idle_steps(turns) if not is_thread(turn) or turn.steps]
+        useful_exact = self.tried(useful, EXACTLY) or exact
+        for start, manners in ((self.tried(turns, FREELY), [FREELY]), (self.tried(useful, FREELY), [FREELY]),
+                               (useful_exact, [FREELY, EXACTLY])):
+            if start and not self.is_late():
+                Descent(self, start, manners).descend()
+        return self.least
+
+    def tried(self, turns, manner):
+        """The Run that the turns lead to, or None if it doesn't end badly."""
+        self.tries += 1
+        outcome, taken = self.engine.guided(as_led(turns, manner), manner, self.until)
+        return Run([turn for turn in taken if not is_thread(turn) or turn.steps], manner) if outcome == "bad" else None
+
+    def told(self, run):
+        """The engine's Told of a Run."""
+        return self.engine.told(as_led(run.turns, run.manner), run.manner, self.until)[1]
+
+    def keep(self, run):
+        if self.least is None or measure(run.turns) < measure(self.least.turns):
+            self.least = run
+
+
+class Descent:
+    """From one run to a lesser one, as long as a move leads to one. manners: those in which turns are tried, in this order."""
+
+    def __init__(self, shrinker, start, manners):
+        self.shrinker, self.run, self.manners = shrinker, start, manners
+
+    @property
+    def turns(self):
+        return self.run.turns
+
+    def descend(self):
         before = None
-        while measure(self.best) != before and not self.is_late():
-            before = measure(self.best)
-            self.accept(joined(self.best))
+        while measure(self.turns) != before and not self.shrinker.is_late():
+            before = measure(self.turns)
+            self.accept(joined(self.turns))
             self.drop_runs_of_turns()
             self.lengthen_turns()
             self.move_turns()
-            self.accept(joined(self.best))
-        return self.best
+            self.accept(joined(self.turns))
+
+    def accept(self, turns):
+        """Goes on with the turns if they lead to a bad end too, and are less."""
+        for manner in self.manners:
+            if self.shrinker.is_late():
+                return False
+            run = self.shrinker.tried(turns, manner)
+            if run and measure(run.turns) < measure(self.turns):
+                self.run = run
+                self.shrinker.keep(run)
+                return True
+        return False
 
     def drop_runs_of_turns(self):
         """First half of them at once, then a quarter, down to single ones: delta debugging."""
-        size = max(1, len(self.best) // 2)
+        size = max(1, len(self.turns) // 2)
         while True:
             at = 0
-            while at < len(self.best):
-                rest = self.best[:at] + self.best[at + size :]
+            while at < len(self.turns) and not self.shrinker.is_late():
+                rest = self.turns[:at] + self.turns[at + size :]
                 if not (self.accept(rest) or self.accept(joined(rest))):
                     at += size if size > 4 else 1
-            if size == 1:
+            if size == 1 or self.shrinker.is_late():
                 return
             size //= 2
 
     def lengthen_turns(self):
         """A thread goes on until it ends or waits, so the switch after it isn't forced."""
-        for place in range(len(self.best)):
-            if place < len(self.best) and is_thread(self.best[place]) and self.best[place].end == "forced":
-                longer = self.best[place]._replace(steps=WHOLE)
-                self.accept(self.best[:place] + [longer] + self.best[place + 1 :])
+        for place in range(len(self.turns)):
+            if self.shrinker.is_late():
+                return
+            if place < len(self.turns) and is_thread(self.turns[place]) and self.turns[place].end == "forced":
+                longer = self.turns[place]._replace(steps=WHOLE)
+                self.accept(self.turns[:place] + [longer] + self.turns[place + 1 :])
 
     def move_turns(self):
         """A thread does what it does in one turn in its next one, or in the one before."""
         place = 0
-        while place < len(self.best):
-            near = [j for j in neighbours(self.best, place)] if is_thread(self.best[place]) else []
-            if not any(self.accept(joined(moved(self.best, place, j))) for j in near[:2]):
+        while place < len(self.turns) and not self.shrinker.is_late():
+            near = [j for j in neighbours(self.turns, place)] if is_thread(self.turns[place]) else []
+            if not any(self.accept(joined(moved(self.turns, place, j))) for j in near[:2]):
                 place += 1
-
-
-def turns_of(log, commits):
-    """A turn for each commit of a log, given as (actor, size) by its walk's account, and for each interrupt."""
-    done, turns = {}, []
-    for actor, size in commits:
-        if actor == 63:
-            turns.append(Turn(DMA, 0, 0, "stopped"))
-            continue
-        turns.append(Turn(actor, size or 1, 0, "forced"))
-        done[actor] = done.get(actor, 0) + 1
-        value = log.interrupts.get((actor, done[actor]))
-        if value is not None:
-            turns.append(Turn(RAISE, actor, value, "stopped"))
-    return turns
