@@ -3,27 +3,30 @@ on. Two finds are of the same bug if the forced switches of their shrunk logs co
 same variables. A find whose switches are those of a smaller one and more counts as that bug."""
 
 from collections import defaultdict, namedtuple
-from contextlib import closing
 from itertools import zip_longest
 import time
 
-from lib.engine import RAISE, Engine, Options
+from lib.aims import Tries, met
+from lib.engine import RAISE, TO_LAST_TURN
 from lib.isa import STORES
 from lib.judge import Judge
 from lib.logs import DMA as DMA_COMMIT
 from lib.logs import read_log
 from lib.play import play
-from lib.shrinking import Shrinker, measure, turns_of
+from lib.recording import Recording
+from lib.shrinking import measure
 from lib.trace import Trace
 
-from .hangs import ANYONE, HANG, commits_of
+from .finds import FindJob
+from .hangs import HANG
 from .sliding import slid
 from .trying import HUNG, OUTCOMES
 
 EACH = 10.0  # seconds for one find, at most
 
 # marks: the forced switches of the shrunk log, as a set of (pc, word); the word is None if the thread comes to no shared word.
-Shrunk = namedtuple("Shrunk", "find told measure marks trace")
+# log: its bytes, which were walked.
+Shrunk = namedtuple("Shrunk", "find told measure marks trace log")
 # least: the Shrunk with the least measure. finds: all that were shrunk to it.
 Bug = namedtuple("Bug", "least finds")
 
@@ -33,13 +36,10 @@ class Grouping:
 
     def __init__(self, sphere, image, condition, input_name, store, seconds):
         self.sphere, self.image, self.input_name, self.store = sphere, image, input_name, store
-        self.deadline = time.monotonic() + seconds
-        self.conditions = {OUTCOMES[HUNG]: HANG}
-        self.condition = condition
+        self.deadline, self.condition = time.monotonic() + seconds, condition
 
-    def judge(self, find):
-        condition = self.conditions.get(find.outcome, self.condition)
-        return Judge(self.sphere["image"], str(self.sphere["memory"]), condition)
+    def condition_of(self, find):
+        return HANG if find.outcome == OUTCOMES[HUNG] else self.condition
 
     def bugs(self, finds):
         """(bugs, finds that weren't shrunk in time)."""
@@ -62,30 +62,19 @@ class Grouping:
                 left.append(find)
 
     def shrink(self, find, seconds):
-        """The Shrunk of a find, or None if it can't be."""
+        """The Shrunk of a find, or None if its log doesn't end so."""
         data = self.store.log(find.setting, find.seed)
-        log = read_log(data)
-        turns = turns_of(log, commits_of(self.judge(find).walked(data)))
-        with closing(self.engine(find, log, self.answers(find, log, turns))) as engine:
-            best = Shrinker(engine, seconds).shrunk(turns)
-            if best is None:
-                return None
-            told = engine.told(slid(engine, best, self.deadline))[1]
+        job = FindJob(self.sphere, self.image, self.condition_of(find), self.input_name, find.seed, read_log(data))
+        recording = Recording(job, data)
+        aim = met(recording, job.condition)
+        if aim is None:
+            return None
+        told = Tries(job, recording, seconds).least([aim])[2]
+        with job.engine(recording.answers, recording.dmas, aim.condition) as engine:
+            told = slid(engine, told, aim.until, self.deadline)
+        log = Judge(job.given.image, job.given.memory, aim.condition, aim.until == TO_LAST_TURN).judged(told).log
         trace = Trace(self.image, told.log, play(self.image, told.log))
-        return Shrunk(find, told, measure(told.turns), frozenset(marks_of(told, trace)), trace)
-
-    def answers(self, find, log, turns):
-        """The answers from outside, each with the thread that takes it."""
-        answers = [(ANYONE, answer) for answer in log.inputs]
-        if not answers:
-            return answers
-        with closing(self.engine(find, log, answers)) as engine:
-            return engine.told(turns)[1].answers
-
-    def engine(self, find, log, answers):
-        options = Options(find.seed, self.input_name, version=log.version)
-        condition = self.conditions.get(find.outcome, self.condition)
-        return Engine(self.image, condition, options, answers, [data for _, data in log.dmas])
+        return Shrunk(find, told, measure(told.turns), frozenset(marks_of(told, trace)), trace, log)
 
 
 def is_same(least, shrunk):

@@ -118,7 +118,6 @@ class Conductor:
         while pool.has_room() and self.given < self.ordered.next + WAITING * len(pool.workers):
             batch = self.work.take(self.size(pool))
             if not batch:
-                pool.finish()
                 return
             self.batches[self.given] = batch
             pool.give(self.given, batch)
@@ -139,6 +138,7 @@ class Conductor:
 
     def collect_late(self, pool):
         """What is still done shortly after a stop, and what came before its turn."""
+        pool.stop()
         deadline = time.monotonic() + 4 * TICK
         while self.batches.keys() - self.ordered.held.keys() and time.monotonic() < deadline:
             self.collect(pool.wait(TICK))

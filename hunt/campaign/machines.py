@@ -1,9 +1,10 @@
 """Tries on other machines, by GNU parallel: `Machines(..)` is used like a Pool.
 
 A machine gets a bundle once, by ssh, and then batches. parallel gives a batch whose machine has died to another one. What no
-machine came to the end of is given again, in a new call of parallel."""
+machine came to the end of is given again, in the next call of parallel."""
 
 from collections import namedtuple
+from concurrent.futures import ThreadPoolExecutor
 import os
 import re
 import select
@@ -11,6 +12,7 @@ import shlex
 import shutil
 import subprocess
 import sys
+import tempfile
 
 from lib.judge import Differs
 from lib.searching import Refused
@@ -25,8 +27,9 @@ from .trying import BAD, HUNG, condition_of
 # A machine that doesn't answer for ten seconds is taken for dead. PARALLEL_SSH is parallel's own name for another command.
 ALIVE = "-o ConnectTimeout=10 -o ServerAliveInterval=5 -o ServerAliveCountMax=2"
 SSH = os.environ.get("PARALLEL_SSH") or "ssh -o BatchMode=yes " + ALIVE
-RETRIES = 3  # of a batch, by parallel, each on a machine on which it hasn't failed
-CALLS = 4    # of parallel, for batches that aren't done
+RETRIES = 3      # of a batch, by parallel, each on a machine on which it hasn't failed
+CALLS = 4        # of parallel, one after another, in which nothing is done
+FIRST, LAST = 2, 32  # batches for each slot in the first round, and at most; each round has twice as many as the one before
 FOLDER = "$HOME/.cache/delorean-seeds"
 UNPACK = """set -e
 folder={folder}/{sum}
@@ -75,35 +78,47 @@ def read_login(text):
 
 
 def prepare(login, bundle):
-    """Copies the bundle to a machine if it isn't there, and says how many tries it does at once; None if it can't be reached."""
+    """Copies the bundle to a machine if it isn't there. How many tries it does at once, and None; or why it can't be taken."""
     script = UNPACK.format(folder='"%s"' % FOLDER, sum=bundle.sum)
     done = subprocess.run([*login.command, script], input=bundle.archive, capture_output=True)
     if done.returncode != 0:
-        print("seeds: %s is left out: %s" % (login.text, done.stderr.decode("utf-8", "replace").strip()), file=sys.stderr)
-        return None
-    return login.slots or int(done.stdout.split()[-1])
+        return None, done.stderr.decode("utf-8", "replace").strip() or "ssh ended with status %d" % done.returncode
+    return login.slots or int(done.stdout.split()[-1]), None
 
 
 class Machines:
+    """Batches are given out in rounds, each of which is a call of parallel. The next round's are collected meanwhile."""
+
     SECONDS, LEAST, MOST = 10, 20, 20_000  # of a batch, and tries of one
 
     def __init__(self, campaign, logins, first, scratch, joblog):
         if shutil.which("parallel") is None:
             raise Refused("GNU parallel isn't installed")
         self.campaign, self.first, self.joblog = campaign, first, joblog
-        self.logins, self.bundle = logins, Bundle(campaign)
+        self.logins, self.bundle, self.left_out = logins, Bundle(campaign), set()
         self.reach()
-        self.workers = range(sum(self.slots.values()))
         self.checker = Checker(campaign, scratch.folder)
-        self.tries, self.calls, self.process, self.read = {}, 0, None, b""
+        self.begin()
 
-    # ------------------------------------------------------------ parallel
+    def begin(self):
+        """tries: of each batch that isn't done. waiting, given: the batches of the next round, and of this one."""
+        self.tries, self.waiting, self.given, self.read = {}, [], [], b""
+        self.process, self.each, self.fruitless, self.is_stopped = None, FIRST, 0, False
 
     def reach(self):
         """Finds the machines that answer, and how many tries each does at once."""
-        self.slots = {login.text: count for login in self.logins if (count := prepare(login, self.bundle))}
+        with ThreadPoolExecutor(len(self.logins)) as threads:
+            found = list(threads.map(lambda login: prepare(login, self.bundle), self.logins))
+        for login, (_, why) in zip(self.logins, found):
+            if why and login.text not in self.left_out:
+                print("seeds: %s is left out: %s" % (login.text, why), file=sys.stderr)
+        self.left_out = {login.text for login, (_, why) in zip(self.logins, found) if why}
+        self.slots = {login.text: count for login, (count, why) in zip(self.logins, found) if not why}
         if not self.slots:
             raise Refused("no machine can be reached")
+        self.workers = range(sum(self.slots.values()))
+
+    # ------------------------------------------------------------ parallel
 
     def words(self):
         logins = ["%d/%s" % (count, re.sub("^[0-9]+/", "", text)) for text, count in self.slots.items()]
@@ -112,44 +127,55 @@ class Machines:
         words += ["--joblog", "+" + str(self.joblog)] if self.joblog else []
         return [*words, "--sshlogin", ",".join(logins), run + " {1} {2} {3}"]
 
-    def call(self):
-        self.calls += 1
-        pipes = {"stdin": subprocess.PIPE, "stdout": subprocess.PIPE, "stderr": subprocess.DEVNULL}
-        self.process = subprocess.Popen(self.words(), start_new_session=True, **pipes)
+    def begin_round(self):
+        """Gives parallel all batches that wait. It gets no more meanwhile, because it may wait for them and do nothing."""
+        self.given, self.waiting = self.waiting, []
+        with tempfile.TemporaryFile() as lines:
+            lines.write("".join(map(self.line, self.given)).encode())
+            lines.seek(0)
+            self.process = subprocess.Popen(self.words(), stdin=lines, stdout=subprocess.PIPE, stderr=subprocess.DEVNULL,
+                                            start_new_session=True)
         os.set_blocking(self.process.stdout.fileno(), False)
 
-    def send(self, number):
+    def line(self, number):
         count = len(self.campaign.settings)
         tries = ranges_of(count * (seed - self.first) + setting for setting, seed in self.tries[number])
-        try:
-            self.process.stdin.write(("%d %d %s\n" % (number, self.first, tries)).encode())
-            self.process.stdin.flush()
-        except (BrokenPipeError, ValueError):
-            pass  # it is over; the batch is given to the next call
+        return "%d %d %s\n" % (number, self.first, tries)
+
+    def end_round(self):
+        """What no machine came to the end of is for the next round, and for the machines that answer then."""
+        self.process.wait()
+        self.process, self.read, self.each = None, b"", min(2 * self.each, LAST)
+        left = [number for number in self.given if number in self.tries]
+        self.waiting = left + self.waiting
+        self.fruitless = self.fruitless + 1 if len(left) == len(self.given) else 0
+        if self.fruitless == CALLS:
+            raise Refused("%d batches of tries weren't done by any machine" % len(left))
+        if self.waiting and not self.is_stopped:
+            self.reach()
 
     # ------------------------------------------------------------ like a Pool
 
     def has_room(self):
-        return len(self.tries) < 3 * len(self.workers)
+        return len(self.waiting) < self.each * len(self.workers)
 
     def give(self, number, tries):
-        if self.process is None:
-            self.call()
         self.tries[number] = tries
-        self.send(number)
+        self.waiting.append(number)
 
-    def finish(self):
-        """No more batches come: parallel begins those that it has held back."""
-        if self.process and not self.process.stdin.closed:
-            self.process.stdin.close()
+    def stop(self):
+        self.is_stopped = True
 
     def wait(self, seconds):
         """The batches that were done within so many seconds, as a list of Done."""
-        ready = select.select([self.process.stdout], [], [], seconds)[0]
-        data = self.process.stdout.read() if ready else None
-        if data == b"":
-            self.call_again()
-        return self.received(data or b"")
+        if self.process is None and not self.is_stopped:
+            self.begin_round()
+        ready = select.select([self.process.stdout] if self.process else [], [], [], seconds)[0]
+        data = self.process.stdout.read() if ready else b""
+        done = self.received(data or b"")
+        if ready and data == b"":
+            self.end_round()
+        return done
 
     def received(self, data):
         """What these bytes end; the beginning of a line waits for the rest."""
@@ -162,26 +188,10 @@ class Machines:
             return None  # no whole line, or a batch that was done twice
         return Done(done.number, *self.checker.checked(self.tries.pop(done.number), done))
 
-    def call_again(self):
-        """After the end of parallel: what isn't done is given to a new one."""
-        self.process.wait()
-        if not self.tries:
-            return
-        if self.calls == CALLS:
-            raise Refused("%d batches of tries weren't done by any machine" % len(self.tries))
-        self.read = b""
-        self.reach()
-        self.call()
-        for number in sorted(self.tries):
-            self.send(number)
-        self.finish()
-
     def close(self):
-        if self.process:
-            self.finish()
-            if self.process.poll() is None:
-                self.process.terminate()
-                self.process.wait()
+        if self.process and self.process.poll() is None:
+            self.process.terminate()
+            self.process.wait()
 
 
 class Checker:

@@ -111,8 +111,8 @@ class Pool:
         except OSError:
             pass  # it has died, which wait() sees
 
-    def finish(self):
-        """No more batches come."""
+    def stop(self):
+        """No more batches come, and those that are done shortly are all that will be."""
 
     def wait(self, seconds):
         """The batches that were done within so many seconds, as a list of Done."""

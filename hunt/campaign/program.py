@@ -31,20 +31,23 @@ class Ran(namedtuple("Ran", "status said")):
 
 
 def find_program():
-    """The words that run the program. bin/delorean may be a script, which builds the program first; then it is called once,
-    and after that the file that it calls."""
+    """The words that run the program. bin/delorean may be a script, which builds the program if need be; then it is asked for the
+    program's file, so that a try starts no shell."""
     words = program()
     file = shutil.which(words[0])
     if file is None:
         raise Refused("%s isn't there" % words[0])
+    if Path(file).resolve() != (TOP / "bin" / "delorean").resolve() or not is_script(file):
+        return [str(Path(file).resolve()), *words[1:]]
+    asked = subprocess.run([file, "--path"], stdin=subprocess.DEVNULL, stdout=subprocess.PIPE, text=True)
+    if asked.returncode != 0:
+        raise Refused("bin/delorean doesn't find the program")
+    return [asked.stdout.rstrip("\n")]
+
+
+def is_script(file):
     with open(file, "rb") as opened:
-        is_script = opened.read(2) == b"#!"
-    built = TOP / "out" / "delorean"
-    if is_script and Path(file).resolve() == (TOP / "bin" / "delorean").resolve():
-        if subprocess.run([file], stdin=subprocess.DEVNULL, stdout=subprocess.DEVNULL).returncode == 2 and built.is_file():
-            return [str(built)]
-        raise Refused("the program isn't built: call bin/delorean")
-    return [str(Path(file).resolve()), *words[1:]]
+        return opened.read(2) == b"#!"
 
 
 def sum_of_file(name):

@@ -99,7 +99,7 @@ def bugs_text(folder, grouping, finds):
     yield "%s among %s" % (counted(len(bugs), "bug"), counted(len(finds) - len(left), "find"))
     for number, bug in enumerate(bugs, 1):
         log = Path(folder) / ("bug-%d.log" % number)
-        log.write_bytes(grouping.judge(bug.least.find).judged(bug.least.told).log)
+        log.write_bytes(bug.least.log)
         yield from bug_text(number, bug, log)
     if left:
         yield "%s shrunk in time; they end so:" % ("1 find wasn't" if len(left) == 1 else "%d finds weren't" % len(left))

@@ -56,7 +56,7 @@ class Trier:
         self.image, self.condition = condition_of(campaign)
         self.rows = rows_of(self.condition)
         self.runner = Runner(campaign.program, folder)
-        self.hangs = Hangs(self.image, self.sphere["image"], self.sphere["memory"], self.plan.values.get("input"))
+        self.hangs = Hangs(self.sphere, self.image, self.plan.values.get("input"))
         self.texts = {}
 
     def tried(self, number, seed):
@@ -139,7 +139,7 @@ class Trier:
         return result_of(outcome, events, ended, log)
 
     def hang(self, number, seed, events):
-        return self.hangs.of(*self.whole_run(number, seed, events), seed)
+        return self.hangs.of(self.whole_run(number, seed, events)[0], seed)
 
 
 def result_of(outcome, events, ended, log=None):

@@ -7,6 +7,7 @@ import re
 import tomllib
 import unittest
 from pathlib import Path
+from unittest import mock
 
 import support
 from campaign import far, machines, plans, rates
@@ -124,26 +125,26 @@ class Cluster(machines.Machines):
     SECONDS, LEAST, MOST = 0.25, 3, 3
 
     def __init__(self, count, rng):
-        self.workers, self.rng, self.tries, self.read = range(count), rng, {}, b""
-        self.given, self.lost, self.twice, self.calls, self.process = [], 0, 0, 0, True
-        self.checker = self
+        self.workers, self.rng, self.checker = range(count), rng, self
+        self.lost = self.twice = 0
+        self.begin()
 
     def checked(self, tries, done):
         return done.results, done.failure
 
-    def send(self, number):
-        self.given.append(number)
-
-    def finish(self):
+    def reach(self):
         pass
 
     def wait(self, seconds):
         if not self.given:
-            for number in sorted(self.tries):
-                self.send(number)
-        self.rng.shuffle(self.given)
-        taken, self.given = self.given[:2000], self.given[2000:]
-        return self.received(b"".join(map(self.line, taken)))
+            self.given, self.waiting, self.process = self.waiting, [], mock.Mock()
+            self.queue = self.rng.sample(self.given, len(self.given))
+        taken, self.queue = self.queue[:2000], self.queue[2000:]
+        done = self.received(b"".join(map(self.line, taken)))
+        if not self.queue:
+            self.end_round()
+            self.given = []
+        return done
 
     def line(self, number):
         chance = self.rng.random()
