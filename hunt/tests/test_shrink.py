@@ -1,5 +1,5 @@
-"""A log whose walk ends badly is never denied by shrink, and what it writes ends as it must; a hang is told from a log that ends too
-early, and a limit from either. Logs are those of seeds, some that are cut, and some of small programs."""
+"""A log whose walk ends badly is never denied by shrink, and what it writes ends as it must. A hang is told from a log that ends too
+early, and a limit from either. The logs are those of seeds, some that are cut, and some of small programs."""
 
 import re
 import tempfile
@@ -213,7 +213,7 @@ class Limits(Shrunk):
         self.assertEqual((status, ended.threads), (0, [("ended", 7)]), said)
         status, said, _ = self.of_steps(code, 50, "--bad", "hang")
         self.assertEqual(status, 1)
-        self.assertIn("thread 0 doesn't hang, the log ends too early: from there the run goes on to its end\n"
+        self.assertIn("thread 0 doesn't hang: the log ends too early, and from there the run goes on to its end\n"
                       "the log's run ends otherwise:\nthread 0 ended with 7\n", said)
 
 
