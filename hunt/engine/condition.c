@@ -45,7 +45,18 @@ static bool holds(const struct atom *a, const struct machine *m) {
     }
 }
 
-static bool some_case_holds(const struct condition *c, const struct machine *m, bool for_good) {
+/* Which atoms may hold: all, all but those of a thread that is stuck, or those that last. */
+enum counted { ALL_COUNT, OTHERS_COUNT, LASTING_COUNT };
+
+static bool counts(const struct atom *a, enum counted counted) {
+    switch (counted) {
+    case ALL_COUNT: return true;
+    case OTHERS_COUNT: return a->kind != STUCK;
+    default: return a->kind == EXITS || a->kind == FAULTS;
+    }
+}
+
+static bool some_case_holds(const struct condition *c, const struct machine *m, enum counted counted) {
     bool all = false;
     for (size_t j = 0; j < c->count; j++) {
         if (c->atoms[j].begins_case) {
@@ -53,12 +64,20 @@ static bool some_case_holds(const struct condition *c, const struct machine *m, 
                 return true;
             all = true;
         }
-        bool lasts = c->atoms[j].kind == EXITS || c->atoms[j].kind == FAULTS;
-        all = all && (lasts || !for_good) && holds(&c->atoms[j], m);
+        all = all && counts(&c->atoms[j], counted) && holds(&c->atoms[j], m);
     }
     return all;
 }
 
-bool holds_at_end(const struct condition *c, const struct machine *m) { return some_case_holds(c, m, false); }
+bool holds_at_end(const struct condition *c, const struct machine *m) { return some_case_holds(c, m, ALL_COUNT); }
 
-bool holds_for_good(const struct condition *c, const struct machine *m) { return some_case_holds(c, m, true); }
+bool holds_of_others(const struct condition *c, const struct machine *m) { return some_case_holds(c, m, OTHERS_COUNT); }
+
+bool holds_for_good(const struct condition *c, const struct machine *m) { return some_case_holds(c, m, LASTING_COUNT); }
+
+bool some_is_stuck(const struct condition *c, const struct machine *m) {
+    for (size_t j = 0; j < c->count; j++)
+        if (c->atoms[j].kind == STUCK && holds(&c->atoms[j], m))
+            return true;
+    return false;
+}

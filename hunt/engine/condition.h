@@ -4,7 +4,7 @@
 
 #include "machine.h"
 
-enum atom_kind { EXITS, FAULTS, LIVES, WORD_IS, CONSOLE_IS, CONSOLE_HAS };
+enum atom_kind { EXITS, FAULTS, LIVES, WORD_IS, CONSOLE_IS, CONSOLE_HAS, STUCK };
 enum comparison { EQUAL, UNEQUAL, LESS, MORE, AT_MOST, AT_LEAST };
 
 struct atom {
@@ -22,8 +22,12 @@ struct condition {
     size_t count;
 };
 
-/* At an end, where nothing goes on. */
+/* At an end, where nothing goes on; a thread that is live counts as stuck. */
 bool holds_at_end(const struct condition *c, const struct machine *m);
+/* Likewise, without the cases that need a thread to be stuck. */
+bool holds_of_others(const struct condition *c, const struct machine *m);
+/* Whether a thread is live that the condition wants to be stuck. */
+bool some_is_stuck(const struct condition *c, const struct machine *m);
 /* Where it holds already and whatever comes: of exits and faults alone. */
 bool holds_for_good(const struct condition *c, const struct machine *m);
 

@@ -13,7 +13,7 @@ struct chunk {
     uint64_t steps;
     struct load *loads;
     size_t load_count, load_room;
-    uint8_t *held; /* of each step: a reservation stands before it that an SC will ask for */
+    uint8_t *held; /* of each step: there is a reservation before it with which an SC will succeed */
     size_t held_room;
     uint64_t reserved_at; /* the step of the last LR, or UINT64_MAX */
 };
@@ -21,7 +21,6 @@ struct chunk {
 struct noted { uint32_t thread, index, value; };
 
 static struct run *run;
-static uint32_t standard;
 static FILE *order, *inputs, *dmas, *account;
 static char *texts[4];
 static size_t text_sizes[4];
@@ -45,15 +44,14 @@ static void commit(uint32_t actor, uint64_t size) {
 
 /* ---------------------------------------------------------------- chunks */
 
-/* The chunk's next commit ends here at the latest: after a standard size, and not while a reservation is held. */
+/* The chunk's next commit ends here at the latest: after the longest chunk's size, and not between an LR and an SC that succeeds. */
 static uint64_t next_end(uint64_t from) {
-    if (chunk.steps - from <= standard)
+    uint32_t longest = run->machine.setup->longest_chunk;
+    if (chunk.steps - from <= longest)
         return chunk.steps;
-    uint64_t end = from + standard;
-    while (end > from && chunk.held[end])
+    uint64_t end = from + longest;
+    while (chunk.held[end])
         end--;
-    if (end == from)
-        fail("a reservation is held for longer than a chunk");
     return end;
 }
 
@@ -85,7 +83,7 @@ static void chunk_step(struct next next) {
         chunk.held = more_room(chunk.held, chunk.held_room, 1);
     }
     chunk.held[chunk.steps] = 0;
-    if (is_store_conditional(m, t) && chunk.reserved_at != UINT64_MAX) {
+    if (next.kind == MEMORY && is_store_conditional(m, t) && has_reserved(m, t, next.address)) {
         for (uint64_t j = chunk.reserved_at + 1; j <= chunk.steps; j++)
             chunk.held[j] = 1;
         chunk.reserved_at = UINT64_MAX;
@@ -238,9 +236,8 @@ static void put_texts(void) {
     put_text("account", 3);
 }
 
-void emit(struct run *r, const struct turn *turns, size_t count, uint32_t standard_size) {
+void emit(struct run *r, const struct turn *turns, size_t count) {
     run = r;
-    standard = standard_size;
     start_run(run); /* and nobody is current, so each state is looked at whole */
     commits = 0;
     interrupt_count = 0;

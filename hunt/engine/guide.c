@@ -1,6 +1,7 @@
 #include "guide.h"
 
 #include "idle.h"
+#include "stuck.h"
 
 static enum turn_end end_of(enum stop stop) {
     return stop == AT_STOP ? STOPPED : stop == AT_WAIT ? WAITS : stop == AT_SPENT ? SPENT : FORCED;
@@ -70,7 +71,7 @@ static enum outcome finished(struct run *r, uint32_t last, const struct conditio
         if (holds_for_good(bad, &r->machine))
             return BAD;
         if (thread == NO_ONE && !r->machine.requested)
-            return holds_at_end(bad, &r->machine) ? BAD : GOOD;
+            return ends_badly(r, bad) ? BAD : GOOD;
         if (thread == NO_ONE) {
             do_dma(r);
             continue;
@@ -86,6 +87,7 @@ static enum outcome finished(struct run *r, uint32_t last, const struct conditio
 
 enum outcome guided(struct run *r, const struct guide *guide, const struct condition *bad) {
     uint32_t last = 0;
+    r->tries_locks = true; /* so that each thread that waits is in its loop */
     start_run(r);
     for (size_t j = 0; j < guide->count; j++) {
         const struct turn *turn = &guide->turns[j];

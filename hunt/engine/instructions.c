@@ -244,7 +244,7 @@ static void run_store(struct machine *m, uint32_t number, uint32_t address, cons
     uint32_t width = width_of(c->operation), shift = address % 4 * 8;
     uint32_t mask = (width == 4 ? 0xFFFFFFFF : (1u << 8 * width) - 1) << shift;
     uint32_t value = m->threads[number].x[c->rs2] << shift;
-    note_store(context_of(m, number), m->time, address);
+    note_store(context_of(m, number), address);
     put_word(m, address, (word_at(m, address) & ~mask) | (value & mask));
 }
 
@@ -259,28 +259,39 @@ static uint32_t loaded(const struct machine *m, uint32_t address, int operation)
     }
 }
 
+/* The instructions from the LR on, which are one chunk. */
+uint64_t reservation_age(const struct machine *m, const struct thread *t) {
+    uint64_t age = m->time - m->reserved_at + 1;
+    return t->reservation != NO_RESERVATION && age < m->setup->longest_chunk ? age : 0;
+}
+
+bool has_reserved(const struct machine *m, const struct thread *t, uint32_t address) {
+    return t->reservation == address && reservation_age(m, t) > 0;
+}
+
 /* An instruction that touches a word of memory. `load`, where it is asked for, takes what an account tells of it. */
 void run_access(struct machine *m, uint32_t number, uint32_t address, struct served *load) {
     struct thread *t = &m->threads[number];
     const struct code c = *code_at(m, t->pc);
     uint32_t context = context_of(m, number), result = 0;
-    bool loads = c.operation <= LHU || c.operation == LR || c.operation > SC;
+    bool loads = c.operation <= LHU || c.operation == LR || c.operation > SC, reserved = has_reserved(m, t, address);
     m->time++;
     if (loads) {
-        note_load(context, m->time, address);
+        note_load(context, address);
         result = loaded(m, address, c.operation);
     }
     if (c.operation >= SB && c.operation <= SW)
         run_store(m, number, address, &c);
-    else if (c.operation == LR)
+    else if (c.operation == LR) {
         t->reservation = address;
-    else if (c.operation == SC) {
-        result = t->reservation != address;
+        m->reserved_at = m->time;
+    } else if (c.operation == SC) {
+        result = !reserved;
         t->reservation = NO_RESERVATION;
         if (result == 0)
             run_store(m, number, address, &c);
     } else if (c.operation > SC) {
-        note_store(context, m->time, address);
+        note_store(context, address);
         put_word(m, address, swapped(c.operation, result, t->x[c.rs2]));
     }
     if (c.operation < SB || c.operation > SW)

@@ -179,7 +179,7 @@ static void outside_call(struct machine *m, uint32_t number, struct next next, s
         t->x[10] = a.result;
     if (n.kind == WRITE) {
         for (uint32_t j = 0; j < n.length; j++)
-            note_load(context, m->time, n.buffer + j);
+            note_load(context, n.buffer + j);
         served->channel = n.channel;
         served->output = m->memory + n.buffer;
         served->output_length = a.result <= n.length ? a.result : 0;
@@ -205,7 +205,6 @@ static uint32_t spawn(struct machine *m, uint32_t number) {
     c->x[2] = t->x[11];
     c->x[10] = t->x[12];
     c->reservation = NO_RESERVATION;
-    note_spawn(number, child, m->time);
     happened(m);
     return child;
 }
@@ -227,10 +226,7 @@ static uint32_t has_ended(struct machine *m, uint32_t number) {
     uint32_t other = m->threads[number].x[10];
     if (other >= m->thread_count)
         return REFUSED;
-    if (m->threads[other].status == LIVE)
-        return 0;
-    note_seen_end(number, other);
-    return 1;
+    return m->threads[other].status != LIVE;
 }
 
 static void inner_call(struct machine *m, uint32_t number) {

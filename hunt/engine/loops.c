@@ -1,6 +1,6 @@
 #include "loops.h"
 
-#include "sharing.h"
+#include "segments.h"
 
 #include <stdlib.h>
 #include <string.h>
@@ -16,13 +16,13 @@ struct entry {
 
 static struct entry *table;
 static size_t places, count;
-static uint32_t shared_then;
+static uint32_t known_then;
 
-/* What a loop looks at is only known of words that are known to be shared: if there are more by now, all is found out anew. */
+/* Where a loop can be left depends on which words are places'. If there are more by now, all is found out anew. */
 static void forget_old(void) {
-    if (shared_then == shared_count())
+    if (known_then == knowledge())
         return;
-    shared_then = shared_count();
+    known_then = knowledge();
     if (places > 0)
         memset(table, 0, places * sizeof *table);
     count = 0;
@@ -72,9 +72,9 @@ void look_at(struct looks *l, uint32_t address) {
         l->address[l->count++] = address & ~3u;
 }
 
-/* Of the thread, with the threads that have ended, since it may ask for them. */
+/* Of the thread, with what it may see by kernel calls. */
 static struct hash looks_key(struct hash thread, const struct machine *m, uint32_t number) {
-    return sum(thread, mixed(m->ended, m->thread_count | number << 8));
+    return sum(thread, mixed(m->ended, m->thread_count | (uint64_t)m->requested << 7 | number << 8));
 }
 
 static struct hash state_key(struct hash key, const struct looks *l, const struct machine *m) {

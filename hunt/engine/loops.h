@@ -1,18 +1,20 @@
 /* The loops in which threads were seen to wait: alone, a thread comes back to each of a loop's states, until a word that the loop
-   looks at changes. So what is kept of a state is those words, with their values; and the whole memory, if the loop changes
-   words, looks at many, or asks devices. */
+   looks at changes. So what is kept of a state is those words, with their values, be they shared or the thread's own; and the whole
+   memory, if the loop changes words, looks at many, or asks devices. Kernel calls see whether other threads have ended, how many
+   there are, and whether a request is outstanding; so that is kept of any. */
 #ifndef LOOPS_H
 #define LOOPS_H
 
 #include "machine.h"
 
-enum { LOOKED_AT = 4 };
+enum { LOOKED_AT = 8 };
 struct looks {
     bool at_all; /* or at the words of these addresses */
     uint32_t count, address[LOOKED_AT];
 };
 
-enum waiting { IS_UNKNOWN, WAITS_PURELY, WAITS_WITH_STORES };
+/* At one place: the loop has only one at which it can be left. Around: it has several, and changes nothing. */
+enum waiting { IS_UNKNOWN, WAITS_AT_ONE_PLACE, WAITS_AROUND, WAITS_WITH_STORES };
 
 void look_at(struct looks *l, uint32_t address);
 /* From now on it is known that a thread of this hash waits while memory is as it is. */

@@ -1,4 +1,5 @@
 #include "inside.h"
+#include "segments.h"
 #include "sharing.h"
 
 #include <stdio.h>
@@ -54,7 +55,7 @@ void put_word(struct machine *m, uint32_t address, uint32_t word) {
 void put_bytes(struct machine *m, uint32_t context, uint32_t address, const uint8_t *bytes, uint32_t length) {
     for (uint32_t j = 0; j < length; j++) {
         uint32_t at = address + j, shift = at % 4 * 8;
-        note_store(context, m->time, at);
+        note_store(context, at);
         put_word(m, at, (word_at(m, at) & ~(0xFFu << shift)) | (uint32_t)bytes[j] << shift);
     }
 }
@@ -96,7 +97,7 @@ void reset_machine(struct machine *m) {
     m->answers_taken = (struct hash){0, 0};
     for (size_t j = 0; j < m->setup->answer_count; j++)
         m->setup->answers[j].used = 0;
-    new_run();
+    forget_segments();
 }
 
 /* ---------------------------------------------------------------- threads */

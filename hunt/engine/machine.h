@@ -62,6 +62,7 @@ struct devices {
 /* What never changes while the program is searched. */
 struct setup {
     uint32_t size, entry, most_threads, tick;
+    uint32_t longest_chunk; /* instructions */
     uint8_t *image;
     uint64_t seed;
     uint8_t *input;
@@ -70,6 +71,7 @@ struct setup {
     size_t answer_count;
     struct answer *dmas; /* data of requests, likewise */
     size_t dma_count;
+    bool *acquires; /* of each word of code whether it is marked as one that takes a lock; NULL if none is */
 };
 
 struct stored { uint32_t address, old; };
@@ -91,6 +93,7 @@ struct machine {
     uint64_t stores; /* those that changed a word */
     uint64_t events; /* ends and starts of threads, requests, interrupts, and whatever moved the devices */
     uint64_t time;   /* steps of all threads */
+    uint64_t reserved_at; /* when the last LR was done; only the thread that goes on has a reservation */
     size_t dmas_done;
     uint64_t ended;            /* the threads that have ended, as bits */
     struct hash answers_taken; /* which of the answers that were handed in */
@@ -121,6 +124,10 @@ uint32_t word_at(const struct machine *m, uint32_t address);
 bool is_load_reserved(const struct machine *m, const struct thread *t);
 bool is_store(const struct machine *m, const struct thread *t);
 bool is_store_conditional(const struct machine *m, const struct thread *t);
+/* Whether an SC to this address would succeed: its chunk can have begun before the LR. */
+bool has_reserved(const struct machine *m, const struct thread *t, uint32_t address);
+/* For how many steps it has held a reservation; 0 if it holds none, or for longer than any chunk. */
+uint64_t reservation_age(const struct machine *m, const struct thread *t);
 struct hash hash_of_thread(const struct thread *t);
 struct hash hash_of_rest(const struct machine *m);
 struct hash mixed(uint64_t a, uint64_t b);

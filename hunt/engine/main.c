@@ -3,6 +3,7 @@
 #define _POSIX_C_SOURCE 200809L
 #include "condition.h"
 #include "emit.h"
+#include "ends.h"
 #include "guide.h"
 #include "run.h"
 #include "search.h"
@@ -12,10 +13,9 @@
 #include <stdlib.h>
 #include <string.h>
 
-static struct setup setup = {.most_threads = 15, .tick = 64, .input = (uint8_t *)""};
+static struct setup setup = {.most_threads = 15, .tick = 64, .longest_chunk = 4096, .input = (uint8_t *)""};
 static struct condition bad;
 static struct run run = {.turn_limit = 10000, .step_limit = 1000000};
-static uint32_t standard = 4096;
 static struct turn *guide;
 static size_t guide_count;
 
@@ -109,6 +109,22 @@ static void take_raise(char *rest) {
     run.raises[run.raise_count++] = raise;
 }
 
+static void take_ends(char *rest) {
+    unsigned from, length;
+    if (sscanf(rest, "%u %u", &from, &length) != 2 || from > setup.size || length > setup.size - from)
+        fail("no such words");
+    collect_ends(from, length);
+}
+
+static void take_acquire(char *rest) {
+    unsigned pc;
+    if (sscanf(rest, "%x", &pc) != 1 || pc >= setup.size)
+        fail("no such instruction");
+    if (setup.acquires == NULL)
+        setup.acquires = room(setup.size / 4, sizeof *setup.acquires);
+    setup.acquires[pc / 4] = true;
+}
+
 static void take_turn(char *rest) {
     unsigned actor, end;
     unsigned long long steps;
@@ -143,7 +159,7 @@ static void tell_run(void) {
         goes_on = goes_on || is_enabled(&run, k);
     printf("leaf %s\n", goes_on ? "goes-on" : leaves[leaf_of(&run)]);
     tell_turns();
-    emit(&run, run.turns, run.turn_count, standard);
+    emit(&run, run.turns, run.turn_count);
     printf("loops %u\n", goes_on ? 0 : live_count(&run));
     if (!goes_on)
         emit_loops(&run);
@@ -160,9 +176,10 @@ static void do_search(char *rest) {
     limits.states = states;
     ready();
     enum finish finish = search(&run, &bad, &limits, &tally);
-    printf("tally %llu %llu %llu %llu %llu %u %u %u\n", (unsigned long long)tally.tries, (unsigned long long)tally.ended,
+    tell_ends();
+    printf("tally %llu %llu %llu %llu %u %u %u\n", (unsigned long long)tally.tries, (unsigned long long)tally.ended,
            (unsigned long long)(tally.waited + tally.repeated), (unsigned long long)tally.limited,
-           (unsigned long long)tally.spent, tally.most_places, tally.bound, tally.restarts);
+           tally.most_places, tally.bound, tally.restarts);
     if (finish == FOUND)
         tell_run();
     printf("end %s\n", finishes[finish]);
@@ -197,7 +214,7 @@ static void take_line(char *line) {
     line[strcspn(line, " ")] = 0;
     if (strcmp(line, "memory") == 0) take_memory(rest);
     else if (strcmp(line, "threads") == 0) setup.most_threads = (uint32_t)strtoul(rest, NULL, 10);
-    else if (strcmp(line, "standard") == 0) standard = (uint32_t)strtoul(rest, NULL, 10);
+    else if (strcmp(line, "standard") == 0) setup.longest_chunk = (uint32_t)strtoul(rest, NULL, 10);
     else if (strcmp(line, "seed") == 0) setup.seed = strtoull(rest, NULL, 10);
     else if (strcmp(line, "tick") == 0) setup.tick = (uint32_t)strtoul(rest, NULL, 10);
     else if (strcmp(line, "turns") == 0) run.turn_limit = strtoull(rest, NULL, 10);
@@ -206,7 +223,10 @@ static void take_line(char *line) {
     else if (strcmp(line, "answer") == 0) take_answer(rest);
     else if (strcmp(line, "dma") == 0) take_dma(rest);
     else if (strcmp(line, "atom") == 0) take_atom(rest);
+    else if (strcmp(line, "all-places") == 0) run.all_places = true;
     else if (strcmp(line, "raise") == 0) take_raise(rest);
+    else if (strcmp(line, "acquire") == 0) take_acquire(rest);
+    else if (strcmp(line, "ends") == 0) take_ends(rest);
     else if (strcmp(line, "turn") == 0) take_turn(rest);
     else if (strcmp(line, "search") == 0) do_search(rest);
     else if (strcmp(line, "ready") == 0) ready(), printf("ready\n");

@@ -1,5 +1,6 @@
 #include "run.h"
 
+#include "segments.h"
 #include "sharing.h"
 
 #include <string.h>
@@ -18,6 +19,7 @@ static void set_mark(struct run *r) {
     r->mark_memory = m->memory_hash;
     r->mark_stores = m->stores;
     r->mark_events = m->events;
+    r->mark_reservation_age = reservation_age(m, &r->mark);
     r->mark_age = 0;
 }
 
@@ -44,7 +46,7 @@ void begin_turn(struct run *r, uint32_t actor) {
 
 static struct hash of_thread(const struct machine *m, uint32_t number) {
     struct hash t = hash_of_thread(&m->threads[number]);
-    return mixed(t.a + number, t.b);
+    return mixed(t.a + number, t.b + reservation_age(m, &m->threads[number]));
 }
 
 static struct hash of_others(const struct run *r) {
@@ -79,12 +81,26 @@ void end_turn(struct run *r, enum turn_end end) {
     r->current = NO_ONE;
 }
 
+/* Where interrupts may come, a handler may find a lock that its own thread holds, so there marks say nothing. */
+static bool is_acquire(const struct run *r, const struct thread *t) {
+    const struct setup *s = r->machine.setup;
+    return s->acquires != NULL && r->raise_count == 0 && t->pc < s->size && s->acquires[t->pc / 4];
+}
+
+static bool is_blocked(struct run *r, const struct thread *t) {
+    if (r->tries_locks || t->status != LIVE || !is_acquire(r, t))
+        return false;
+    struct next next = next_of(&r->machine, t);
+    return next.kind == MEMORY && word_at(&r->machine, next.address) != 0;
+}
+
 static bool is_place(const struct run *r, const struct thread *t, struct next next) {
     switch (next.kind) {
     case LOCAL:
-        return is_shared(t->pc);
-    case MEMORY: /* an SC looks whether its chunk began before the LR, so it matters to it whether another came between */
-        return is_shared(next.address) || is_shared(t->pc) || (t->reservation == next.address && is_store_conditional(&r->machine, t));
+        return is_place_word(t->pc);
+    case MEMORY: /* whoever is left after an LR loses the reservation, so an LR, and an SC that has it, can't be moved over a switch */
+        return is_place_word(next.address) || is_place_word(t->pc) || is_acquire(r, t) || is_load_reserved(&r->machine, t)
+               || (is_store_conditional(&r->machine, t) && has_reserved(&r->machine, t, next.address));
     case CALL: { /* an interrupt may come before any, and leaves another number in a7 */
         uint32_t call = t->x[17];
         bool is_own = call > HAS_ENDED || call == HANDLER || call == IRET || call == SELF || call == YIELD;
@@ -98,6 +114,10 @@ static bool is_place(const struct run *r, const struct thread *t, struct next ne
 static void take_step(struct run *r, struct next next) {
     struct served served;
     present(r)->steps++;
+    if (is_place(r, &r->machine.threads[r->current], next))
+        begin_segment(r->current);
+    else
+        go_on_in_segment();
     if (next.kind == LOCAL)
         run_local(&r->machine, r->current);
     else if (next.kind == MEMORY)
@@ -113,7 +133,7 @@ static bool comes_again(struct run *r) {
     struct machine *m = &r->machine;
     const struct thread *t = &m->threads[r->current];
     if (t->pc == r->mark.pc && same_hash(m->memory_hash, r->mark_memory) && m->events == r->mark_events
-        && same_thread(t, &r->mark))
+        && same_thread(t, &r->mark) && reservation_age(m, t) == r->mark_reservation_age)
         return true;
     if (++r->mark_age == r->mark_power) {
         r->mark_power *= 2;
@@ -124,27 +144,44 @@ static bool comes_again(struct run *r) {
 
 static bool is_outside(uint32_t call) { return call >= WRITE && call <= CLOCK; }
 
-/* The current thread is in a loop of so many steps that comes back to each of its states. It goes on to that one of them in
-   which it waits, before the place of the least pc, and finds out what the loop looks at. */
-static void settle(struct run *r, uint64_t length, struct looks *looks) {
+/* The current thread is in a loop of so many steps that comes back to each of its states. It does one round, and finds out what the
+   loop looks at. A thread that is known to wait isn't run, so nobody would see these touches: the shared words become places'. */
+static void look_around(struct run *r, uint64_t length, struct looks *looks) {
     struct machine *m = &r->machine;
     struct thread *t = &m->threads[r->current];
-    uint64_t best = 0, best_rank = UINT64_MAX;
     for (uint64_t j = 0; j < length; j++) {
         struct next next = next_of(m, t);
-        uint64_t rank = (uint64_t)!is_place(r, t, next) << 32 | t->pc;
-        if (rank < best_rank) {
-            best_rank = rank;
-            best = j;
-        }
-        if (next.kind == MEMORY && is_shared(next.address))
+        if (next.kind == MEMORY) {
             look_at(looks, next.address);
+            if (is_shared(next.address))
+                make_place(next.address);
+        }
         if (is_shared(t->pc) || next.kind == DEVICE_LOAD || (next.kind == CALL && is_outside(t->x[17])))
             looks->at_all = true;
         take_step(r, next);
     }
+}
+
+/* It goes on to that state of the loop in which it waits, before the place of the least pc. The answer is how many places there are. */
+static uint32_t settle(struct run *r, uint64_t length) {
+    struct machine *m = &r->machine;
+    struct thread *t = &m->threads[r->current];
+    uint64_t best = 0, best_rank = UINT64_MAX;
+    uint32_t places = 0;
+    for (uint64_t j = 0; j < length; j++) {
+        struct next next = next_of(m, t);
+        bool at_place = is_place(r, t, next);
+        uint64_t rank = (uint64_t)!at_place << 32 | t->pc;
+        places += at_place;
+        if (rank < best_rank) {
+            best_rank = rank;
+            best = j;
+        }
+        take_step(r, next);
+    }
     for (uint64_t j = 0; j < best; j++)
         take_step(r, next_of(m, t));
+    return places;
 }
 
 /* Of a thread as it is once it is left. */
@@ -169,23 +206,25 @@ static void wait_here(struct run *r) {
     bool pure = r->machine.stores == r->mark_stores;
     uint64_t length = r->mark_age + 1;
     struct looks looks = {.at_all = !pure};
-    settle(r, length, &looks);
-    keep_loop(r, length, &looks, pure ? WAITS_PURELY : WAITS_WITH_STORES);
+    look_around(r, length, &looks);
+    uint32_t places = settle(r, length);
+    keep_loop(r, length, &looks, !pure ? WAITS_WITH_STORES : places > 1 ? WAITS_AROUND : WAITS_AT_ONE_PLACE);
 }
 
 enum waiting waiting_of(struct run *r, uint32_t thread) {
     if (thread == r->current)
         return IS_UNKNOWN;
+    if (is_blocked(r, &r->machine.threads[thread]))
+        return WAITS_AT_ONE_PLACE;
     if (r->seats[thread].a == 0 && r->seats[thread].b == 0)
         r->seats[thread] = hash_when_left(r, thread);
     return how_waits(r->seats[thread], &r->machine);
 }
 
-/* A turn isn't ended between an LR and its SC, unless there is none for long. */
+/* A turn isn't ended for nothing as long as an SC could ask for its reservation. */
 static bool is_spent(const struct run *r) {
-    uint64_t steps = r->turns[r->turn_count - 1].steps;
-    bool reserves = r->machine.threads[r->current].reservation != NO_RESERVATION;
-    return steps >= r->turn_limit && (!reserves || steps >= 2 * r->turn_limit);
+    return r->turns[r->turn_count - 1].steps >= r->turn_limit
+           && reservation_age(&r->machine, &r->machine.threads[r->current]) == 0;
 }
 
 /* One step, then how it stands. AT_PLACE means that nothing has ended. */
@@ -203,12 +242,23 @@ static enum stop step_on(struct run *r, struct next next) {
     return is_spent(r) ? AT_SPENT : AT_PLACE;
 }
 
+static bool is_interruptible(const struct run *r) {
+    for (uint32_t j = 0; j < r->raise_count; j++)
+        if (r->raises[j].thread == r->current && can_raise(r, j))
+            return true;
+    return false;
+}
+
 enum stop go_on(struct run *r, bool past) {
     for (;; past = false) {
         const struct thread *t = &r->machine.threads[r->current];
         struct next next = next_of(&r->machine, t);
+        if (is_blocked(r, t))
+            return AT_WAIT;
         if (!past && is_place(r, t, next))
             return AT_PLACE;
+        if (!past && is_interruptible(r))
+            return AT_INTERRUPTIBLE;
         enum stop stop = step_on(r, next);
         if (stop != AT_PLACE)
             return stop;
@@ -217,6 +267,8 @@ enum stop go_on(struct run *r, bool past) {
 
 enum stop go_steps(struct run *r, uint64_t steps) {
     for (uint64_t j = 0; j < steps; j++) {
+        if (is_blocked(r, &r->machine.threads[r->current]))
+            return AT_WAIT;
         enum stop stop = step_on(r, next_of(&r->machine, &r->machine.threads[r->current]));
         if (stop != AT_PLACE && stop != AT_SPENT)
             return stop;
@@ -234,6 +286,33 @@ enum stop go_exactly(struct run *r, uint64_t steps) {
             return AT_STOP;
     }
     return AT_PLACE;
+}
+
+bool some_are_blocked(struct run *r) {
+    for (uint32_t k = 0; k < r->machine.thread_count; k++)
+        if (is_blocked(r, &r->machine.threads[k]))
+            return true;
+    return false;
+}
+
+static void go_to_loop(struct run *r, uint32_t thread) {
+    begin_turn(r, thread);
+    enum stop stop = go_steps(r, r->turn_limit);
+    end_turn(r, stop == AT_WAIT ? WAITS : stop == AT_STOP ? STOPPED : SPENT);
+}
+
+void try_locks(struct run *r) {
+    for (uint32_t k = 0; k < r->machine.thread_count; k++) {
+        if (!is_blocked(r, &r->machine.threads[k]))
+            continue;
+        r->tries_locks = true;
+        go_to_loop(r, k);
+        r->tries_locks = false;
+    }
+    /* a loop that stores was known with the memory as it was before */
+    for (uint32_t k = 0; k < r->machine.thread_count; k++)
+        if (is_enabled(r, k))
+            go_to_loop(r, k);
 }
 
 bool is_enabled(struct run *r, uint32_t thread) {

@@ -24,6 +24,8 @@ struct turn {
 
 struct run {
     struct machine machine;
+    bool all_places;  /* each access to a shared word is a place */
+    bool tries_locks; /* threads go on at locks that are held */
     struct raise raises[MOST_RAISES];
     uint32_t raise_count;
     uint64_t raised; /* which of them have come, as bits */
@@ -35,25 +37,30 @@ struct run {
     /* Where the present turn is looked at for a state that comes again: after 1, 2, 4, .. steps. */
     struct thread mark;
     struct hash mark_memory;
-    uint64_t mark_stores, mark_events, mark_power, mark_age;
+    uint64_t mark_stores, mark_events, mark_power, mark_age, mark_reservation_age;
     /* The hash of all that the present turn leaves alone, as long as there is no further event. */
     struct hash still;
     uint64_t still_events;
     size_t still_turn;
 };
 
-/* What a thread came to: a place, where it is about to touch what others see; or its turn's end. */
-enum stop { AT_PLACE, AT_STOP, AT_WAIT, AT_SPENT, AT_LIMIT };
+/* What a thread came to: a place, where it is about to touch what others see; a point between places at which an interrupt may come
+   to it, since its handler sees the registers; or its turn's end. */
+enum stop { AT_PLACE, AT_INTERRUPTIBLE, AT_STOP, AT_WAIT, AT_SPENT, AT_LIMIT };
 
 void start_run(struct run *r);
 void begin_turn(struct run *r, uint32_t actor);
 void end_turn(struct run *r, enum turn_end end);
-/* The current thread goes on to its next place; past the one where it is, if it is at one. */
+/* The current thread goes on to its next place or such a point; past the one where it is, if `past`. */
 enum stop go_on(struct run *r, bool past);
 /* The current thread goes on for so many steps at most. */
 enum stop go_steps(struct run *r, uint64_t steps);
 /* The current thread does so many steps, also if it waits meanwhile. */
 enum stop go_exactly(struct run *r, uint64_t steps);
+/* A thread at a marked instruction whose lock is held is blocked: it waits, without having done it. */
+bool some_are_blocked(struct run *r);
+/* No thread goes on. Those that are blocked go on to the loops in which they wait. */
+void try_locks(struct run *r);
 enum waiting waiting_of(struct run *r, uint32_t thread);
 /* Whether the thread is live, and not known to wait. */
 bool is_enabled(struct run *r, uint32_t thread);

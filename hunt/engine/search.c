@@ -1,82 +1,36 @@
-#define _POSIX_C_SOURCE 200809L
 #include "search.h"
 
+#include "ends.h"
+#include "items.h"
+#include "kept.h"
+#include "scouts.h"
 #include "seen.h"
-#include "sharing.h"
+#include "segments.h"
+#include "stuck.h"
 
 #include <signal.h>
 #include <stdio.h>
-#include <stdlib.h>
-#include <time.h>
+#include <string.h>
 
-/* A way to go: what its parent's run did up to a place, and there this choice. */
-struct item {
-    uint32_t parent, place;
-    uint8_t choice;
-};
-
-struct list {
-    uint32_t *items;
-    size_t count, room;
-};
-
-struct step { uint32_t place, choice; };
-
-static struct item *items;
-static size_t item_count, item_room;
 static struct list now, later; /* to be tried with the present bound, and with one forced switch more */
-static struct step *path;
-static size_t path_length, path_room;
+static struct path path;       /* of the present run */
 static struct run *run;
 static const struct condition *bad;
 static const struct limits *limits;
 static struct tally *tally;
+static double ends_at; /* at the latest */
 
-enum { ROOT = UINT32_MAX };
 enum result { GOES_ON, IS_BAD, IS_DONE };
 
-/* A run of the search: the item that it does, how much of its path is done, and the places so far. */
+/* A run of the search: the item that it does, the steps of the path that lead to it, and how many of them are done. */
 struct trial {
     uint32_t item;
-    size_t done;
-    uint32_t place, choices;
-    bool fresh; /* the current thread has touched nothing since it came */
+    size_t length, done;
+    uint32_t stop;   /* the number of the present stop: of a place, or of a turn's end */
+    uint32_t places; /* of them those at which others could come */
+    bool fresh;      /* the current thread has come to no place since it came */
+    uint64_t touches_then; /* the touches of all segments when it came */
 };
-
-/* ---------------------------------------------------------------- items */
-
-static void push(struct list *l, uint32_t item) {
-    if (l->count == l->room) {
-        l->room = l->room ? 2 * l->room : 1024;
-        l->items = more_room(l->items, l->room, sizeof *l->items);
-    }
-    l->items[l->count++] = item;
-}
-
-static uint32_t new_item(uint32_t parent, uint32_t place, uint32_t choice) {
-    if (item_count == item_room) {
-        item_room = item_room ? 2 * item_room : 1024;
-        items = more_room(items, item_room, sizeof *items);
-    }
-    items[item_count] = (struct item){parent, place, (uint8_t)choice};
-    return (uint32_t)item_count++;
-}
-
-static void find_path(uint32_t item) {
-    path_length = 0;
-    for (uint32_t j = item; j != ROOT; j = items[j].parent) {
-        if (path_length == path_room) {
-            path_room = path_room ? 2 * path_room : 256;
-            path = more_room(path, path_room, sizeof *path);
-        }
-        path[path_length++] = (struct step){items[j].place, items[j].choice};
-    }
-    for (size_t j = 0; j < path_length / 2; j++) {
-        struct step s = path[j];
-        path[j] = path[path_length - 1 - j];
-        path[path_length - 1 - j] = s;
-    }
-}
 
 /* ---------------------------------------------------------------- states */
 
@@ -105,12 +59,15 @@ static bool is_in_turn(struct hash key) {
     return false;
 }
 
+/* With what each thread has touched in its segment, so that the conflicts that can come are the same too. */
+static struct hash whole_state(void) { return sum(state_of(run), segments()); }
+
 /* The state after the current thread's chunk has ended. */
 static struct hash state_after_chunk(void) {
     struct thread *t = &run->machine.threads[run->current];
     uint32_t reservation = t->reservation;
     t->reservation = NO_RESERVATION;
-    struct hash state = state_of(run);
+    struct hash state = whole_state();
     t->reservation = reservation;
     return state;
 }
@@ -138,44 +95,71 @@ static void take_choice(struct trial *t, uint32_t choice, enum turn_end end) {
     }
     begin_turn(run, choice);
     t->fresh = true;
+    t->touches_then = touch_count();
 }
 
-/* A thread that waits in a loop with stores is nothing to go on with, but others may see what it stores there. */
+/* Whether the current thread has touched nothing that others touch since it came. */
+static bool is_fresh(const struct trial *t) { return t->fresh && t->touches_then == touch_count(); }
+
+/* A thread that waits is nothing to go on with. But others may see what it stores in its loop; and in a loop of several places it may
+   be left when it has looked at one word, and not yet at another. */
 static bool is_choice(uint32_t choice) {
     const struct machine *m = &run->machine;
     if (choice < m->thread_count)
-        return m->threads[choice].status == LIVE && waiting_of(run, choice) != WAITS_PURELY;
+        return m->threads[choice].status == LIVE && waiting_of(run, choice) != WAITS_AT_ONE_PLACE;
     return choice == DMA ? m->requested : choice >= RAISE && can_raise(run, choice - RAISE);
 }
 
-/* The choices that another actor comes here, with one forced switch more. */
-static void offer_switches(struct trial *t) {
-    struct machine *m = &run->machine;
-    struct thread *current = &m->threads[run->current];
+static uint32_t new_item(const struct trial *t, uint32_t choice) {
+    return add_item((struct item){t->item, t->stop, t->places, (uint8_t)choice});
+}
+
+static void put_off(const struct trial *t, uint32_t choice) { push(&later, new_item(t, choice)); }
+
+/* Another thread comes, or the chunk ends before the SC. Whoever has touched nothing might as well come later. */
+static void offer_switches(const struct trial *t) {
+    const struct machine *m = &run->machine;
+    const struct thread *current = &m->threads[run->current];
     uint32_t cost = tally->bound + 1;
-    if (cost > limits->switches)
+    if (is_fresh(t))
         return;
-    bool offered = false;
-    /* Whoever has touched nothing might as well come later; but a reservation is lost by leaving. */
-    if (!t->fresh || current->reservation != NO_RESERVATION) {
-        struct hash after = state_after_chunk();
-        for (uint32_t u = 0; u < m->thread_count; u++) {
-            if (u == run->current || !is_choice(u))
-                continue;
-            offered = true;
-            if (is_new(key_of(after, u, COMING), cost))
-                push(&later, new_item(t->item, t->place, u));
-        }
-        if (current->reservation != NO_RESERVATION && is_store_conditional(m, current)
-            && is_new(key_of(after, run->current, AFTER_CUT), cost))
-            push(&later, new_item(t->item, t->place, CUT));
-    }
-    if (m->requested)
-        push(&later, new_item(t->item, t->place, DMA));
+    struct hash after = state_after_chunk();
+    for (uint32_t u = 0; u < m->thread_count; u++)
+        if (u != run->current && is_choice(u) && is_new(key_of(after, u, COMING), cost))
+            put_off(t, u);
+    struct next next = next_of(&run->machine, current);
+    bool would_succeed = next.kind == MEMORY && is_store_conditional(m, current) && has_reserved(m, current, next.address);
+    if (would_succeed && is_new(key_of(after, run->current, AFTER_CUT), cost))
+        put_off(t, CUT);
+}
+
+static void offer_interrupts(const struct trial *t, bool of_current_alone) {
     for (uint32_t j = 0; j < run->raise_count; j++)
-        if (can_raise(run, j))
-            push(&later, new_item(t->item, t->place, RAISE + j));
-    t->choices += offered;
+        if (can_raise(run, j) && (!of_current_alone || run->raises[j].thread == run->current))
+            put_off(t, RAISE + j);
+}
+
+/* Choices are threads, a DMA, and interrupts. */
+static uint32_t choice_after(uint32_t choice) { return choice + 1 == run->machine.thread_count ? DMA : choice + 1; }
+
+static bool others_could_come(void) {
+    for (uint32_t c = 0; c < RAISE + run->raise_count; c = choice_after(c))
+        if (c != run->current && is_choice(c))
+            return true;
+    return false;
+}
+
+/* The choices that there are at this stop, with one forced switch more. */
+static void offer(struct trial *t, enum stop stop) {
+    t->places += stop == AT_PLACE && others_could_come();
+    if (tally->bound == limits->switches)
+        return;
+    if (stop == AT_PLACE) {
+        offer_switches(t);
+        if (run->machine.requested)
+            put_off(t, DMA);
+    }
+    offer_interrupts(t, stop == AT_INTERRUPTIBLE);
 }
 
 enum leaf leaf_of(struct run *r) {
@@ -183,21 +167,47 @@ enum leaf leaf_of(struct run *r) {
     if (live_count(r) == 0)
         return ALL_ENDED;
     for (uint32_t k = 0; k < r->machine.thread_count; k++)
-        pure = pure && (r->machine.threads[k].status != LIVE || waiting_of(r, k) == WAITS_PURELY);
+        pure = pure && (r->machine.threads[k].status != LIVE || waiting_of(r, k) != WAITS_WITH_STORES);
     return pure ? ALL_WAIT : COMES_AGAIN;
 }
 
-static enum result at_leaf(void) {
+static bool all_wait(void) {
+    for (uint32_t k = 0; k < run->machine.thread_count; k++)
+        if (is_enabled(run, k))
+            return false;
+    return true;
+}
+
+static enum result judge_leaf(void) {
     enum leaf leaf = leaf_of(run);
+    if (!all_wait()) { /* a thread that tried its lock has come to no loop yet */
+        tally->limited++;
+        return IS_DONE;
+    }
+    note_end(&run->machine, tally->bound);
     tally->ended += leaf == ALL_ENDED;
     tally->waited += leaf == ALL_WAIT;
     tally->repeated += leaf == COMES_AGAIN;
-    return holds_at_end(bad, &run->machine) ? IS_BAD : IS_DONE;
+    return ends_badly(run, bad) ? IS_BAD : IS_DONE;
+}
+
+/* So that a walk can show that it is an end, threads that are blocked go on to where they really wait. */
+static enum result at_leaf(void) {
+    static struct kept_run kept;
+    bool blocked = some_are_blocked(run);
+    if (blocked) {
+        keep_run(&kept, run);
+        try_locks(run);
+    }
+    enum result result = judge_leaf();
+    if (blocked && result != IS_BAD)
+        take_back_run(&kept, run);
+    return result;
 }
 
 static bool is_leaf(void) {
     const struct machine *m = &run->machine;
-    for (uint32_t c = 0; c < RAISE + run->raise_count; c++)
+    for (uint32_t c = 0; c < RAISE + run->raise_count; c = choice_after(c))
         if (is_choice(c) && !(c < m->thread_count && !is_enabled(run, c)))
             return false;
     return true;
@@ -205,195 +215,241 @@ static bool is_leaf(void) {
 
 /* No thread goes on: another one is chosen, for nothing. The first new choice is gone on with here, the others later. */
 static enum result choose(struct trial *t, enum turn_end end) {
-    uint32_t first = ROOT;
+    uint32_t first = NO_ITEM;
     end_turn(run, end);
     if (is_leaf() && at_leaf() == IS_BAD)
         return IS_BAD;
-    struct hash state = state_of(run);
-    for (uint32_t c = 0; c < RAISE + run->raise_count; c++) {
+    struct hash state = whole_state();
+    for (uint32_t c = 0; c < RAISE + run->raise_count; c = choice_after(c)) {
         if (!is_choice(c) || !is_new(key_of(state, c, COMING), tally->bound))
             continue;
-        uint32_t item = new_item(t->item, t->place, c);
-        if (first == ROOT)
+        uint32_t item = new_item(t, c);
+        if (first == NO_ITEM)
             first = item;
         else
             push(&now, item);
     }
-    if (first == ROOT)
+    if (first == NO_ITEM)
         return IS_DONE;
     t->item = first;
-    take_choice(t, items[first].choice, end);
+    take_choice(t, item_of(first).choice, end);
     return GOES_ON;
 }
 
 /* ---------------------------------------------------------------- a trial */
 
-/* What the path says of this place, if anything. */
-static bool follow(struct trial *t, size_t length, enum turn_end end) {
-    if (t->done == length || path[t->done].place != t->place)
+/* What the path says of this stop, if anything. */
+static bool follow(struct trial *t, enum turn_end end) {
+    if (t->done == t->length || path.steps[t->done].stop != t->stop)
         return false;
-    take_choice(t, path[t->done++].choice, end);
+    take_choice(t, path.steps[t->done++].choice, end);
     return true;
 }
 
-/* At a place. Whether the current thread goes on past it. */
-static enum result at_place(struct trial *t, size_t length, bool *past) {
-    t->place++;
-    *past = false;
-    if (follow(t, length, FORCED))
+static void go_past(struct trial *t, enum stop stop, bool *past) {
+    t->fresh = t->fresh && stop == AT_INTERRUPTIBLE;
+    *past = true;
+}
+
+/* At a place, or where an interrupt may come. The current thread goes on past it, if no other choice is taken. */
+static enum result at_place(struct trial *t, enum stop stop, bool *past) {
+    if (follow(t, FORCED))
         return GOES_ON;
-    if (t->done == length) {
-        struct hash key = key_of(state_of(run), run->current, t->fresh ? FRESH : AT_PLACE_KEY);
+    if (t->done == t->length) {
+        struct hash key = key_of(whole_state(), run->current, is_fresh(t) ? FRESH : AT_PLACE_KEY);
         if (is_new(key, tally->bound)) {
             keep_key(key);
-            offer_switches(t);
+            offer(t, stop);
         } else if (!is_in_turn(key))
             return IS_DONE;
     }
-    t->fresh = false;
-    *past = true;
+    go_past(t, stop, past);
     return GOES_ON;
 }
 
-static bool others_could_come(void) {
-    for (uint32_t c = 0; c < RAISE + run->raise_count; c++)
-        if (c != run->current && is_choice(c))
-            return true;
-    return false;
-}
-
-static enum result at_turn_end(struct trial *t, size_t length, enum turn_end end) {
-    t->place++;
-    tally->spent += end == SPENT && t->done == length && others_could_come();
+static enum result at_turn_end(struct trial *t, enum turn_end end) {
     if (holds_for_good(bad, &run->machine)) {
         end_turn(run, end);
         return IS_BAD;
     }
-    if (follow(t, length, end))
+    if (follow(t, end))
         return GOES_ON;
     return choose(t, end);
 }
 
-static enum result try_item(uint32_t item) {
-    struct trial t = {.item = item, .fresh = true};
+static const enum turn_end end_at[] = {
+    [AT_PLACE] = FORCED, [AT_INTERRUPTIBLE] = FORCED, [AT_STOP] = STOPPED, [AT_WAIT] = WAITS, [AT_SPENT] = SPENT};
+
+static enum stop go_to_stop(struct trial *t, bool *past) {
+    /* after a DMA or an interrupt at a turn's end no thread is there yet */
+    enum stop stop = run->current == NO_ONE ? AT_STOP : go_on(run, *past);
+    *past = false;
+    t->stop++;
+    return stop;
+}
+
+/* On to the run's end. */
+static enum result go_to_end(struct trial *t) {
     enum result result = GOES_ON;
-    find_path(item);
-    size_t length = path_length;
-    start_run(run);
-    begin_turn(run, 0);
-    turn_key_count = 0;
     bool past = false;
     while (result == GOES_ON) {
-        /* after a DMA or an interrupt at a turn's end no thread is there yet */
-        enum stop stop = run->current == NO_ONE ? AT_STOP : go_on(run, past);
-        past = false;
-        switch (stop) {
-        case AT_PLACE: result = at_place(&t, length, &past); break;
-        case AT_STOP: result = at_turn_end(&t, length, STOPPED); break;
-        case AT_WAIT: result = at_turn_end(&t, length, WAITS); break;
-        case AT_SPENT: result = at_turn_end(&t, length, SPENT); break;
-        case AT_LIMIT:
-            tally->limited++;
-            result = IS_DONE;
-        }
+        enum stop stop = go_to_stop(t, &past);
+        if (has_news())
+            return IS_DONE; /* the search begins again */
+        tally->limited += stop == AT_LIMIT;
+        if (stop == AT_LIMIT)
+            break;
+        result = end_at[stop] == FORCED ? at_place(t, stop, &past) : at_turn_end(t, end_at[stop]);
     }
-    if (t.choices > tally->most_places)
-        tally->most_places = t.choices;
+    if (t->places > tally->most_places)
+        tally->most_places = t->places;
     return result;
 }
 
-/* ---------------------------------------------------------------- the whole */
-
-static double now_seconds(void) {
-    struct timespec t;
-    clock_gettime(CLOCK_MONOTONIC, &t);
-    return (double)t.tv_sec + 1e-9 * (double)t.tv_nsec;
-}
-
-static uint64_t drawn(uint64_t *state) {
-    *state ^= *state << 13;
-    *state ^= *state >> 7;
-    *state ^= *state << 17;
-    return *state;
-}
-
-/* A run in which threads change at random, only to find words that are shared. */
-static void scout(uint64_t *state) {
-    struct machine *m = &run->machine;
+static struct trial begun(uint32_t item) {
+    find_path(&path, item);
     start_run(run);
-    for (uint32_t turn = 0; turn < 4096 && m->time < run->step_limit; turn++) {
-        uint32_t enabled[MOST_THREADS], count = 0;
-        for (uint32_t k = 0; k < m->thread_count; k++)
-            if (is_enabled(run, k))
-                enabled[count++] = k;
-        if (m->requested && (count == 0 || drawn(state) % 16 == 0))
-            do_dma(run);
-        else if (count == 0)
-            return;
-        else {
-            begin_turn(run, enabled[drawn(state) % count]);
-            go_steps(run, 1 + drawn(state) % (1u << drawn(state) % 8));
-            end_turn(run, FORCED);
-        }
-        for (uint32_t j = 0; j < run->raise_count; j++)
-            if (drawn(state) % 16 == 0 && can_raise(run, j))
-                do_raise(run, j);
-    }
+    begin_turn(run, 0);
+    turn_key_count = 0;
+    return (struct trial){.item = item, .length = path.length, .fresh = true};
 }
 
-static void start_over(void) {
-    forget_seen();
-    item_count = now.count = later.count = 0;
-    tally->bound = 0;
-    tally->most_places = 0;
-    tally->ended = tally->waited = tally->repeated = tally->limited = tally->spent = 0;
-    push(&now, ROOT);
+static enum result try_first(void) {
+    struct trial t = begun(NO_ITEM);
+    tally->tries++;
+    return go_to_end(&t);
 }
 
-static void tell_bound(double started) {
-    printf("bound %u tries %llu states %llu places %u shared %u seconds %.2f\n", tally->bound, (unsigned long long)tally->tries,
-           (unsigned long long)seen_count(), tally->most_places, shared_count(), now_seconds() - started);
-    fflush(stdout);
-}
+/* ---------------------------------------------------------------- families */
 
 static volatile sig_atomic_t interrupted;
 
 void interrupt_search(void) { interrupted = 1; }
 
+static bool limit_is_met(enum finish *which) {
+    if (interrupted)
+        *which = INTERRUPTED;
+    else if (tally->tries >= limits->tries)
+        *which = OUT_OF_TRIES;
+    else if (seen_is_full())
+        *which = OUT_OF_STATES;
+    else if (now_seconds() > ends_at)
+        *which = OUT_OF_TIME;
+    else
+        return false;
+    return true;
+}
+
+/* The item parts from its parent's run here, and goes on to its end. */
+static enum result try_item(uint32_t item, const struct trial *parent, enum turn_end end) {
+    struct trial t = *parent;
+    t.item = item;
+    t.length = t.done;
+    t.places = item_of(item).places;
+    tally->tries++;
+    take_choice(&t, item_of(item).choice, end);
+    return go_to_end(&t);
+}
+
+/* The items, from the next one on, that part from the run at this stop. IS_DONE if the search has to look up. */
+static enum result try_here(const struct trial *parent, enum turn_end end, const struct list *family, size_t *next) {
+    static struct kept_run kept;
+    enum finish which;
+    while (*next < family->count && item_of(family->items[*next]).stop == parent->stop) {
+        keep_run(&kept, run);
+        enum result result = try_item(family->items[(*next)++], parent, end);
+        if (result == IS_BAD || has_news())
+            return result;
+        take_back_run(&kept, run);
+        if (limit_is_met(&which))
+            return IS_DONE;
+    }
+    return GOES_ON;
+}
+
+/* The run from which they all part is done once, and each of them from where it parts. next: the first one that wasn't tried. */
+static enum result try_family(const struct list *family, size_t *next) {
+    struct trial t = begun(item_of(family->items[family->count - 1]).parent);
+    bool past = false;
+    for (;;) {
+        enum stop stop = go_to_stop(&t, &past);
+        enum result result = try_here(&t, end_at[stop], family, next);
+        if (result != GOES_ON || *next == family->count)
+            return result;
+        if (!follow(&t, end_at[stop]))
+            go_past(&t, stop, &past);
+    }
+}
+
+static enum result try_next(void) {
+    static struct list family;
+    if (now.items[now.count - 1] == NO_ITEM) {
+        now.count--;
+        return try_first();
+    }
+    size_t next = 0, first = now.count - family_of(&now);
+    family.count = 0;
+    for (size_t j = first; j < now.count; j++)
+        push(&family, now.items[j]);
+    now.count = first;
+    enum result result = try_family(&family, &next);
+    for (size_t j = next; j < family.count; j++)
+        push(&now, family.items[j]);
+    return result;
+}
+
+/* ---------------------------------------------------------------- the whole */
+
+static void start_over(void) {
+    forget_seen();
+    forget_ends();
+    forget_items();
+    now.count = later.count = 0;
+    tally->bound = 0;
+    tally->most_places = 0;
+    tally->ended = tally->waited = tally->repeated = tally->limited = 0;
+    push(&now, NO_ITEM);
+}
+
+static void tell_bound(double started) {
+    printf("bound %u tries %llu states %llu places %u shared %u seconds %.2f\n", tally->bound, (unsigned long long)tally->tries,
+           (unsigned long long)seen_count(), tally->most_places, place_word_count(), now_seconds() - started);
+    fflush(stdout);
+}
+
+static void go_to_next_bound(void) {
+    struct list empty = now;
+    now = later;
+    later = empty;
+    tally->bound++;
+}
+
 enum finish search(struct run *r, const struct condition *bad_, const struct limits *limits_, struct tally *tally_) {
     double started = now_seconds();
-    uint64_t random = 0x9E3779B97F4A7C15u;
+    enum finish limit;
     run = r;
+    run->tries_locks = false;
     bad = bad_;
     limits = limits_;
     tally = tally_;
+    ends_at = started + limits->seconds;
     start_seen(limits->states);
-    for (int j = 0; j < 100 && now_seconds() - started < limits->seconds / 10; j++)
-        scout(&random);
-    uint32_t shared = shared_count();
+    every_shared_word_is_a_place(run->all_places || run->raise_count > 0);
+    send_scouts(run, limits->seconds / 10);
+    uint32_t known = knowledge();
     for (start_over();;) {
         if (now.count == 0) {
             tell_bound(started);
             if (later.count == 0)
                 return tally->bound < limits->switches ? ALL_DONE : BOUND_DONE;
-            struct list empty = now;
-            now = later;
-            later = empty;
-            tally->bound++;
+            go_to_next_bound();
         }
-        if (interrupted)
-            return INTERRUPTED;
-        if (tally->tries == limits->tries)
-            return OUT_OF_TRIES;
-        if (seen_is_full())
-            return OUT_OF_STATES;
-        if (now_seconds() - started > limits->seconds)
-            return OUT_OF_TIME;
-        tally->tries++;
-        if (try_item(now.items[--now.count]) == IS_BAD)
+        if (limit_is_met(&limit))
+            return limit;
+        if (try_next() == IS_BAD)
             return FOUND;
-        if (shared_count() != shared) {
-            shared = shared_count();
+        if (knowledge() != known) {
+            known = knowledge();
             tally->restarts++;
             start_over();
         }

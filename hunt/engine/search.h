@@ -15,7 +15,7 @@ struct limits {
 enum finish { FOUND, BOUND_DONE, ALL_DONE, OUT_OF_TRIES, OUT_OF_TIME, OUT_OF_STATES, INTERRUPTED };
 
 struct tally {
-    uint64_t tries, ended, waited, repeated, limited, spent;
+    uint64_t tries, ended, waited, repeated, limited;
     uint32_t most_places, bound, restarts;
 };
 

@@ -3,6 +3,7 @@
     exit THREAD = CODE       the thread has ended with the code; also != < > <= >=. THREAD is a number, or `any`
     fault [THREAD [= CAUSE]] it has faulted
     hang [THREAD]            it never ends: neither it nor any other thread goes on
+    stuck [THREAD]           it never ends, in whatever order: no thread goes on, or those that do go round without an end
     word WORD = VALUE        at the end the word has the value; WORD is a symbol or an address, with +OFFSET or without
     console = TEXT           what was put on the console, or != TEXT
     console has TEXT
@@ -15,7 +16,7 @@ from collections import namedtuple
 import re
 import shlex
 
-KINDS = ("exit", "fault", "hang", "word", "is", "has")
+KINDS = ("exit", "fault", "hang", "word", "is", "has", "stuck")
 COMPARISONS = ("=", "!=", "<", ">", "<=", ">=")
 ANY = 255
 HOLDS = (lambda a, b: a == b, lambda a, b: a != b, lambda a, b: a < b, lambda a, b: a > b, lambda a, b: a <= b,
@@ -73,10 +74,10 @@ def read_atom(words, names):
             return Atom("fault", COMPARISONS.index(">="), thread(who), 0, 0, b"")
         case ["fault", who, how, cause]:
             return Atom("fault", comparison(how), thread(who), number(cause), 0, b"")
-        case ["hang"]:
-            return Atom("hang", 0, ANY, 0, 0, b"")
-        case ["hang", who]:
-            return Atom("hang", 0, thread(who), 0, 0, b"")
+        case ["hang" | "stuck" as kind]:
+            return Atom(kind, 0, ANY, 0, 0, b"")
+        case ["hang" | "stuck" as kind, who]:
+            return Atom(kind, 0, thread(who), 0, 0, b"")
         case ["word", word, how, value]:
             return Atom("word", comparison(how), 0, number(value), names.word(word), b"")
         case ["console", ("=" | "!=") as how, text]:
@@ -134,7 +135,7 @@ class Ended:
         return int.from_bytes(row[address & 28 : (address & 28) + 4], "little")
 
     def holds_of_thread(self, atom, status, code):
-        if atom.kind == "hang":
+        if atom.kind in ("hang", "stuck"):
             return status == "live"
         return status == {"exit": "ended", "fault": "fault"}[atom.kind] and HOLDS[atom.comparison](code, atom.value)
 

@@ -12,10 +12,12 @@ import os
 from pathlib import Path
 import shutil
 import signal
+import struct
 import subprocess
 import tempfile
 
 from .conditions import KINDS
+from .image import section
 from .logs import ORDER_SIZE, Input, Log
 
 SOURCES = Path(__file__).resolve().parent.parent / "engine"
@@ -33,11 +35,13 @@ Turn = namedtuple("Turn", "actor steps value end")
 Told = namedtuple("Told", "leaf turns log account loops answers")
 Bound = namedtuple("Bound", "bound tries states places shared seconds")
 # how: found, bound (all up to the greatest bound are done), all (there are no more orders), tries, seconds or states (a limit was
-# met), or stopped (by Ctrl-C).
-Search = namedtuple("Search", "how bounds tries ended hung limited spent places bound told")
+# met), or stopped (by Ctrl-C). ends: the different ends that were met, if the engine was made to collect them.
+Search = namedtuple("Search", "how bounds tries ended hung limited places bound told ends")
+# memory: the bytes asked for. threads: (status, code) of each; status 0 is live, 1 ended, 2 faulted. forced: the fewest switches.
+End = namedtuple("End", "memory threads forced")
 # threads: the most that there may be, or None for as many as the version has.
-Options = namedtuple("Options", "seed input tick turn steps raises version threads",
-                     defaults=(0, None, 64, 10000, 1000000, (), 1, None))
+Options = namedtuple("Options", "seed input tick turn steps raises version threads all_places",
+                     defaults=(0, None, 64, 10000, 1000000, (), 1, None, False))
 
 
 class NoEngine(Exception):
@@ -67,6 +71,12 @@ def built():
                 raise NoEngine("the engine wasn't built: " + made.stderr.strip())
             fresh.replace(program)
     return program
+
+
+def acquires(image):
+    """The addresses of the instructions that the image marks as those that take a lock."""
+    marks = section(image.file, b".delorean.acquires")
+    return [pc for (pc,) in struct.iter_unpack("<I", marks[:len(marks) // 4 * 4]) if 0 < pc < image.size]
 
 
 def hexed(data):
@@ -106,6 +116,10 @@ class Engine:
         if o.input:
             yield "input %s" % Path(o.input).resolve()
         yield from ("raise %d %x" % raised for raised in o.raises)
+        if o.all_places:
+            yield "all-places"
+        else:
+            yield from ("acquire %x" % pc for pc in acquires(image))
 
     def most_threads(self):
         return self.options.threads or (15 if self.options.version == 1 else 63)
@@ -117,6 +131,7 @@ class Engine:
         with suppress(BrokenPipeError):
             self.process.stdin.close()
         self.process.wait()
+        self.process.stdout.close()
 
     def __enter__(self):
         return self
@@ -154,16 +169,23 @@ class Engine:
             signal.signal(signal.SIGINT, before)
 
     def read_search(self, on_bound):
-        bounds, told = [], None
+        bounds, ends, told = [], [], None
         while (words := self.line())[0] == "bound":
             bounds.append(Bound(*map(int, words[1:10:2]), float(words[11])))
             on_bound(bounds[-1])
-        tries, ended, hung, limited, spent, places, bound, _ = map(int, words[1:])
+        while words[0] == "met":
+            ends.append(read_end(words))
+            words = self.line()
+        tries, ended, hung, limited, places, bound, _ = map(int, words[1:])
         words = self.line()
         if words[0] == "leaf":
             told = self.read_told(words)
             words = self.line()
-        return Search(words[1], bounds, tries, ended, hung, limited, spent, places, bound, told)
+        return Search(words[1], bounds, tries, ended, hung, limited, places, bound, told, ends)
+
+    def collect_ends(self, address, length):
+        """From now on searches tell the different ends that they meet, each with these bytes of memory."""
+        self.send("ends %d %d" % (address, length))
 
     def lead(self, turns, word):
         self.send(*("turn %d %d %x %d" % (t.actor, t.steps, t.value, ENDS.index(t.end)) for t in turns), word)
@@ -233,6 +255,11 @@ class Engine:
             size, *answer = word.split(":")
             commits.append((int(size), Input(int(answer[0]), int(answer[1], 16), b"") if answer else None))
         return int(words[1]), commits
+
+
+def read_end(words):
+    threads = tuple(tuple(map(int, word.split(":"))) for word in words[3:])
+    return End(bytes.fromhex(words[2]), threads, int(words[1]))
 
 
 def read_answer(line):

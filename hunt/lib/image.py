@@ -11,6 +11,20 @@ class NotAnImage(Exception):
     """args: the rule's number."""
 
 
+def section(data, name):
+    """The bytes of the section of that name in an ELF file that was read as an image; none if it isn't there, or is damaged."""
+    try:
+        headers, size, count, names = struct.unpack_from("<I10xHHH", data, 32)
+        sections = [struct.unpack_from("<10I", data, headers + size * j) for j in range(count)] if headers and size == 40 else []
+        for at, _, _, _, offset, length, *_ in sections:
+            start = sections[names][4] + at
+            if data[start:data.index(b"\0", start)] == name and offset + length <= len(data):
+                return data[offset:offset + length]
+    except (IndexError, ValueError, struct.error):
+        pass
+    return b""
+
+
 def read_image(data, size):
     def refuse(broken, rule):
         if broken:

@@ -11,11 +11,13 @@ from .image import NotAnImage, read_image
 from .judge import Differs, Judge, switches_of
 from .manners import NoOutput, try_output
 from .symbols import Names, NoWord
+from .why import explained
 
 CONDITIONS = """\
   exit THREAD = CODE        the thread has ended with the code; or != < > <= >=. THREAD is a number, or any
   fault [THREAD [= CAUSE]]  it has faulted
   hang [THREAD]             it never ends: neither it nor any other thread goes on
+  stuck [THREAD]            it never ends, in whatever order: no thread goes on, or those that do go round without an end
   word WORD = VALUE         at the end the word has the value; WORD is a symbol or an address, with +OFFSET or without
   console = TEXT            what was put on the console; or !=
   console has TEXT          TEXT is a word of the shell, with \\n and \\xHH in it
@@ -108,7 +110,9 @@ class Job:
             Path(self.given.out).write_bytes(verdict.log)
         except OSError as error:
             raise Refused("%s: %s" % (error.filename, error.strerror)) from None
-        print("\n".join(self.summary(told, verdict)))
+        is_hang = told.leaf in ("waits", "repeats")
+        why = explained(self.given.image, self.given.memory, verdict.log, is_hang)
+        print("\n".join([*self.summary(told, verdict), *why]))
 
     def summary(self, told, verdict):
         log = told.log

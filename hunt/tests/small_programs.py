@@ -10,6 +10,8 @@ from lib.machine import Machine
 
 SIZE = 4096
 SHARED, RESULTS = 0x400, 0x480  # words that all threads use; of each thread one of its own
+OWN = 0x4A0                     # of each thread a word that no other one touches
+END_OF_WORDS = 0x4C0
 CODE_OF_THREAD = 0x100
 EXIT, SPAWN = 0, 1
 
@@ -55,9 +57,9 @@ def call(number):
     return [addi(17, 0, number), ECALL]
 
 
-def step(rng):
+def step(rng, thread=0):
     """A few instructions on a shared word, with x5 as what the thread has seen, x6 as base."""
-    address = SHARED + 4 * rng.randrange(2)
+    address = one_shared(rng)
     kind = rng.randrange(7)
     if kind == 0:
         return [lw(7, address), slli(5, 5, 2), add(5, 5, 7)]
@@ -74,9 +76,9 @@ def step(rng):
     return [addi(5, 5, 1)]
 
 
-def waiting_step(rng):
+def waiting_step(rng, thread=0):
     """Waits until a shared word is set; or takes one as a lock, and gives it back."""
-    address = SHARED + 4 * rng.randrange(2)
+    address = one_shared(rng)
     kind = rng.randrange(3)
     if kind == 0:
         return [lw(7, address), beq(7, 0, -4)]
@@ -85,8 +87,51 @@ def waiting_step(rng):
     return step(rng)
 
 
-def random_program(seed, one_step=step):
-    """Code words by address: two or three threads, of a few steps each."""
+def sees(address):
+    return [lw(7, address), slli(5, 5, 2), add(5, 5, 7)]
+
+
+def sets(address, value):
+    return [addi(7, 0, value), sw(7, address)]
+
+
+def one_shared(rng):
+    return SHARED + 4 * rng.randrange(2)
+
+
+def reserved(rng, thread):
+    """An LR and an SC, mostly of the same word, often with accesses to shared words before and between them; the thread sees how
+    the SC ended."""
+    words = [OWN + 4 * thread, OWN + 4 * thread, SHARED, SHARED + 4]
+    at = rng.choice(words)
+    before = sets(one_shared(rng), 1) if rng.randrange(2) else []
+    between = rng.choice((sees(one_shared(rng)), sees(one_shared(rng)), sets(one_shared(rng), 2), []))
+    away = rng.choice(words) - at if rng.randrange(6) == 0 else 0
+    return [*before, addi(6, 0, at), atomic(LR, 9, 6, 0), *between, addi(9, 9, 1), addi(6, 6, away), atomic(SC, 8, 6, 9),
+            slli(5, 5, 1), add(5, 5, 8)]
+
+
+def reserving_lock(rng, thread):
+    """Takes a shared word as a lock by LR and SC, and gives it back."""
+    address = one_shared(rng)
+    return [addi(6, 0, address), atomic(LR, 7, 6, 0), bne(7, 0, -4), addi(7, 0, 1), atomic(SC, 8, 6, 7), bne(8, 0, -16),
+            *step(rng), sw(0, address)]
+
+
+def reserving_step(rng, thread):
+    """LR and SC on a word of the thread's own or a shared one; or a lock, a waiting loop, or any other step."""
+    kind = rng.randrange(8)
+    if kind < 3:
+        return reserved(rng, thread)
+    if kind == 3:
+        return reserving_lock(rng, thread)
+    if kind < 6:
+        return [*sees(one_shared(rng)), *sets(one_shared(rng), 1)]
+    return waiting_step(rng) if kind == 6 else step(rng)
+
+
+def random_program(seed, one_step=step, most=3):
+    """Code words by address: two threads of up to so many steps each, or three threads of one less."""
     rng = random.Random(seed)
     threads = rng.choice((2, 2, 2, 3))
     code = {}
@@ -95,8 +140,8 @@ def random_program(seed, one_step=step):
         if thread == 0:
             for other in range(1, threads):
                 words += [addi(10, 0, CODE_OF_THREAD * other), addi(11, 0, 0), addi(12, 0, 0), *call(SPAWN)]
-        for _ in range(rng.randrange(1, 4 if threads == 2 else 3)):
-            words += one_step(rng)
+        for _ in range(rng.randrange(1, most + 1 if threads == 2 else most)):
+            words += one_step(rng, thread)
         words += [sw(5, RESULTS + 4 * thread), addi(10, 0, 0), *call(EXIT)]
         for place, word in enumerate(words):
             code[CODE_OF_THREAD * thread + 4 * place] = word
@@ -123,7 +168,7 @@ def outcome(machine, threads):
 
 def state_of(machine, current):
     threads = tuple((t.pc, tuple(t.x[:32]), t.reservation, t.status) for t in machine.threads)
-    return bytes(machine.memory[SHARED : RESULTS + 64]), threads, current
+    return bytes(machine.memory[SHARED:END_OF_WORDS]), threads, current
 
 
 def end_chunk(machine, k):
@@ -144,8 +189,12 @@ def all_outcomes(code, threads):
     return explored(code, threads)[0]
 
 
-def explored(code, threads):
-    """The outcomes with their costs, and whether there is a state from which no end can be reached."""
+class TooMany(Exception):
+    """The program has more states than were allowed."""
+
+
+def explored(code, threads, most=1 << 30):
+    """The outcomes with their costs, and whether there is a state from which no end can be reached. TooMany after `most` states."""
     machine, found, best, before = Machine(image_of(code)), {}, {}, {}
     ends = set()
     start = machine.save()
@@ -157,6 +206,8 @@ def explored(code, threads):
         before.setdefault(key, set()).add(parent)
         if best.get(key, 1 << 30) <= cost:
             continue
+        if len(best) > most:
+            raise TooMany
         best[key] = cost
         live = [n for n, t in enumerate(machine.threads) if t.live()]
         if not live:

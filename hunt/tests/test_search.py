@@ -22,8 +22,7 @@ from lib.judge import Differs, Judge
 from lib.logs import read_log, write_log
 from lib.play import play
 from lib.symbols import Names
-from small_programs import (ADD, LR, RESULTS, SC, SHARED, addi, atomic, beq, bne, call, elf, explored, image_of, lw,
-                            random_program, step, sw, waiting_step)
+from small_programs import ADD, LR, SC, SHARED, addi, atomic, beq, bne, call, elf, lw, sw
 
 CAN_BUILD = shutil.which(os.environ.get("CC", "cc")) is not None
 NO_COMPILER = "the search, since there is no C compiler"
@@ -157,42 +156,6 @@ class Bugs(unittest.TestCase):
 
 
 @unittest.skipUnless(CAN_BUILD, NO_COMPILER)
-class EveryOrder(unittest.TestCase):
-    """Of small random programs the search finds each outcome that any order has, with as few forced switches, and no other."""
-
-    @staticmethod
-    def condition(found):
-        addresses = [SHARED, SHARED + 4] + [RESULTS + 4 * j for j in range(len(found) - 2)]
-        return " and ".join(["word %X = %d" % pair for pair in zip(addresses, found)]
-                            + ["exit %d = 0" % j for j in range(len(found) - 2)])
-
-    def test_costs(self):
-        for seed in (1, 3, 6, 10, 12, 14, 19, 24, 25, 30, 32, 37, 114, 125):
-            code, threads = random_program(seed, step)
-            image, (found, _) = image_of(code), explored(code, threads)
-            for outcome, cost in found.items():
-                result = searched(image, read_condition([self.condition(outcome)], Names(image)))
-                self.assertEqual((result.how, result.bound), ("found", cost), (seed, outcome))
-            result = searched(image, read_condition(["word %X = 999" % SHARED], Names(image)), 40)
-            self.assertEqual(result.how, "all", seed)
-
-    def test_hangs(self):
-        hangs = 0
-        seeds = (*range(20, 25), 26, 31, 32, 36, 37, 38, 40, 43, 44, 47, 54)
-        for seed in seeds:
-            code, threads = random_program(seed, waiting_step)
-            image, (found, hang) = image_of(code), explored(code, threads)
-            for outcome, cost in found.items():
-                result = searched(image, read_condition([self.condition(outcome)], Names(image)))
-                self.assertEqual(result.how, "found", (seed, outcome))
-                self.assertLessEqual(result.bound, cost, (seed, outcome))
-            result = searched(image, read_condition(["hang"], Names(image)), 40)
-            self.assertEqual(result.how, "found" if hang else "all", seed)
-            hangs += hang
-        self.assertTrue(0 < hangs < len(seeds))
-
-
-@unittest.skipUnless(CAN_BUILD, NO_COMPILER)
 class Ends(unittest.TestCase):
     """A hang, a run that only met a limit, and what is said of either."""
 
@@ -252,6 +215,10 @@ class Ends(unittest.TestCase):
         status, said = self.said(code, "--bad", "word 400 = 999")
         self.assertIn("found with 1 forced switch", said)
         self.assertIn("0 switches, 0 forced, 1 chunk ended early; walked", said)
+        far = laid(addi(6, 0, SHARED), addi(9, 0, 2047), atomic(LR, 7, 6, 0), addi(9, 9, -1), bne(9, 0, -4), addi(7, 7, 1),
+                   atomic(SC, 8, 6, 7), addi(10, 8, 0), addi(17, 0, 0), 0x73)
+        status, said = self.said(far, "--bad", "exit 0 = 1")
+        self.assertIn("3 commits, 0 switches, 0 forced; walked", said)
 
     def test_devices(self):
         """Input is read, and put on the console; a pipe gives back what was put into it; random bytes are a plan's."""

@@ -1,0 +1,135 @@
+#include "segments.h"
+
+#include "sharing.h"
+
+#include <string.h>
+
+/* Of a word the threads whose present segments have touched it, as bits. */
+struct touched_by { uint64_t loads, stores; };
+
+static struct touched_by *touched_by;
+static struct segment present[MOST_THREADS];
+static struct hash sum_of_all;
+static uint8_t *place;
+static uint32_t place_words;
+static uint64_t touches;
+static bool all_places = true, news, at_place;
+
+/* ---------------------------------------------------------------- places */
+
+void every_shared_word_is_a_place(bool all) { all_places = all; }
+
+bool is_place_word(uint32_t address) { return place[address / 4] || (all_places && is_shared(address)); }
+
+uint32_t place_word_count(void) { return all_places ? shared_count() : place_words; }
+
+uint32_t knowledge(void) { return shared_count() + place_words; }
+
+bool has_news(void) { return news; }
+
+void tell_news(void) { news = true; }
+
+void make_place(uint32_t address) {
+    if (all_places || place[address / 4])
+        return;
+    place[address / 4] = 1;
+    place_words++;
+    news = true;
+}
+
+/* ---------------------------------------------------------------- segments */
+
+static struct hash without(struct hash h, struct hash g) { return (struct hash){h.a - g.a, h.b - g.b}; }
+
+static void add_word(struct segment *s, uint32_t word) {
+    if (s->count == s->room) {
+        s->room = s->room ? 2 * s->room : 64;
+        s->words = more_room(s->words, s->room, sizeof *s->words);
+    }
+    s->words[s->count++] = word;
+}
+
+static uint64_t *mask_of(uint32_t word) {
+    struct touched_by *t = &touched_by[word / 4];
+    return word & STORES ? &t->stores : &t->loads;
+}
+
+static void empty(uint32_t thread) {
+    struct segment *s = &present[thread];
+    for (size_t j = 0; j < s->count; j++)
+        *mask_of(s->words[j]) &= ~(1ull << thread);
+    sum_of_all = without(sum_of_all, s->hash);
+    s->count = 0;
+    s->hash = (struct hash){0, 0};
+}
+
+void start_segments(uint32_t size) {
+    touched_by = room(size / 4, sizeof *touched_by);
+    place = room(size / 4, 1);
+    place_words = 0;
+    forget_segments();
+}
+
+void forget_segments(void) {
+    for (uint32_t k = 0; k < MOST_THREADS; k++)
+        empty(k);
+    touches = 0;
+    news = false;
+}
+
+void begin_segment(uint32_t thread) {
+    empty(thread);
+    at_place = true;
+}
+
+void go_on_in_segment(void) { at_place = false; }
+
+static void add_touch(uint32_t thread, uint32_t word) {
+    struct segment *s = &present[thread];
+    struct hash h = mixed(word, thread + 0x5E6);
+    *mask_of(word) |= 1ull << thread;
+    add_word(s, word);
+    s->hash = sum(s->hash, h);
+    sum_of_all = sum(sum_of_all, h);
+    touches++;
+}
+
+/* A DMA is done at once, so it has no segment; and where there are handlers, each shared word is a place's. */
+void touch(uint32_t context, uint32_t address, enum touch how) {
+    if (all_places || news || place[address / 4])
+        return;
+    const struct touched_by *t = &touched_by[address / 4];
+    uint64_t mine = context < MOST_THREADS ? 1ull << context : 0;
+    if ((t->stores | (how == STORES ? t->loads : 0)) & ~mine)
+        make_place(address);
+    else if (mine && !at_place && !((how == STORES ? t->stores : t->loads) & mine))
+        add_touch(context, (address & ~3u) | (uint32_t)how);
+}
+
+struct hash segments(void) { return sum_of_all; }
+
+uint64_t touch_count(void) { return touches; }
+
+/* ---------------------------------------------------------------- kept */
+
+static void copy_segment(struct segment *to, const struct segment *from) {
+    to->count = 0;
+    for (size_t j = 0; j < from->count; j++)
+        add_word(to, from->words[j]);
+    to->hash = from->hash;
+}
+
+void keep_segments(struct kept_segments *k) {
+    for (uint32_t j = 0; j < MOST_THREADS; j++)
+        copy_segment(&k->of[j], &present[j]);
+    k->touches = touches;
+}
+
+void take_back_segments(const struct kept_segments *k) {
+    for (uint32_t j = 0; j < MOST_THREADS; j++) {
+        empty(j);
+        for (size_t w = 0; w < k->of[j].count; w++)
+            add_touch(j, k->of[j].words[w]);
+    }
+    touches = k->touches;
+}

@@ -1,0 +1,47 @@
+/* At which shared words another thread may come. A thread's segment is what it has done since its last place. Two segments conflict
+   if a thread touches a shared word that another thread has touched in its present segment, one of them with a store. Then the
+   word becomes a place's word: from now on each access to it is a place. The run has news, and is nothing more to learn from:
+   what comes in it might have been parted at a place. */
+#ifndef SEGMENTS_H
+#define SEGMENTS_H
+
+#include "machine.h"
+
+enum touch { LOADS, STORES };
+
+void start_segments(uint32_t size);
+void forget_segments(void); /* for a new run; the places' words stay */
+void every_shared_word_is_a_place(bool all);
+bool is_place_word(uint32_t address);
+void make_place(uint32_t address);
+uint32_t place_word_count(void);
+/* Grows with each word that is found to be shared, or a place's. */
+uint32_t knowledge(void);
+bool has_news(void); /* of this run */
+void tell_news(void);
+
+void touch(uint32_t context, uint32_t address, enum touch how); /* a shared word */
+/* The thread's next step is at a place, and begins a segment, which doesn't have it; or the step is within its segment. */
+void begin_segment(uint32_t thread);
+void go_on_in_segment(void);
+/* Of what each thread has touched in its segment. Two runs that come to the same state with the same segments find the same
+   conflicts from there on. */
+struct hash segments(void);
+uint64_t touch_count(void); /* grows with each touch that a segment didn't have */
+
+/* The words that a thread has touched in its present segment, and the sum of their hashes. */
+struct segment {
+    uint32_t *words; /* addresses; STORES is added if it was stored to */
+    size_t count, room;
+    struct hash hash;
+};
+
+/* The segments as they are at one time. */
+struct kept_segments {
+    struct segment of[MOST_THREADS];
+    uint64_t touches;
+};
+void keep_segments(struct kept_segments *k);
+void take_back_segments(const struct kept_segments *k);
+
+#endif
