@@ -7,7 +7,7 @@ from contextlib import closing
 from itertools import zip_longest
 import time
 
-from lib.engine import RAISE, Engine, Options
+from lib.engine import EXACTLY, RAISE, TO_ITS_END, Engine, Options
 from lib.isa import STORES
 from lib.judge import Judge
 from lib.logs import DMA as DMA_COMMIT
@@ -67,10 +67,11 @@ class Grouping:
         log = read_log(data)
         turns = turns_of(log, commits_of(self.judge(find).walked(data)))
         with closing(self.engine(find, log, self.answers(find, log, turns))) as engine:
-            best = Shrinker(engine, seconds).shrunk(turns)
+            shrinker = Shrinker(engine, TO_ITS_END, time.monotonic() + seconds)
+            best = shrinker.shrunk(turns)
             if best is None:
                 return None
-            told = engine.told(slid(engine, best, self.deadline))[1]
+            told = shrinker.told(slid(engine, best, self.deadline))
         trace = Trace(self.image, told.log, play(self.image, told.log))
         return Shrunk(find, told, measure(told.turns), frozenset(marks_of(told, trace)), trace)
 
@@ -80,7 +81,7 @@ class Grouping:
         if not answers:
             return answers
         with closing(self.engine(find, log, answers)) as engine:
-            return engine.told(turns)[1].answers
+            return engine.told(turns, EXACTLY)[1].answers
 
     def engine(self, find, log, answers):
         options = Options(find.seed, self.input_name, version=log.version)

@@ -6,7 +6,7 @@ loop of each thread that is live."""
 from collections import namedtuple
 
 from lib.conditions import Ended, read_condition
-from lib.engine import Engine, NoEngine, Options
+from lib.engine import EXACTLY, Engine, NoEngine, Options
 from lib.judge import Judge
 from lib.logs import read_log
 from lib.shrinking import turns_of
@@ -41,7 +41,7 @@ class Hangs:
         options = Options(seed, self.input_name, version=log.version)
         engine = Engine(self.image, HANG, options, [(ANYONE, answer) for answer in log.inputs], [data for _, data in log.dmas])
         try:
-            outcome, told = engine.told(turns)
+            outcome, told = engine.told(turns, EXACTLY)
         finally:
             engine.close()
         return told if outcome == "bad" else None
