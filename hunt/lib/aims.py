@@ -76,7 +76,7 @@ class Tries:
             least = shrinker.shrunk(self.recording.turns)
             if least is None:
                 raise Differs("the engine loses the log's end")
-            return aim, measure(least), shrinker.told()
+            return aim, measure(least), shrinker.told(least)
 
     def least(self, aims):
         """Of the first aim, or of a later one if that has fewer forced switches."""
