@@ -44,7 +44,7 @@ MUTANTS = [
            "-DWRITERS=2 -DREADERS=0"),
     Mutant("a writer that leaves as a reader", "lib/rwlock.c", "(void)SWAP(l->word, 0);", "(void)ADD(l->word, -1);", "rwlock",
            "-DWRITERS=1 -DREADERS=1"),
-    Mutant("a spin lock that lets two in", "lib/spin.c", "while (DELOREAN_TAKE(*l))", "if (SWAP(*l, 1))", "spin", "-DTHREADS=3"),
+    Mutant("a spin lock that lets two in", "lib/spin.c", "while (DELOREAN_TAKE(*l))", "if (SWAP(*l, 1))", "spin", "-DTHREADS=3 -DTRIES=0"),
     Mutant("once, twice", "lib/once.c", "__atomic_fetch_or(&o->word, RUNS, __ATOMIC_SEQ_CST)", "o->word; STORE(o->word, was | RUNS)", "once",
            "-DTHREADS=2"),
     Mutant("once, not waited for", "lib/once.c", "WAIT_WHILE(LOAD(o->word) != DONE);", "", "once", "-DTHREADS=2"),
