@@ -25,6 +25,7 @@ class Recording:
     or doubtful."""
 
     def __init__(self, job, data):
+        self.job = job
         try:
             self.log = read_log(data)
             account = job.judge.walked(data)
@@ -54,6 +55,11 @@ class Recording:
             return Judge(job.given.image, job.given.memory, any_end).judged(told).ended, told.leaf
         except Differs:
             return self.at_log_end, "doubtful"
+
+    def ends_badly(self, condition):
+        """Whether the engine finds that the run, gone on with, meets the condition."""
+        with self.job.engine(self.answers, self.dmas, condition) as engine:
+            return engine.guided(self.turns, EXACTLY)[0] == "bad"
 
     # ------------------------------------------------------------ its end
 
