@@ -61,6 +61,11 @@ class Recording:
         with self.job.engine(self.answers, self.dmas, condition) as engine:
             return engine.guided(self.turns, EXACTLY, TO_LAST_TURN)[0] == "bad"
 
+    def ends_badly(self, condition):
+        """Whether the engine finds that the run, gone on with, meets the condition."""
+        with self.job.engine(self.answers, self.dmas, condition) as engine:
+            return engine.guided(self.turns, EXACTLY)[0] == "bad"
+
     # ------------------------------------------------------------ its end
 
     def live(self):

@@ -194,6 +194,23 @@ class Limits(Shrunk):
         status, said, ended = self.of_steps(self.COUNTS_IN_MEMORY, 100, "--bad", "word 400 = 33", "--steps", "10")
         self.assertEqual((status, ended.word(SHARED)), (0, 33), said)
 
+    def test_state_that_comes_again(self):
+        """Each thread changes its word and puts it back, until it sees that the other one has changed its own; then it lets that one
+        see the same. Alone neither ends; in turns they may."""
+        own, other = SHARED, SHARED + 4
+        code = laid(addi(10, 0, 256), addi(11, 0, 0), addi(12, 0, 0), *call(1), addi(7, 0, 1), sw(7, own), sw(0, own), lw(8, other),
+                    beq(8, 0, -12), sw(7, own), addi(10, 0, 0), *call(0))
+        code |= {256 + at: word for at, word in laid(addi(7, 0, 1), sw(7, other), sw(0, other), lw(8, own), beq(8, 0, -12),
+                                                     sw(7, other), addi(10, 0, 0), *call(0)).items()}
+        log = write_log(packed("log 1 order-size 4096 3\np 0 0 4\np 1 0 0\np 2 0 9\n"))
+        with written(code) as file:
+            status, said, _ = self.shrunk(file.name, 4096, log, "--bad", "hang")
+            self.assertEqual(status, 0, said)
+            self.assertIn("threads 0 and 1 hang: from the log's end the run comes to a state that comes again\n", said)
+            status, said, _ = self.shrunk(file.name, 4096, log, "--bad", "stuck")
+            self.assertEqual(status, 1, said)
+            self.assertIn("the log's run ends otherwise:\n", said)
+
     def test_engine_in_doubt(self):
         """If the walk doesn't bear out what comes after the log, what the log itself has is known all the same."""
         def differs(judge, told):
