@@ -3,6 +3,8 @@
 #include <string.h>
 
 static bool compares(uint32_t v, enum comparison comparison, uint32_t w) {
+    if (comparison >= SIGNED_LESS)
+        return compares(v ^ 1u << 31, comparison - SIGNED_LESS + LESS, w ^ 1u << 31);
     switch (comparison) {
     case EQUAL: return v == w;
     case UNEQUAL: return v != w;
@@ -34,7 +36,8 @@ static bool console_is(const struct atom *a, const struct machine *m) {
 
 static bool holds(const struct atom *a, const struct machine *m) {
     switch (a->kind) {
-    case WORD_IS: return compares(word_at(m, a->address), a->comparison, a->value);
+    case WORD_IS:
+    case WORD_IS_EVER: return compares(word_at(m, a->address), a->comparison, a->value);
     case CONSOLE_IS: return console_is(a, m) == (a->comparison == EQUAL);
     case CONSOLE_HAS: return console_has(a, m);
     default:
@@ -45,7 +48,19 @@ static bool holds(const struct atom *a, const struct machine *m) {
     }
 }
 
-static bool some_case_holds(const struct condition *c, const struct machine *m, bool for_good) {
+/* Which atoms may hold: those of an end, these but those of a thread that is stuck, those that last, or those of a moment. */
+enum counted { ALL_COUNT, OTHERS_COUNT, LASTING_COUNT, MOMENTS_COUNT };
+
+static bool counts(const struct atom *a, enum counted counted) {
+    switch (counted) {
+    case ALL_COUNT: return a->kind != WORD_IS_EVER;
+    case OTHERS_COUNT: return a->kind != WORD_IS_EVER && a->kind != STUCK;
+    case MOMENTS_COUNT: return a->kind == WORD_IS_EVER;
+    default: return a->kind == EXITS || a->kind == FAULTS;
+    }
+}
+
+static bool some_case_holds(const struct condition *c, const struct machine *m, enum counted counted) {
     bool all = false;
     for (size_t j = 0; j < c->count; j++) {
         if (c->atoms[j].begins_case) {
@@ -53,12 +68,22 @@ static bool some_case_holds(const struct condition *c, const struct machine *m, 
                 return true;
             all = true;
         }
-        bool lasts = c->atoms[j].kind == EXITS || c->atoms[j].kind == FAULTS;
-        all = all && (lasts || !for_good) && holds(&c->atoms[j], m);
+        all = all && counts(&c->atoms[j], counted) && holds(&c->atoms[j], m);
     }
     return all;
 }
 
-bool holds_at_end(const struct condition *c, const struct machine *m) { return some_case_holds(c, m, false); }
+bool holds_at_end(const struct condition *c, const struct machine *m) { return some_case_holds(c, m, ALL_COUNT); }
 
-bool holds_for_good(const struct condition *c, const struct machine *m) { return some_case_holds(c, m, true); }
+bool holds_of_others(const struct condition *c, const struct machine *m) { return some_case_holds(c, m, OTHERS_COUNT); }
+
+bool holds_for_good(const struct condition *c, const struct machine *m) { return some_case_holds(c, m, LASTING_COUNT); }
+
+bool holds_now(const struct condition *c, const struct machine *m) { return some_case_holds(c, m, MOMENTS_COUNT); }
+
+bool some_is_stuck(const struct condition *c, const struct machine *m) {
+    for (size_t j = 0; j < c->count; j++)
+        if (c->atoms[j].kind == STUCK && holds(&c->atoms[j], m))
+            return true;
+    return false;
+}

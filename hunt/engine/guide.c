@@ -1,6 +1,7 @@
 #include "guide.h"
 
 #include "idle.h"
+#include "stuck.h"
 
 static enum turn_end end_of(enum stop stop) {
     return stop == AT_STOP ? STOPPED : stop == AT_WAIT ? WAITS : stop == AT_SPENT ? SPENT : FORCED;
@@ -67,10 +68,10 @@ static uint32_t next_thread(struct run *r, uint32_t last) {
 static enum outcome finished(struct run *r, uint32_t last, const struct condition *bad) {
     for (;;) {
         uint32_t thread = next_thread(r, last);
-        if (holds_for_good(bad, &r->machine))
+        if (is_bad_already(r, bad))
             return BAD;
         if (thread == NO_ONE && !r->machine.requested)
-            return holds_at_end(bad, &r->machine) ? BAD : GOOD;
+            return ends_badly(r, bad) ? BAD : GOOD;
         if (thread == NO_ONE) {
             do_dma(r);
             continue;
@@ -93,7 +94,7 @@ enum outcome guided(struct run *r, const struct guide *guide, const struct condi
             return LIMITED;
         if (turn->actor < MOST_THREADS)
             last = turn->actor;
-        if (guide->until == LAST_TURN ? holds_at_end(bad, &r->machine) : holds_for_good(bad, &r->machine))
+        if (is_bad_already(r, bad) || (guide->until == LAST_TURN && holds_at_end(bad, &r->machine)))
             return BAD;
     }
     return guide->until == LAST_TURN ? GOOD : finished(r, last, bad);

@@ -8,6 +8,7 @@
 #include "run.h"
 #include "search.h"
 #include "segments.h"
+#include "sharing.h"
 
 #include <signal.h>
 #include <stdio.h>
@@ -101,6 +102,10 @@ static void take_atom(char *rest) {
     a.bytes = bytes_of(text, &a.length);
     bad.atoms = more_room(bad.atoms, bad.count + 1, sizeof a);
     bad.atoms[bad.count++] = a;
+    if (a.kind == WORD_IS_EVER) {
+        run.watched = &bad;
+        run.all_places = true;
+    }
 }
 
 static void take_raise(char *rest) {
@@ -140,8 +145,15 @@ static void take_turn(char *rest) {
 }
 
 static void ready(void) {
-    if (run.machine.setup == NULL)
-        start_machine(&run.machine, &setup);
+    if (run.machine.setup != NULL)
+        return;
+    start_machine(&run.machine, &setup);
+    for (size_t j = 0; j < bad.count; j++) {
+        if (bad.atoms[j].kind != WORD_IS_EVER)
+            continue;
+        always_share(bad.atoms[j].address);
+        make_place(bad.atoms[j].address); /* each access to it comes at a place, so each value that it has is seen */
+    }
 }
 
 static void tell_turns(void) {

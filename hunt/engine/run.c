@@ -9,6 +9,7 @@ void start_run(struct run *r) {
     reset_machine(&r->machine);
     memset(r->seats, 0, sizeof r->seats);
     r->raised = 0;
+    r->met = false;
     r->turn_count = 0;
     r->current = NO_ONE;
 }
@@ -111,8 +112,17 @@ static bool is_place(const struct run *r, const struct thread *t, struct next ne
     }
 }
 
+bool is_bad_already(const struct run *r, const struct condition *bad) { return r->met || holds_for_good(bad, &r->machine); }
+
+/* After a step or DMA, before which there were so many stores. */
+static void look_at_moment(struct run *r, uint64_t stores) {
+    if (r->watched != NULL && r->machine.stores != stores)
+        r->met = r->met || holds_now(r->watched, &r->machine);
+}
+
 static void do_step(struct run *r, struct next next, bool at_place) {
     struct served served;
+    uint64_t stores = r->machine.stores;
     present(r)->steps++;
     if (at_place)
         begin_segment(r->current);
@@ -124,6 +134,7 @@ static void do_step(struct run *r, struct next next, bool at_place) {
         run_access(&r->machine, r->current, next.address, NULL);
     else
         serve(&r->machine, r->current, next, &served);
+    look_at_moment(r, stores);
 }
 
 static void take_step(struct run *r, struct next next) {
@@ -235,7 +246,7 @@ static bool is_spent(const struct run *r) {
 static enum stop step_on(struct run *r, struct next next, bool at_place) {
     struct machine *m = &r->machine;
     do_step(r, next, at_place);
-    if (m->threads[r->current].status != LIVE)
+    if (m->threads[r->current].status != LIVE || r->met)
         return AT_STOP;
     if (comes_again(r)) {
         wait_here(r);
@@ -257,6 +268,8 @@ enum stop go_on(struct run *r, bool past) {
     for (;; past = false) {
         const struct thread *t = &r->machine.threads[r->current];
         struct next next = next_of(&r->machine, t);
+        if (r->met)
+            return AT_STOP;
         bool at_place = is_place(r, t, next);
         if (is_blocked_at(r, t, next))
             return AT_WAIT;
@@ -272,6 +285,8 @@ enum stop go_on(struct run *r, bool past) {
 
 enum stop go_steps(struct run *r, uint64_t steps) {
     for (uint64_t j = 0; j < steps; j++) {
+        if (r->met)
+            return AT_STOP;
         const struct thread *t = &r->machine.threads[r->current];
         struct next next = next_of(&r->machine, t);
         if (is_blocked_at(r, t, next))
@@ -286,6 +301,8 @@ enum stop go_steps(struct run *r, uint64_t steps) {
 enum stop go_exactly(struct run *r, uint64_t steps) {
     struct machine *m = &r->machine;
     for (uint64_t j = 0; j < steps; j++) {
+        if (r->met)
+            return AT_STOP;
         if (m->time >= r->step_limit)
             return AT_LIMIT;
         take_step(r, next_of(m, &m->threads[r->current]));
@@ -302,16 +319,24 @@ bool some_are_blocked(struct run *r) {
     return false;
 }
 
+static void go_to_loop(struct run *r, uint32_t thread) {
+    begin_turn(r, thread);
+    enum stop stop = go_steps(r, r->turn_limit);
+    end_turn(r, stop == AT_WAIT ? WAITS : stop == AT_STOP ? STOPPED : SPENT);
+}
+
 void try_locks(struct run *r) {
     for (uint32_t k = 0; k < r->machine.thread_count; k++) {
         if (!is_blocked(r, &r->machine.threads[k]))
             continue;
         r->minds_marks = false;
-        begin_turn(r, k);
-        enum stop stop = go_steps(r, r->turn_limit);
-        end_turn(r, stop == AT_WAIT ? WAITS : stop == AT_STOP ? STOPPED : SPENT);
+        go_to_loop(r, k);
         r->minds_marks = true;
     }
+    /* a loop that stores was known with the memory as it was before */
+    for (uint32_t k = 0; k < r->machine.thread_count; k++)
+        if (is_enabled(r, k))
+            go_to_loop(r, k);
 }
 
 bool is_enabled(struct run *r, uint32_t thread) {
@@ -337,8 +362,10 @@ bool can_raise(const struct run *r, uint32_t number) {
 }
 
 void do_dma(struct run *r) {
+    uint64_t stores = r->machine.stores;
     add_turn(r, DMA)->end = STOPPED;
     do_request(&r->machine);
+    look_at_moment(r, stores);
 }
 
 void do_raise(struct run *r, uint32_t number) {

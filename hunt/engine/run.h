@@ -3,6 +3,7 @@
 #ifndef RUN_H
 #define RUN_H
 
+#include "condition.h"
 #include "loops.h"
 #include "machine.h"
 
@@ -26,6 +27,8 @@ struct run {
     struct machine machine;
     bool all_places;  /* each access to a shared word is a place */
     bool minds_marks; /* a thread before a marked instruction whose lock is held waits */
+    const struct condition *watched; /* words that must never be so are looked at after each store; or NULL */
+    bool met;                        /* they were so, and the run is at its end */
     struct raise raises[MOST_RAISES];
     uint32_t raise_count;
     uint64_t raised; /* which of them have come, as bits */
@@ -49,6 +52,8 @@ struct run {
 enum stop { AT_PLACE, AT_INTERRUPTIBLE, AT_STOP, AT_WAIT, AT_SPENT, AT_LIMIT };
 
 void start_run(struct run *r);
+/* Whether it is bad, whatever comes. */
+bool is_bad_already(const struct run *r, const struct condition *bad);
 void begin_turn(struct run *r, uint32_t actor);
 void end_turn(struct run *r, enum turn_end end);
 /* The current thread goes on to its next place or such a point; past the one where it is, if `past`. */

@@ -37,7 +37,7 @@ static void scout(struct run *r, uint64_t *state) {
     struct machine *m = &r->machine;
     uint32_t threads[MOST_THREADS];
     start_run(r);
-    for (uint32_t turn = 0; turn < MOST_TURNS && m->time < r->step_limit && !has_news(); turn++) {
+    for (uint32_t turn = 0; turn < MOST_TURNS && m->time < r->step_limit && !has_news() && !r->met; turn++) {
         uint32_t count = enabled_threads(r, threads);
         if (m->requested && (count == 0 || drawn(state) % 16 == 0))
             do_dma(r);

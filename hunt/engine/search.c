@@ -6,6 +6,7 @@
 #include "scouts.h"
 #include "seen.h"
 #include "segments.h"
+#include "stuck.h"
 
 #include <signal.h>
 #include <stdio.h>
@@ -187,7 +188,7 @@ static enum result judge_leaf(void) {
     tally->ended += leaf == ALL_ENDED;
     tally->waited += leaf == ALL_WAIT;
     tally->repeated += leaf == COMES_AGAIN;
-    return holds_at_end(bad, &run->machine) ? IS_BAD : IS_DONE;
+    return ends_badly(run, bad) ? IS_BAD : IS_DONE;
 }
 
 /* So that a walk can show that it is an end, threads that are blocked go on to where they really wait. */
@@ -270,7 +271,7 @@ static enum result at_place(struct trial *t, enum stop stop, bool *past) {
 }
 
 static enum result at_turn_end(struct trial *t, enum turn_end end) {
-    if (holds_for_good(bad, &run->machine)) {
+    if (is_bad_already(run, bad)) {
         end_turn(run, end);
         return IS_BAD;
     }

@@ -10,6 +10,7 @@ enum { IN_HANDLER = 64, BY_DMA = 127 };
 
 void start_sharing(uint32_t size);
 bool is_shared(uint32_t address);
+void always_share(uint32_t address); /* counts as shared from the start */
 uint32_t shared_count(void);
 uint32_t context_of(const struct machine *m, uint32_t thread);
 void note_load(uint32_t context, uint32_t address);

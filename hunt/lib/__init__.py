@@ -24,6 +24,7 @@ Each step is in a **commit**, and each access to memory, to a device's word or b
     trace.of_word(addr)             those of one word, in order, as (Commit, Access)
     trace.words                     the accesses of each word, as indices
     trace.first_value(addr)         the word in the image
+    trace.value_before(addr, step)  the word as a step found it
     trace.commit_of(step)           the Commit that has it
     trace.context(commit)           who acted: Context(thread, handler). An interrupt is a context of its own, by its number
                                     in its thread, from 1. A DMA's thread is logs.DMA. context_name() says it in words
@@ -59,5 +60,7 @@ For a breakpoint search trace.pcs, and for a watchpoint trace.of_word: nothing n
 
 Each commit of a log is a run of some instructions and then end_commit, or one serve and then end_commit, or a dma.
 logs.write_log(Log(..)) makes a log's bytes. play.Player does a log commit by commit: step() until `end` isn't None.
-words.py finds lost updates and ABA in a trace, and says who does what to a word; telling.py has the lines of text.
+words.py finds lost updates and ABA in a trace, and says who does what to a word; why.py finds loads that were stale when they were
+used, halfway.py what others saw too early, hangs.py what threads wait for, races.py what nothing orders, stacks.py stacks that were
+run over; telling.py has the lines of text.
 """

@@ -7,6 +7,7 @@ one is taken only if that has fewer forced switches.
 from collections import namedtuple
 import time
 
+from .conditions import HANGS, is_of_moment
 from .engine import TO_ITS_END, TO_LAST_TURN
 from .judge import Differs
 from .searching import counted
@@ -16,24 +17,36 @@ from .shrinking import Shrinker, measure
 Aim = namedtuple("Aim", "condition until")
 
 
-def without_hangs(condition):
-    return [case for case in condition if not any(atom.kind == "hang" for atom in case)]
+def without(condition, *kinds):
+    """The cases that have no atom of these kinds."""
+    return [case for case in condition if not any(atom.kind in kinds for atom in case)]
+
+
+def decided(recording, condition):
+    """Without the cases that want a thread stuck, if the state comes again but the engine found an order that goes on."""
+    if recording.leaf == "repeats" and not recording.ends_badly(condition):
+        return without(condition, "stuck")
+    return condition
 
 
 def met(recording, condition):
     """The Aim in the way in which the recording meets the condition, or None if it doesn't: at its run's end; or else where the
-    log ends, although threads could go on. There nothing is a hang."""
-    if recording.at_end.meets(condition, recording.leaf != "goes-on"):
+    log ends, although threads could go on, where nothing is a hang; or else at a moment before."""
+    if recording.at_end.meets(decided(recording, condition), recording.is_at_end()):
         return Aim(condition, TO_ITS_END)
-    here = without_hangs(condition)
-    return Aim(here, TO_LAST_TURN) if recording.at_log_end.meets(here, True) else None
+    here, moments = without(condition, *HANGS), [case for case in condition if is_of_moment(case)]
+    if recording.at_log_end.meets(here, True):
+        return Aim(here, TO_LAST_TURN)
+    return Aim(moments, TO_LAST_TURN) if moments and recording.passes(moments) else None
 
 
 def narrowed(aim, recording):
     """The Aim that the log's own end is kept too; None if it has none."""
     own = recording.end()
+    if any(map(is_of_moment, aim.condition)):
+        return None  # the run is at its end there
     if aim.until == TO_LAST_TURN:
-        own = [atom for atom in own if atom.kind != "hang"]
+        own = [atom for atom in own if atom.kind not in HANGS]
     return aim._replace(condition=[case + own for case in aim.condition]) if own else None
 
 
@@ -71,7 +84,7 @@ class Tries:
             least = shrinker.shrunk(self.recording.turns)
             if least is None:
                 raise Differs("the engine loses the log's end")
-            return aim, measure(least), shrinker.told()
+            return aim, measure(least), shrinker.told(least)
 
     def least(self, aims):
         """Of the first aim, or of a later one if that has fewer forced switches."""

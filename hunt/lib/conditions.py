@@ -3,11 +3,14 @@
     exit THREAD = CODE       the thread has ended with the code; also != < > <= >=. THREAD is a number, or `any`
     fault [THREAD [= CAUSE]] it has faulted
     hang [THREAD]            it never ends: neither it nor any other thread goes on
+    stuck [THREAD]           it never ends, in whatever order: no thread goes on, or those that do go round without an end
     word WORD = VALUE        at the end the word has the value; WORD is a symbol or an address, with +OFFSET or without
     console = TEXT           what was put on the console, or != TEXT
     console has TEXT
+    ever word WORD = VALUE   at some moment the word has the value; all words of one `ever`, with `and` between, at the same moment
 
-Codes and values are decimal or 0x and hexadecimal digits; TEXT is a word of the shell, with \\n and \\xHH in it. An account
+Codes and values are decimal or 0x and hexadecimal digits. A word is compared as a signed number if VALUE is negative, and with `< 0`
+and `>= 0`; else as an unsigned one. TEXT is a word of the shell, with \\n and \\xHH in it. An account
 (Ended, below) meets the condition, or doesn't: that is looked up in the account alone.
 """
 
@@ -15,11 +18,14 @@ from collections import namedtuple
 import re
 import shlex
 
-KINDS = ("exit", "fault", "hang", "word", "is", "has")
+KINDS = ("exit", "fault", "hang", "word", "is", "has", "stuck", "ever")
+HANGS = ("hang", "stuck")
 COMPARISONS = ("=", "!=", "<", ">", "<=", ">=")
+SIGNED = len(COMPARISONS) - COMPARISONS.index("<")  # from a comparison to that of signed numbers
 ANY = 255
 HOLDS = (lambda a, b: a == b, lambda a, b: a != b, lambda a, b: a < b, lambda a, b: a > b, lambda a, b: a <= b,
-         lambda a, b: a >= b)
+         lambda a, b: a >= b, lambda a, b: signed(a) < signed(b), lambda a, b: signed(a) > signed(b),
+         lambda a, b: signed(a) <= signed(b), lambda a, b: signed(a) >= signed(b))
 
 Atom = namedtuple("Atom", "kind comparison thread value address text")
 
@@ -35,6 +41,17 @@ def number(text):
     if not -(1 << 31) <= value < 1 << 32:
         raise BadCondition("%s isn't one of 32 bits" % text)
     return value & 0xFFFFFFFF
+
+
+def signed(value):
+    return value - (1 << 32) if value >> 31 else value
+
+
+def word_comparison(how, value):
+    """The number of a comparison of words."""
+    found = comparison(how)
+    is_signed = value.startswith("-") or (value == "0" and how in ("<", ">="))
+    return found + SIGNED if is_signed and found >= COMPARISONS.index("<") else found
 
 
 def thread(text):
@@ -73,12 +90,12 @@ def read_atom(words, names):
             return Atom("fault", COMPARISONS.index(">="), thread(who), 0, 0, b"")
         case ["fault", who, how, cause]:
             return Atom("fault", comparison(how), thread(who), number(cause), 0, b"")
-        case ["hang"]:
-            return Atom("hang", 0, ANY, 0, 0, b"")
-        case ["hang", who]:
-            return Atom("hang", 0, thread(who), 0, 0, b"")
+        case ["hang" | "stuck" as kind]:
+            return Atom(kind, 0, ANY, 0, 0, b"")
+        case ["hang" | "stuck" as kind, who]:
+            return Atom(kind, 0, thread(who), 0, 0, b"")
         case ["word", word, how, value]:
-            return Atom("word", comparison(how), 0, number(value), names.word(word), b"")
+            return Atom("word", word_comparison(how, value), 0, number(value), names.word(word), b"")
         case ["console", ("=" | "!=") as how, text]:
             return Atom("is", comparison(how), 0, 0, 0, text_bytes(text))
         case ["console", "has", text]:
@@ -96,10 +113,24 @@ def split(words, between):
     return parts
 
 
+def read_case(words, names):
+    atoms = [read_atom(part, names) for part in split(words[words[:1] == ["ever"] :], "and")]
+    if words[:1] != ["ever"] or (len(atoms) == 1 and atoms[0].kind in ("exit", "fault")):
+        return atoms
+    if any(atom.kind != "word" for atom in atoms):
+        raise BadCondition("`%s`: `ever` is of words alone, or of one fault or exit" % " ".join(words))
+    return [atom._replace(kind="ever") for atom in atoms]
+
+
+def is_of_moment(case):
+    """Whether it holds at some moment, and not only at an end."""
+    return any(atom.kind == "ever" for atom in case)
+
+
 def read_condition(texts, names):
     """The cases, each a list of Atoms."""
     try:
-        return [[read_atom(words, names) for words in split(shlex.split(text), "and")] for text in texts]
+        return [read_case(shlex.split(text), names) for text in texts]
     except ValueError as error:
         raise BadCondition(str(error)) from None
 
@@ -134,12 +165,12 @@ class Ended:
         return int.from_bytes(row[address & 28 : (address & 28) + 4], "little")
 
     def holds_of_thread(self, atom, status, code):
-        if atom.kind == "hang":
+        if atom.kind in HANGS:
             return status == "live"
         return status == {"exit": "ended", "fault": "fault"}[atom.kind] and HOLDS[atom.comparison](code, atom.value)
 
     def holds(self, atom):
-        if atom.kind == "word":
+        if atom.kind in ("word", "ever"):
             return HOLDS[atom.comparison](self.word(atom.address), atom.value)
         if atom.kind == "is":
             return HOLDS[atom.comparison](self.console, atom.text)
@@ -149,6 +180,6 @@ class Ended:
         return any(self.holds_of_thread(atom, *thread) for thread in threads)
 
     def meets(self, condition, is_end):
-        """Whether one of the cases holds. Where the run isn't at an end, exits and faults alone tell anything."""
+        """Whether one of the cases holds. Where the run isn't at an end, exits, faults and moments alone tell anything."""
         return self.is_complete and any(
-            all((is_end or atom.kind in ("exit", "fault")) and self.holds(atom) for atom in case) for case in condition)
+            all((is_end or atom.kind in ("exit", "fault", "ever")) and self.holds(atom) for atom in case) for case in condition)

@@ -7,26 +7,11 @@ on any more, or the limit of steps is met before.
 
 from .account import NotWalked
 from .conditions import ANY, COMPARISONS, Atom, Ended
-from .engine import DMA, EXACTLY, RAISE, TO_LAST_TURN, Turn
-from .judge import Judge
-from .logs import DMA as DMA_COMMIT
+from .engine import EXACTLY, TO_LAST_TURN
+from .judge import Differs, Judge
 from .logs import Malformed, read_log
 from .searching import Refused
-
-
-def turns_of(log, commits):
-    """A turn for each commit of a log, given as (actor, size) by its walk's account, and for each interrupt."""
-    done, turns = {}, []
-    for actor, size in commits:
-        if actor == DMA_COMMIT:
-            turns.append(Turn(DMA, 0, 0, "stopped"))
-            continue
-        turns.append(Turn(actor, size or 1, 0, "forced"))
-        done[actor] = done.get(actor, 0) + 1
-        value = log.interrupts.get((actor, done[actor]))
-        if value is not None:
-            turns.append(Turn(RAISE, actor, value, "stopped"))
-    return turns
+from .shrinking import turns_of
 
 
 def commits_of(account):
@@ -36,9 +21,11 @@ def commits_of(account):
 
 class Recording:
     """log: a Log. commits: (actor, size) of each. turns: of the engine. answers, dmas: what came from outside. at_log_end,
-    at_end: an Ended where the log ends, and where its run does. leaf: ended, waits, repeats, or goes-on at the limit."""
+    at_end: an Ended where the log ends, and where its run does. leaf: ended, waits or repeats; or, if at_end isn't known, limited
+    or doubtful."""
 
     def __init__(self, job, data):
+        self.job = job
         try:
             self.log = read_log(data)
             account = job.judge.walked(data)
@@ -62,10 +49,22 @@ class Recording:
         if not self.live():
             return self.at_log_end, "ended"
         if engine.guided(self.turns, EXACTLY)[0] == "limited":
-            return self.at_log_end, "goes-on"
-        told = engine.told(self.turns, EXACTLY)[1]
-        any_end = [[]]
-        return Judge(job.given.image, job.given.memory, any_end).judged(told).ended, told.leaf
+            return self.at_log_end, "limited"
+        told, any_end = engine.told(self.turns, EXACTLY)[1], [[]]
+        try:
+            return Judge(job.given.image, job.given.memory, any_end).judged(told).ended, told.leaf
+        except Differs:
+            return self.at_log_end, "doubtful"
+
+    def passes(self, condition):
+        """Whether the log comes to a moment that the condition is of."""
+        with self.job.engine(self.answers, self.dmas, condition) as engine:
+            return engine.guided(self.turns, EXACTLY, TO_LAST_TURN)[0] == "bad"
+
+    def ends_badly(self, condition):
+        """Whether the engine finds that the run, gone on with, meets the condition."""
+        with self.job.engine(self.answers, self.dmas, condition) as engine:
+            return engine.guided(self.turns, EXACTLY)[0] == "bad"
 
     # ------------------------------------------------------------ its end
 
@@ -73,10 +72,13 @@ class Recording:
         """The threads that are live at the log's end."""
         return [k for k, (status, _) in enumerate(self.at_log_end.threads) if status == "live"]
 
+    def is_at_end(self):
+        """Whether at_end is known."""
+        return self.leaf in ("ended", "waits", "repeats")
+
     def hung(self):
-        """Those of them that never end."""
-        never_ends = self.leaf in ("waits", "repeats")
-        return [k for k in self.live() if never_ends and self.at_end.threads[k][0] == "live"]
+        """The threads that never end."""
+        return [k for k in self.live() if self.is_at_end() and self.at_end.threads[k][0] == "live"]
 
     def end(self):
         """The log's own end, as Atoms of a condition: each thread that has ended or faulted did so in this way; and where none

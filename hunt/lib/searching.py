@@ -11,12 +11,15 @@ from .image import NotAnImage, read_image
 from .judge import Differs, Judge, switches_of
 from .manners import NoOutput, try_output
 from .symbols import Names, NoWord
+from .why import explained
 
 CONDITIONS = """\
   exit THREAD = CODE        the thread has ended with the code; or != < > <= >=. THREAD is a number, or any
   fault [THREAD [= CAUSE]]  it has faulted
   hang [THREAD]             it never ends: neither it nor any other thread goes on
+  stuck [THREAD]            it never ends, in whatever order: no thread goes on, or those that do go round without an end
   word WORD = VALUE         at the end the word has the value; WORD is a symbol or an address, with +OFFSET or without
+  ever word WORD = VALUE    the same at some moment, for example ever word count < 0, or ever word a = 1 and word b = 1
   console = TEXT            what was put on the console; or !=
   console has TEXT          TEXT is a word of the shell, with \\n and \\xHH in it
 Several of them may be joined by `and`; of several --bad one is enough."""
@@ -87,9 +90,8 @@ class Job:
         except NoWord as error:
             raise BadCondition("%s: %s" % error.args) from None
         raises = tuple(map(read_raise, getattr(given, "raises", ())))
-        threads = getattr(given, "log_threads", None)
-        self.options = Options(given.seed, given.input, given.tick, given.turn, given.steps, raises, given.log_version, threads,
-                               getattr(given, "all_places", False))
+        self.options = Options(given.seed, given.input, given.tick, given.turn, given.steps, raises, given.log_version,
+                               getattr(given, "log_threads", None), getattr(given, "all_places", False))
         self.judge = Judge(given.image, given.memory, self.condition)
 
     def engine(self, answers=(), dmas=(), condition=None):
@@ -109,7 +111,9 @@ class Job:
             Path(self.given.out).write_bytes(verdict.log)
         except OSError as error:
             raise Refused("%s: %s" % (error.filename, error.strerror)) from None
-        print("\n".join(self.summary(told, verdict)))
+        is_hang = told.leaf in ("waits", "repeats")
+        why = explained(self.given.image, self.given.memory, verdict.log, is_hang)
+        print("\n".join([*self.summary(told, verdict), *why]))
 
     def summary(self, told, verdict):
         log = told.log
@@ -126,4 +130,4 @@ class Job:
         if told.leaf == "repeats":
             yield "the state comes again: the loop of each that is live was walked, and leads back to it"
         if told.leaf == "goes-on":
-            yield "others could go on; %s" % ("this is of the log's end" if self.judge.is_cut else "that changes nothing of this")
+            yield "others could go on; " + ("it is so where the log ends" if self.judge.is_cut else "that changes nothing of this")

@@ -89,6 +89,13 @@ class Names:
         self.code_at = [s.addr for s in self.code]
         self.data_at = [s.addr for s in self.data]
 
+    def has(self, name):
+        return name in self.by_name
+
+    def value(self, name):
+        """The address of a symbol."""
+        return self.by_name[name].addr
+
     def function(self, pc):
         """The function of a pc, for example `work`, or None. Of `work.isra.0`, a compiler's name, it is `work` too."""
         j = bisect_right(self.code_at, pc) - 1
@@ -97,10 +104,18 @@ class Names:
         s = self.code[j]
         return s.name.partition(".")[0] if not s.size or pc < s.addr + s.size else None
 
-    def line(self, pc):
-        """The source line of a pc, for example `race.c:24`, or None."""
+    def lines(self):
+        """(pc, its source line, or None) of each pc at which a line begins."""
+        return zip(*self._lines_table())
+
+    def _lines_table(self):
         if self._table is None:
             self._table = self._read_lines()
+        return self._table
+
+    def line(self, pc):
+        """The source line of a pc, for example `race.c:24`, or None."""
+        self._lines_table()
         j = bisect_right(self._table[0], pc) - 1
         return self._table[1][j] if j >= 0 else None
 
@@ -127,6 +142,12 @@ class Names:
             away = addr - self.data[j].addr
             return self.data[j].name + ("+0x%X" % away if away else "")
         return "%08X" % addr
+
+    def words(self, text):
+        """The addresses of all words of a symbol, or of the one word that a WORD means."""
+        first = self.word(text)
+        size = self.by_name[text].size if text in self.by_name else 4
+        return range(first, min(first + max(4, size), self.size), 4)
 
     def word(self, text):
         """The address that a WORD means: a symbol or a hexadecimal number, then perhaps `+OFFSET`, decimal or 0x.."""

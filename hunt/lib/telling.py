@@ -43,8 +43,40 @@ def columns(rows):
     return ["  ".join(text.ljust(width) for text, width in zip(row, widths)).rstrip() for row in rows]
 
 
+def answer_line(line):
+    """A line of `watch`, `who` or `when` in words; any other line as it is."""
+    words = line.split(" ")
+    if words[0] == "w" and len(words) == 4:
+        who = "dma" if int(words[2]) == DMA else "thread %s" % words[2]
+        return "commit %s  %s  leaves %s" % (words[1], who, words[3])
+    if words[0] == "start":
+        return "as it was at first"
+    if words[0] == "diverged":
+        return "the log leaves the program at commit %s: this is of the commits before" % words[1]
+    return line
+
+
 def access_row(trace, commit, a, note=""):
     return ("commit %d" % commit.number, context_name(trace.context(commit)), verb(a.kind), values(a), place(trace, a.pc), note)
+
+
+def folded_rows(trace, pairs):
+    """A row for each (Commit, Access); equal loads in a row at one place are one row, with how many they are."""
+    rows, runs = [], []  # runs: of each row how many there are, and the first and the last commit
+    for commit, a in pairs:
+        row = access_row(trace, commit, a)
+        if rows and a.kind not in isa.STORES and row[1:] == rows[-1][1:]:
+            runs[-1] = runs[-1][0] + 1, runs[-1][1], commit.number
+        else:
+            rows.append(row)
+            runs.append((1, commit.number, commit.number))
+    return [(*row[:-1], times(*run)) for row, run in zip(rows, runs)]
+
+
+def times(count, first, last):
+    """For example `40 times, up to commit 416`; nothing for once."""
+    up_to = ", up to commit %d" % last if last != first else ""
+    return "%d times%s" % (count, up_to) if count > 1 else ""
 
 
 def what_served(commit):

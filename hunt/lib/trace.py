@@ -1,13 +1,15 @@
 """What a log's play did, checked against the account of the proved program: `open_trace(image, memory, log)`."""
 
-from bisect import bisect_right
+from bisect import bisect_left, bisect_right
 from collections import namedtuple
 from pathlib import Path
+import tempfile
 
 from . import isa
 from .account import Walk, compare
+from .frames import Frames
 from .image import NotAnImage, read_image
-from .logs import DMA, Malformed, read_log
+from .logs import DMA, ORDER_SIZE, Malformed, read_log, write_log
 from .machine import Machine, Thread
 from .play import play
 from .symbols import Names
@@ -23,7 +25,11 @@ def context_name(context):
 
 
 class Trace:
-    """commits: a list of Commit. accesses: all Accesses in order. pcs: the pc of each step. machine: as it is at the end."""
+    """commits: a list of Commit. accesses: all Accesses in order. pcs: the pc of each step. machine: as it is at the end.
+    longer: as `longer(commits)` it is the Trace of a longer log, walked and compared like this one, where commits are (thread,
+    size, Input or None); None if nothing was walked. atomic: addresses of words that count as atomic."""
+
+    longer, atomic = None, ()
 
     def __init__(self, image, log, played):
         self.image, self.log, self.end = image, log, played.end
@@ -34,6 +40,15 @@ class Trace:
         self._firsts = [c.first for c in self.commits]
         self._words = None
         self._of_thread = None
+        self._of_context = None
+        self._frames = None
+
+    @property
+    def frames(self):
+        """Who calls whom in the image."""
+        if self._frames is None:
+            self._frames = Frames(self.image)
+        return self._frames
 
     # ------------------------------------------------------------ steps and commits
 
@@ -50,6 +65,15 @@ class Trace:
 
     def accesses_of(self, commit):
         return self.accesses[commit.first_access : commit.last_access]
+
+    def commits_of(self, context, number):
+        """The commits of a context, from this number on."""
+        if self._of_context is None:
+            self._of_context = {}
+            for commit in self.commits:
+                self._of_context.setdefault(self.context(commit), []).append(commit)
+        mine = self._of_context.get(context, [])
+        return mine[bisect_left(mine, number, key=lambda commit: commit.number) :]
 
     # ------------------------------------------------------------ words
 
@@ -69,6 +93,22 @@ class Trace:
     def first_value(self, addr):
         """What a word was before the first commit."""
         return int.from_bytes(self.image.memory[addr & ~3 : (addr & ~3) + 4], "little")
+
+    def is_blind(self, access):
+        """Whether it stores without a look at what was there: so does an exchange that drops it, which is how compilers make an
+        atomic store."""
+        is_dropped = access.kind == isa.SWAP and not self.value_before(access.pc, access.step) >> 7 & 31
+        return is_dropped or access.kind in (isa.STORE, isa.COPY, isa.DMA)
+
+    def is_look(self, access):
+        """Whether it gives its thread, or the kernel for it, what is in the memory."""
+        return access.kind in isa.LOADS and not self.is_blind(access)
+
+    def value_before(self, addr, step):
+        """What a word was before a step."""
+        indices = self.words.get(addr & ~3, ())
+        j = bisect_left(indices, step, key=lambda index: self.accesses[index].step)
+        return self.accesses[indices[j - 1]].new if j else self.first_value(addr)
 
     # ------------------------------------------------------------ threads at a moment
 
@@ -116,6 +156,13 @@ class Moment:
         if not is_end and step > self.commit.first:  # only chunks have more than one step
             machine.run(self.commit.actor, step - self.commit.first)
             self.done += len(machine.accesses)
+        self.step = step
+
+    def advance(self, step):
+        """Goes on to a later step of the same commit, at the cost of the steps between."""
+        before = len(self.machine.accesses)
+        self.machine.run(self.commit.actor, step - self.step)
+        self.done += len(self.machine.accesses) - before
         self.step = step
 
     def _memory_to(self, count):
@@ -169,7 +216,22 @@ def open_trace(image, memory, log, account=None):
         raise NotRead(_in_words(error)) from error
     played = play(loaded, read)
     compare(played, walk.account() if walk else text)
-    return Trace(loaded, read, played)
+    trace = Trace(loaded, read, played)
+    if walk:
+        trace.longer = lambda commits: _longer(image, memory, trace, commits)
+    return trace
+
+
+def _longer(image, memory, trace, commits):
+    log = trace.log
+    order = [c.actor for c in trace.commits] + [k for k, _, _ in commits]
+    sizes = [c.size for c in trace.commits] + [size for _, size, _ in commits]
+    inputs = log.inputs + [answer for _, _, answer in commits if answer]
+    longer = log._replace(mode=ORDER_SIZE, count=len(order), order=order, sizes=sizes, inputs=inputs)
+    with tempfile.NamedTemporaryFile(prefix="longer-", suffix=".log") as file:
+        file.write(write_log(longer))
+        file.flush()
+        return open_trace(image, memory, file.name)
 
 
 def _in_words(error):

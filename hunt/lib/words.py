@@ -42,7 +42,7 @@ def shared_words(trace):
     return sorted(out)
 
 
-def _bits(access):
+def bits_of(access):
     """The bytes of the word that it accesses, as a mask of bits."""
     return ((1 << 8 * access.width) - 1) << 8 * (access.addr & 3)
 
@@ -59,7 +59,7 @@ def _passes(trace, word, loads):
         if is_store:
             seen.pop(lane, None)
             for other, entry in seen.items():
-                if other != lane and _bits(entry.load[1]) & _bits(access):
+                if other != lane and bits_of(entry.load[1]) & bits_of(access):
                     entry.others.append((commit, access))
         elif access.kind in loads:
             seen[lane] = _Seen(context, (commit, access))
@@ -70,7 +70,7 @@ def lost(trace):
     out = []
     for word in shared_words(trace):
         for seen, (commit, access) in _passes(trace, word, _OWN_LOADS):
-            bits = _bits(seen.load[1]) & _bits(access)
+            bits = bits_of(seen.load[1]) & bits_of(access)
             if access.kind == isa.STORE and bits:
                 is_same = not (access.old ^ seen.load[1].new) & bits
                 out.append(Lost(word, seen.load, seen.others, (commit, access), is_same))
@@ -84,7 +84,7 @@ def aba(trace):
         for seen, (commit, access) in _passes(trace, word, frozenset((isa.LOAD,))):
             if access.kind in _UPDATES and access.old == seen.load[1].new:
                 source = _source(trace, seen.load, (commit, access))
-                now = _value_before(trace, source[1].addr, access.step) if source else None
+                now = trace.value_before(source[1].addr, access.step) if source else None
                 out.append(Aba(word, seen.load, seen.others, (commit, access), source, now))
     return sorted(out, key=lambda found: found.store[1].step)
 
@@ -101,17 +101,6 @@ def _source(trace, load, store):
             if load[1].step < a.step < access.step and a.kind == isa.LOAD and a.width == 4 and a.value == access.new:
                 return mine, a
     return None
-
-
-def _value_before(trace, word, step):
-    """What a word was before a step."""
-    value = trace.first_value(word)
-    for j in trace.words.get(word & ~3, ()):
-        a = trace.accesses[j]
-        if a.step >= step:
-            break
-        value = a.new
-    return value
 
 
 def uses(trace, word):

@@ -1,4 +1,4 @@
-"""The guide's commands say what it shows. A line `..` means some lines, or none."""
+"""The commands of the guide and of races.md say what these show. A line `..` means some lines, or none."""
 
 import importlib.machinery
 import importlib.util
@@ -10,7 +10,7 @@ from lib.account import compare
 from lib.image import read_image
 from lib.logs import read_log
 from lib.play import play
-from lib.trace import Trace
+from lib.trace import Trace, open_trace
 
 try:
     import elftools  # noqa: F401
@@ -61,7 +61,7 @@ class Guide(unittest.TestCase):
     @classmethod
     def setUpClass(cls):
         cls.trace = command("trace")
-        cls.text = (support.TOP / "hunt/README.md").read_text()
+        cls.text = "\n".join((support.TOP / "hunt" / name).read_text() for name in ("README.md", "races.md"))
 
     def say(self, folder, words):
         image, memory, log, *rest = words
@@ -70,12 +70,20 @@ class Guide(unittest.TestCase):
         loaded, read = read_image(recording.image.read_bytes(), recording.memory), read_log(recording.log.read_bytes())
         played = play(loaded, read)
         compare(played, recording.account.read_bytes())
-        return list(self.trace.answer(Trace(loaded, read, played), rest))
+        if rest == ["waits"]:
+            return list(self.trace.answer(open_trace(recording.image, recording.memory, recording.log), rest))
+        traced = Trace(loaded, read, played)
+        if "--atomic" in rest:
+            *rest, _, named = rest
+            traced.atomic = self.trace.words_of(traced, named)
+        return list(self.trace.answer(traced, rest))
 
     def compare_all(self, changed):
         found = shown(self.text)
         self.assertGreater(len(found), 10)
         for folder, words, lines in found:
+            if words[-1] == "waits" and not (support.can_walk() and HAS_LINES):
+                continue  # it walks, and reads call frames
             with self.subTest(" ".join(words)):
                 said = "".join(changed(line) + "\n" for line in self.say(folder, words))
                 self.assertRegex(said, re.compile(r"\A" + pattern(map(changed, lines)).pattern + r"\Z"))

@@ -1,5 +1,5 @@
-"""A log whose walk ends badly is never denied by shrink, and what it writes ends as it must; a hang is told from a log that ends too
-early, and a limit from either. Logs are those of seeds, some that are cut, and some of small programs."""
+"""A log whose walk ends badly is never denied by shrink, and what it writes ends as it must. A hang is told from a log that ends too
+early, and a limit from either. The logs are those of seeds, some that are cut, and some of small programs."""
 
 import re
 import tempfile
@@ -10,10 +10,11 @@ from unittest import mock
 
 import support
 from lib import searching
+from lib.aims import Tries
 from lib.conditions import Ended, read_condition
 from lib.engine import EXACTLY, TO_LAST_TURN, Engine, Turn
 from lib.image import read_image
-from lib.judge import Judge
+from lib.judge import Differs, Judge
 from lib.logs import read_log, write_log
 from lib.logtext import packed
 from lib.recording import Recording
@@ -102,17 +103,25 @@ class OfRing(Shrunk):
 class Words(OfRing):
     """What is kept, and how it is chosen."""
 
+    OTHERWISE = "the log that was given ends otherwise; --same keeps its end"
+
     def test_another_end_has_fewer_forced_switches(self):
-        _, same, ended = self.ring("--bad", "exit 0 != 0", "--same")
+        """Two are enough for a wrong sum, and more are left for this one."""
+        _, said, ended = self.ring("--bad", "exit 0 != 0", "--same")
         self.assertEqual(ended.threads[0], ("ended", 19))
-        _, any_end, ended = self.ring("--bad", "exit 0 != 0")
-        forced = [int(re.search(r" (\d+) forced", said)[1]) for said in (same, any_end)]
-        if ended.threads[0] == ("ended", 19):
-            self.assertEqual(forced[0], forced[1])
-        else:
-            self.assertLess(forced[1], forced[0])
-            self.assertIn("the log that was given ends otherwise; --same keeps its end", any_end)
-        self.assertNotIn("ends otherwise", same)
+        self.assertNotIn(self.OTHERWISE, said)
+        self.assertIn(", 3 forced", said)
+        _, said, ended = self.ring("--bad", "exit 0 != 0")
+        self.assertNotEqual(ended.threads[0], ("ended", 19))
+        self.assertIn(self.OTHERWISE, said)
+        self.assertIn(", 2 forced", said)
+
+    def test_own_end_unless_another_has_fewer(self):
+        for forced, taken in (((2, 2), "own"), ((3, 2), "other"), ((2, 3), "own")):
+            tries = Tries(None, None, 60)
+            found = {"own": ("own", (forced[0], 9), None), "other": ("other", (forced[1], 1), None)}
+            with mock.patch.object(tries, "found", found.get):
+                self.assertEqual(tries.least(["own", "other"])[0], taken)
 
     def test_same_end_and_a_condition(self):
         status, said, ended = self.ring("--same", "--bad", "word count = 0 and exit 0 > 10")
@@ -138,7 +147,7 @@ class Words(OfRing):
         for words in ([], ["--same"]):
             status, said, ended = self.shrunk(image, memory, self.cut(place), "--bad", "word count = 1", *words)
             self.assertEqual((status, ended.word(self.word("count"))), (0, 1), said)
-            self.assertIn("others could go on; this is of the log's end", said)
+            self.assertIn("others could go on; it is so where the log ends", said)
 
     def test_no_end_to_stay_with(self):
         image, memory = sphere_of(self.RING.folder)
@@ -159,8 +168,9 @@ class Words(OfRing):
 
 
 class Limits(Shrunk):
-    """Thread 0 counts for ever, and ends at once if it is a log's only commit."""
+    """Logs of one commit, of thread 0, which counts for ever, waits, or ends later."""
 
+    WAITS = laid(lw(7, SHARED), beq(7, 0, -4))
     COUNTS = laid(addi(5, 5, 1), beq(0, 0, -4))
     COUNTS_IN_MEMORY = laid(addi(5, 5, 1), sw(5, SHARED), beq(0, 0, -8))
 
@@ -184,13 +194,52 @@ class Limits(Shrunk):
         status, said, ended = self.of_steps(self.COUNTS_IN_MEMORY, 100, "--bad", "word 400 = 33", "--steps", "10")
         self.assertEqual((status, ended.word(SHARED)), (0, 33), said)
 
+    def test_state_that_comes_again(self):
+        """Each thread changes its word and puts it back, until it sees that the other one has changed its own; then it lets that one
+        see the same. Alone neither ends; in turns they may."""
+        own, other = SHARED, SHARED + 4
+        code = laid(addi(10, 0, 256), addi(11, 0, 0), addi(12, 0, 0), *call(1), addi(7, 0, 1), sw(7, own), sw(0, own), lw(8, other),
+                    beq(8, 0, -12), sw(7, own), addi(10, 0, 0), *call(0))
+        code |= {256 + at: word for at, word in laid(addi(7, 0, 1), sw(7, other), sw(0, other), lw(8, own), beq(8, 0, -12),
+                                                     sw(7, other), addi(10, 0, 0), *call(0)).items()}
+        log = write_log(packed("log 1 order-size 4096 3\np 0 0 4\np 1 0 0\np 2 0 9\n"))
+        with written(code) as file:
+            status, said, _ = self.shrunk(file.name, 4096, log, "--bad", "hang")
+            self.assertEqual(status, 0, said)
+            self.assertIn("threads 0 and 1 hang: from the log's end the run comes to a state that comes again\n", said)
+            status, said, _ = self.shrunk(file.name, 4096, log, "--bad", "stuck")
+            self.assertEqual(status, 1, said)
+            self.assertIn("the log's run ends otherwise:\n", said)
+
+    def test_engine_in_doubt(self):
+        """If the walk doesn't bear out what comes after the log, what the log itself has is known all the same."""
+        def differs(judge, told):
+            raise Differs("planted")
+
+        with mock.patch.object(Judge, "judged", differs):
+            status, said, _ = self.of_steps(self.WAITS, 100, "--bad", "hang")
+            self.assertEqual(status, 1)
+            self.assertIn("whether thread 0 hangs isn't known: the walk says otherwise than the engine\n", said)
+            status, said, _ = self.of_steps(self.WAITS, 100, "--bad", "word 400 = 0")
+            self.assertEqual(status, 3, said)
+            self.assertIn("nothing is written: planted", said)
+
+    def test_no_commit(self):
+        """Of an empty log there is only what comes after it."""
+        code = laid(addi(10, 0, 7), *call(0))
+        with written(code) as file:
+            empty = write_log(packed("log 1 order-size 4096 0\n"))
+            status, said, ended = self.shrunk(file.name, 4096, empty, "--bad", "exit 0 = 7")
+            self.assertEqual((status, ended.threads), (0, [("ended", 7)]), said)
+            self.assertEqual(self.shrunk(file.name, 4096, empty)[0], 1)
+
     def test_ends_after_the_log(self):
         code = laid(addi(5, 0, 100), addi(5, 5, -1), *[word ^ 0x1000 for word in (beq(5, 0, -4),)], addi(10, 0, 7), *call(0))
         status, said, ended = self.of_steps(code, 50, "--bad", "exit 0 = 7")
         self.assertEqual((status, ended.threads), (0, [("ended", 7)]), said)
         status, said, _ = self.of_steps(code, 50, "--bad", "hang")
         self.assertEqual(status, 1)
-        self.assertIn("thread 0 doesn't hang, the log ends too early: from there the run goes on to its end\n"
+        self.assertIn("thread 0 doesn't hang: the log ends too early, and from there the run goes on to its end\n"
                       "the log's run ends otherwise:\nthread 0 ended with 7\n", said)
 
 
@@ -231,21 +280,30 @@ class Idle(Shrunk):
                 self.assertLessEqual(sum(turn.steps for turn in useful), 60 - idle)
 
     def test_reservation_is_of_one_chunk(self):
-        """Thread 0 reserves again and again, and stores as soon as thread 1 says so. Its last reservation isn't idle, although the
-        thread was in that state before, since that was in another chunk."""
+        """Thread 0 reserves, and does so again as soon as thread 1 has stored. That isn't idle, although it leads to a state in which
+        the thread was before, since that was in another chunk."""
         code = laid(addi(10, 0, 256), addi(11, 0, 0), addi(12, 0, 0), *call(1), addi(6, 0, SHARED), addi(13, 0, SHARED + 4),
-                    atomic(LR, 7, 6, 0), lw(8, SHARED + 8), beq(8, 0, 20), atomic(SC, 9, 6, 6), addi(10, 9, 0), *call(0),
-                    atomic(SC, 9, 13, 6), beq(0, 0, -32))
+                    addi(7, 0, 5), addi(9, 0, 1), atomic(LR, 7, 6, 0), lw(8, SHARED + 8), beq(8, 0, 20), atomic(SC, 9, 6, 6),
+                    addi(10, 9, 0), *call(0), atomic(SC, 9, 13, 6), beq(0, 0, -32))
         code |= {256 + at: word for at, word in laid(addi(7, 0, 1), sw(7, SHARED + 8), addi(10, 0, 0), *call(0)).items()}
-        sizes = (0, 4), (0, 0), (0, 12), (1, 4), (1, 0), (0, 6), (0, 0)
-        text = "log 1 order-size 4096 7\n" + "".join("p %d %d %d\n" % (j, *size) for j, size in enumerate(sizes))
+        self.ends_so(code, ((0, 4), (0, 0), (0, 9), (1, 4), (1, 0), (0, 6), (0, 0)), "", [("ended", 0)] * 2)
+
+    def test_handler_is_not_idle(self):
+        """An interrupt whose handler changes nothing leads back to where the thread was; but it has come."""
+        code = laid(addi(10, 0, 256), *call(6), addi(17, 0, 7), addi(5, 5, 1), addi(5, 5, 1), addi(5, 5, 1), addi(10, 5, 0), *call(0))
+        code |= {256 + at: word for at, word in laid(*call(7)).items()}
+        self.ends_so(code, ((0, 2), (0, 0), (0, 3), (0, 1), (0, 0), (0, 3), (0, 0)), "i 0 3 0000002A\n", [("ended", 3)])
+
+    def ends_so(self, code, sizes, interrupts, ends):
+        """A log of these commits ends so, also without its idle steps."""
+        text = "log 1 order-size 4096 %d\n" % len(sizes) + "".join("p %d %d %d\n" % (j, *size) for j, size in enumerate(sizes))
         with written(code) as file:
             job = self.job(file.name, 4096)
-            recording = Recording(job, write_log(packed(text)))
-            self.assertEqual(recording.at_log_end.threads, [("ended", 0)] * 2)
+            recording = Recording(job, write_log(packed(text + interrupts)))
+            self.assertEqual(recording.at_log_end.threads, ends)
             with job.engine(condition=[]) as engine:
                 useful = engine.without_idle_steps(recording.turns)
-                self.assertEqual(Ended(engine.told(useful, EXACTLY, TO_LAST_TURN)[1].account).threads, [("ended", 0)] * 2)
+                self.assertEqual(Ended(engine.told(useful, EXACTLY, TO_LAST_TURN)[1].account).threads, ends)
 
     @staticmethod
     def job(image, memory):

@@ -1,0 +1,77 @@
+"""The folder in which hunt/find puts what it finds: `Folder(path)`. It has found.json, by which it is known again: a folder that
+has files and isn't known is left as it is."""
+
+import json
+from pathlib import Path
+import shutil
+
+from .searching import Refused
+
+MARK = '{"written by": "delorean-find"'
+LOG, PICTURE, PLAN, RESULT = "found.log", "found.html", "replay.toml", "found.json"
+REPLAYED = ("replayed.account", "replayed.report")
+
+_PLAN = """\
+# Written by delorean-find: replays the order that it has found. In this folder: delorean run replay.toml
+cores = %d
+chunk = 32
+buffer = 16
+window = 1
+signature = 1024
+events = 0
+report = "replayed.report"
+[[sphere]]
+image = "%s"
+memory = %d
+role = "replay"
+log = "found.log"
+account = "replayed.account"
+"""
+
+
+def plan_text(image, memory, cores=4):
+    """A plan that replays the log, given the image's name in the folder."""
+    return _PLAN % (cores, image, memory)
+
+
+class Folder:
+    def __init__(self, path):
+        self.path = Path(path)
+
+    def check(self):
+        """Refused if the folder can't be used, or isn't one of hunt/find."""
+        if self.path.exists() and not self.path.is_dir():
+            raise Refused("%s is there, and isn't a folder" % self.path)
+        if not self.path.parent.is_dir():
+            raise Refused("%s: there is no such folder" % self.path.parent)
+        if self.path.is_dir() and any(self.path.iterdir()) and not self.is_known():
+            raise Refused("%s has files that delorean-find hasn't written: give another folder by --out" % self.path)
+
+    def is_known(self):
+        try:
+            return (self.path / RESULT).read_text(errors="replace").startswith(MARK)
+        except OSError:
+            return False
+
+    def clear(self):
+        """Takes away what an earlier find has left, and the folder if that was all."""
+        if not self.is_known():
+            return
+        names = json.loads((self.path / RESULT).read_text()).get("files", [])
+        for name in {*names, LOG, PICTURE, PLAN, *REPLAYED, RESULT}:
+            if Path(name).name == name:
+                (self.path / name).unlink(missing_ok=True)
+        if not any(self.path.iterdir()):
+            self.path.rmdir()
+
+    def write(self, image, files, result):
+        """Copies the image, writes the files (by name, text or bytes), and the result as found.json."""
+        try:
+            self.path.mkdir(exist_ok=True)
+            shutil.copyfile(image, self.path / Path(image).name)
+            for name, data in files.items():
+                (self.path / name).write_bytes(data if isinstance(data, bytes) else data.encode())
+            told = {"written by": "delorean-find", **result, "files": [Path(image).name, *files, RESULT]}
+            (self.path / RESULT).write_text(json.dumps(told, indent=None) + "\n")
+        except OSError as error:
+            raise Refused("%s: %s" % (error.filename, error.strerror)) from None

@@ -1,0 +1,89 @@
+"""Whether a thread waits: `loop_of(machine, k)` lets it go on alone until it is back in a state in which it was."""
+
+from collections import namedtuple
+
+from .logs import Input
+from .machine import NOTHING, READ, WRITE
+
+MOST_STEPS = 50_000
+
+# A thread that goes on alone comes back to its state. before, commits: lists of (size, Input or None), up to the loop and of the
+# loop once. accesses: those of the loop. calls: what it asked the kernel there, as Served. changed: the addresses of words that
+# have another value at the loop's beginning than now.
+Loop = namedtuple("Loop", "before commits accesses calls changed")
+
+
+class _Alone:
+    """A thread that goes on alone. Its instructions are cut into commits as a log would have them."""
+
+    def __init__(self, machine, k, standard):
+        self.machine, self.k, self.standard = machine, k, standard
+        self.commits, self.size, self.changed, self.calls = [], 0, {}, []
+
+    def cut(self):
+        if self.size:
+            self.commits.append((self.size, None))
+            self.machine.threads[self.k].reservation = None
+        self.size = 0
+
+    def step(self):
+        """One more instruction; False if the thread comes to something that it doesn't come back from, or asks for an answer."""
+        done = len(self.machine.accesses)
+        if not self.machine.run(self.k, 1):
+            self.cut()
+            return self.serial()
+        self.size += 1
+        self.note(done)
+        if self.size == self.standard:
+            self.cut()
+        return True
+
+    def note(self, done):
+        """Keeps the words that have another value than at first, with that value."""
+        for a in self.machine.accesses[done:]:
+            if a.old != a.new and self.changed.setdefault(a.addr & ~3, a.old) == a.new:
+                del self.changed[a.addr & ~3]
+
+    def serial(self):
+        need = self.machine.need(self.k)
+        if need and need.kind not in (READ, WRITE):
+            return False
+        answer = Input(need.kind, NOTHING, b"") if need else None
+        served = self.machine.serve(self.k, answer)
+        self.machine.end_commit(self.k)
+        self.commits.append((0, answer))
+        self.calls.append(served)
+        return served.name in ("yield", "self", "ended", "read", "write")
+
+    def state(self):
+        t, words = self.machine.threads[self.k], self.machine.words
+        return t.pc, tuple(t.x[1:32]), t.masked, tuple((word, words[word >> 2]) for word in sorted(self.changed))
+
+
+def loop_of(machine, k, standard):
+    """The Loop of a live thread, or None if it doesn't come back within 50,000 steps. The machine is left as it was."""
+    mark = machine.mark()
+    try:
+        return _loop(_Alone(machine, k, standard))
+    finally:
+        machine.back(mark)
+
+
+def _loop(alone):
+    seen, machine = {}, alone.machine
+    for _ in range(MOST_STEPS):
+        pc = machine.threads[alone.k].pc
+        if not alone.step():
+            return None
+        if machine.threads[alone.k].pc <= pc:
+            alone.cut()
+            state = alone.state()
+            if state in seen:
+                return _made(alone, *seen[state])
+            seen[state] = len(alone.commits), len(machine.accesses), len(alone.calls)
+    return None
+
+
+def _made(alone, commits, accesses, calls):
+    return Loop(alone.commits[:commits], alone.commits[commits:], alone.machine.accesses[accesses:], alone.calls[calls:],
+                sorted(alone.changed))

@@ -1,0 +1,136 @@
+"""A Finding as text and as JSON."""
+
+import shlex
+import sys
+
+from .chains import chain_text
+from .finding import FOUND
+from .found import LOG, PICTURE, PLAN
+from .searching import counted
+from .story import CAUSES
+
+
+def progress(is_quiet):
+    """What is called with each bound that is done: it says so on a terminal."""
+    def tell(bound):
+        print("%s: done, %s so far, %.1f s" % (forced_text(bound.bound), counted(bound.tries, "run"), bound.seconds),
+              file=sys.stderr, flush=True)
+    return tell if sys.stderr.isatty() and not is_quiet else lambda bound: None
+
+
+def forced_text(number):
+    return "without a forced switch" if number == 0 else "with %s" % counted(number, "forced switch")
+
+
+def thread_name(number, function):
+    return "thread %d%s" % (number, " (%s)" % function if function else "")
+
+
+HANGS = {"waits": ["no thread goes on, in whatever order"],
+         "repeats": ["the threads go round: the state comes again, and a long run from there came to no end"]}
+
+# ---------------------------------------------------------------- nothing found
+
+
+def bound_done(result):
+    return result.bounds[-1] if result.bounds else None
+
+
+def why_it_ended(result):
+    return "it was stopped" if result.how == "stopped" else "the limit of %s was met" % result.how
+
+
+def covered(result):
+    """What was covered without a failure, and never more."""
+    if result.limited:
+        yield "no failure in %s, but what comes after them isn't covered" % counted(result.tries, "run")
+        yield "%s came to the limit of steps (--steps)" % counted(result.limited, "run")
+    elif result.how == "all":
+        done = bound_done(result)
+        yield "no order fails, with however many switches: all states were met, %d in %s" % (done.states, counted(result.tries, "run"))
+    else:
+        yield from up_to_bound(result)
+
+
+def up_to_bound(result):
+    done = bound_done(result)
+    if done is None:
+        yield "nothing is covered: %s before all orders without a forced switch were tried" % why_it_ended(result)
+        return
+    bound = "without a forced switch" if done.bound == 0 else "with at most " + counted(done.bound, "forced switch")
+    yield "no order %s among %s fails, in %s" % (bound, counted(done.places, "place"), counted(done.tries, "run"))
+    if result.how != "bound":
+        yield "%s with %d forced: the rest isn't covered" % (why_it_ended(result), result.bound)
+
+
+# ---------------------------------------------------------------- found
+
+
+def ends(told):
+    """How the threads that failed ended."""
+    for number, function, state, code, where in told.threads:
+        at = ": " + chain_text(where) if where else ""
+        if state == "ended" and code:
+            yield "%s ended with %d%s" % (thread_name(number, function), code, at)
+        elif state == "fault":
+            yield "%s faulted, %s%s" % (thread_name(number, function), CAUSES.get(code, "cause %d" % code), at)
+
+
+def sections(finding, told):
+    """The parts of what is told, each with its heading."""
+    failures = list(ends(told)) + HANGS.get(finding.run.leaf, [])
+    yield "what failed", failures + ["console: " + line for line in told.console.splitlines()]
+    yield "who waits", told.waits
+    yield "why", told.why
+    yield "the order", told.story
+
+
+def found_text(program, finding, told):
+    run = finding.run
+    yield "%s fails with %s, found in %s, %.2f s" % (
+        program, counted(run.forced, "forced switch") if run.forced else "no forced switch",
+        counted(finding.search.tries, "run"), finding.seconds)
+    for heading, texts in sections(finding, told):
+        if texts:
+            yield ""
+            yield heading + ":"
+            yield from ("  " + text for text in texts)
+    yield ""
+    yield "written to %s: %s (%s, %s; walked), %s, %s" % (
+        told.folder, LOG, counted(run.commits, "commit"), counted(run.switches, "switch"), PICTURE, PLAN)
+    yield "to replay it: cd %s && delorean run %s" % (shlex.quote(str(told.folder)), PLAN)
+
+
+def as_text(program, ready, finding, told):
+    if finding.status == FOUND:
+        return list(found_text(program, finding, told))
+    lines = list(covered(finding.search))
+    return ["%s: %s, %.2f s" % (program, lines[0], finding.seconds), *lines[1:]]
+
+
+# ---------------------------------------------------------------- JSON
+
+
+def json_of_search(result):
+    done = bound_done(result)
+    return {"how": result.how, "runs": result.tries, "states": done.states if done else 0, "places": done.places if done else 0,
+            "all orders up to": done.bound if done else None, "left at the limit of steps": result.limited}
+
+
+def json_of_run(finding, told):
+    run = finding.run
+    return {"forced": run.forced, "switches": run.switches, "commits": run.commits, "hangs": run.leaf in ("waits", "repeats"),
+            "threads": [dict(zip(("thread", "function", "state", "code", "places"), state)) for state in told.threads],
+            "console": told.console, "waits": told.waits, "why": told.why, "order": told.story, "folder": str(told.folder),
+            "log": LOG, "picture": PICTURE, "plan": PLAN}
+
+
+def as_json(program, ready, finding, told):
+    """The object of --json, which found.json has too."""
+    out = {"program": str(program), "memory": ready.memory, "conditions": finding.condition, "status": finding.status,
+           "seconds": round(finding.seconds, 2), "search": json_of_search(finding.search)}
+    if finding.status == FOUND:
+        out["found"] = json_of_run(finding, told)
+    else:
+        out["covered"] = list(covered(finding.search))
+    return out

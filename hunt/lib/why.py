@@ -1,0 +1,184 @@
+"""Why a run failed: what a thread went on with although others had stored since. `stale_uses(trace)` finds such loads, and
+`switch_lines(trace)` tells them in words, with what `halfway` finds."""
+
+from collections import namedtuple
+import tempfile
+
+from . import isa
+from .account import Differs, NotWalked
+from .halfway import Early, Overwritten, early_looks, overwritten, taken_over
+from .hangs import hang_lines
+from .stacks import stack_lines
+from .telling import place, what_served
+from .trace import NotRead, context_name, open_trace
+from .whatif import Otherwise
+from .words import bits_of, shared_words
+
+# A context loads a word, and is left; others store to it; the context comes back, and does what it wouldn't have done if it had
+# found the present value. load: (Commit, Access). stores: the others', until it comes back. use: a whatif.Use.
+# is_announced: whether the one that stores had seen, maybe by way of others, something that the context stored after the load.
+Stale = namedtuple("Stale", "word load stores use is_announced")
+
+
+class _Look:
+    def __init__(self, load):
+        self.load, self.stores = load, []
+
+    def note(self, commit, access):
+        if bits_of(self.load[1]) & bits_of(access):
+            self.stores.append((commit, access))
+
+
+def _looks(trace, word):
+    """Each load of the word with what others store to it before its context uses the word again."""
+    looks, done = {}, []
+    for commit, a in trace.of_word(word):
+        context = trace.context(commit)
+        if a.kind in isa.STORES:
+            for other, look in looks.items():
+                if other != context:
+                    look.note(commit, a)
+        if a.kind in isa.STORES or a.kind in isa.LOADS:
+            done.append(looks.pop(context, None))
+            if a.kind in (isa.LOAD, isa.LR):
+                looks[context] = _Look((commit, a))
+    return [look for look in done + list(looks.values()) if look and look.stores]
+
+
+def _returns(trace, look):
+    """The stores up to each point at which the context comes back, and its first step then."""
+    context = trace.context(look.load[0])
+    for place, (commit, _) in enumerate(look.stores):
+        mine = trace.commits_of(context, commit.number + 1)[:1]
+        after = look.stores[place + 1 : place + 2]
+        if mine and not (after and after[0][0].number < mine[0].number):
+            yield look.stores[: place + 1], mine[0].first
+
+
+def _stale(trace, shared, look):
+    commit, load = look.load
+    for stores, back in _returns(trace, look):
+        last = stores[-1][1]
+        if (last.new ^ load.new) & bits_of(load):
+            use = Otherwise(trace, shared, look.load, last.new, back - 1).use()
+            if use and Otherwise(trace, shared, look.load, last.new, back - 1, is_late=True).use():
+                return Stale(load.addr & ~3, look.load, stores, use, _is_announced(trace, look.load, stores[0]))
+    return None
+
+
+def _is_announced(trace, load, store):
+    """Whether what the context stored after the load has come to the one that stores."""
+    informed, told = {trace.context(load[0])}, set()
+    for commit in trace.commits[load[0].number : store[0].number + 1]:
+        context = trace.context(commit)
+        for a in trace.accesses_of(commit):
+            if not load[1].step < a.step <= store[1].step:
+                continue
+            word = a.addr & ~3
+            if a.kind in isa.LOADS and word in told:
+                informed.add(context)
+            if a.kind in isa.STORES:
+                (told.add if context in informed else told.discard)(word)
+    return trace.context(store[0]) in informed
+
+
+def stale_uses(trace):
+    """All of them, in the order of their uses."""
+    shared = frozenset(shared_words(trace))
+    found = [_stale(trace, shared, look) for word in sorted(shared) for look in _looks(trace, word)]
+    return sorted(filter(None, found), key=lambda stale: (_moment(trace, stale.use), stale.load[1].step))
+
+
+def _moment(trace, use):
+    return use.access.step if use.access else use.commit.first if use.commit else trace.steps
+
+
+# ---------------------------------------------------------------- in words
+
+
+def explained(image, memory, log, is_hang=False):
+    """The lines for the bytes of a log, for a hang those of hangs.py too; none if its play differs from the walk's account."""
+    with tempfile.NamedTemporaryFile(prefix="explained-", suffix=".log") as file:
+        file.write(log)
+        file.flush()
+        try:
+            trace = open_trace(image, memory, file.name)
+            return [*stack_lines(trace), *switch_lines(trace), *(hang_lines(trace) if is_hang else [])]
+        except (Differs, NotRead, NotWalked):
+            return []
+
+
+def switch_lines(trace):
+    """Two lines for each switch at which a load became stale and was used, or at which others saw what was half done. If there are
+    none, those at which the load had been announced, or a thread found another value than its own. None at all: []."""
+    stale = stale_uses(trace)
+    known = {s.load[1].step for s in stale}
+    first = [s for s in stale if not s.is_announced] + [e for e in early_looks(trace) if e.load[1].step not in known]
+    told = sorted(first or stale + overwritten(trace), key=lambda found: found.load[1].step)
+    return [line for found in told[:MOST_TOLD] for line in _TELL[type(found)](trace, found)] + _more(told)
+
+
+def _more(told):
+    return ["%d more like these" % (len(told) - MOST_TOLD)] if len(told) > MOST_TOLD else []
+
+
+def _who(trace, pair):
+    return context_name(trace.context(pair[0]))
+
+
+def _at(trace, pair):
+    return ", ".join(filter(None, ("commit %d" % pair[0].number, place(trace, pair[1].pc))))
+
+
+def _value(access):
+    shift, bits = 8 * (access.addr & 3), (1 << 8 * access.width) - 1
+    return "%0*X" % (2 * access.width, access.new >> shift & bits)
+
+
+def _stale_lines(trace, stale):
+    load, last = stale.load, stale.stores[-1]
+    more = ", after %d more" % (len(stale.stores) - 1) if len(stale.stores) > 1 else ""
+    yield "%s is left with %s = %s (%s); %s stores %s (%s%s)," % (
+        _who(trace, load), trace.names.name(load[1].addr), _value(load[1]), _at(trace, load),
+        _who(trace, last), _value(last[1]), _at(trace, last), more)
+    how = "goes on with %s" % _value(load[1]) if stale.use.instead is None else "doesn't check again"
+    yield "    and %s %s: it %s" % (_who(trace, load), how, _use(trace, stale.use))
+    for own, other in taken_over(trace, load, _moment(trace, stale.use)):
+        yield "    meanwhile %s stores %s to %s (%s), where %s had stored %s" % (
+            _who(trace, other), _value(other[1]), trace.names.name(other[1].addr), _at(trace, other), _who(trace, own),
+            _value(own[1]))
+
+
+def _early_lines(trace, early):
+    first, load, second = early.first, early.load, early.second
+    yield "%s is left after it stores %s to %s (%s), before it stores %s to %s (%s)," % (
+        _who(trace, first), _value(first[1]), trace.names.name(first[1].addr), _at(trace, first), _value(second[1]),
+        trace.names.name(second[1].addr), _at(trace, second))
+    yield "    and %s loads %s from there too early (%s): it %s" % (
+        _who(trace, load), _value(load[1]), _at(trace, load), _use(trace, early.use))
+
+
+def _overwritten_lines(trace, found):
+    own, last, load = found.own, found.others[-1], found.load
+    yield "%s is left after it stores %s to %s (%s); %s stores %s (%s)," % (
+        _who(trace, own), _value(own[1]), trace.names.name(found.word), _at(trace, own), _who(trace, last), _value(last[1]),
+        _at(trace, last))
+    yield "    and %s finds that (%s), and goes another way than with %s: it %s" % (
+        _who(trace, load), _at(trace, load), _value(own[1]), _use(trace, found.use))
+
+
+def _use(trace, use):
+    if use.access:
+        return "stores %s to %s (%s)" % (_value(use.access), trace.names.name(use.access.addr),
+                                     _at(trace, (use.commit, use.access)))
+    if use.commit is None:
+        return "never looks again"
+    served = use.commit.served
+    what = "faults, cause %d" % served.result if served.name in ("fault", "break") else "calls " + what_served(use.commit)
+    pc, x = trace.pcs[use.commit.first], use.commit.before.x
+    caller = trace.frames.chain(pc, x, lambda addr: trace.value_before(addr, use.commit.first))[0]
+    return "%s (commit %d, %s)" % (what, use.commit.number, place(trace, caller))
+
+
+_TELL = {Stale: _stale_lines, Early: _early_lines, Overwritten: _overwritten_lines}
+MOST_TOLD = 8

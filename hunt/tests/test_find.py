@@ -1,0 +1,198 @@
+"""hunt/find finds what fails in an image of sdk/cc and tells it, says what it has covered otherwise, and leaves others' files alone.
+The images are those of programs in sdk/examples; `polls.elf` is stopflag.c, mended."""
+
+import contextlib
+import importlib.machinery
+import importlib.util
+import io
+import json
+import os
+import shutil
+import subprocess
+import tempfile
+import unittest
+from pathlib import Path
+from unittest import mock
+
+import support
+from lib.account import program
+
+CAN_BUILD = shutil.which(os.environ.get("CC", "cc")) is not None
+IMAGES, EXAMPLES = support.TOP / "hunt/tests/images", support.TOP / "sdk/examples"
+LEFT_OUT = "hunt/find, since there is no C compiler for its engine, or the proved program isn't built"
+NO_CROSS_COMPILER = "hunt/find of sources, since there is no compiler for RISC-V"
+
+
+def find(*words):
+    """What hunt/find ends with, what it says, and what it says on standard error."""
+    loader = importlib.machinery.SourceFileLoader("hunt_find", str(support.TOP / "hunt/find"))
+    module = importlib.util.module_from_spec(importlib.util.spec_from_loader(loader.name, loader))
+    loader.exec_module(module)
+    said, errors = io.StringIO(), io.StringIO()
+    with mock.patch("sys.argv", ["find", *map(str, words)]), contextlib.redirect_stdout(said), contextlib.redirect_stderr(errors):
+        return module.main(), said.getvalue(), errors.getvalue()
+
+
+class InScratch(unittest.TestCase):
+    def setUp(self):
+        scratch = tempfile.TemporaryDirectory()
+        self.addCleanup(scratch.cleanup)
+        self.out = Path(scratch.name) / "out"
+
+    def found(self, name, *words):
+        return find(IMAGES / name, "--out", self.out, *words)
+
+
+@unittest.skipUnless(CAN_BUILD and support.can_walk(), LEFT_OUT)
+class Found(InScratch):
+    def test_what_is_told(self):
+        status, said, _ = self.found("account.elf")
+        self.assertEqual(status, 1)
+        self.assertIn("account.elf fails with 1 forced switch, found in ", said)
+        self.assertIn("thread 0 (main) ended with 134: main, account.c:28\n", said)
+        self.assertIn("console: account.c:28: main: assertion failed: balance == 115\n", said)
+        order = said.partition("the order:")[2]
+        self.assertEqual(order.count("-- forced switch: it could have gone on"), 1)
+        self.assertRegex(order, r"loads +balance +\w+ +add, account.c:12\n +-- forced")
+
+    def test_files(self):
+        self.found("account.elf")
+        files = {path.name for path in self.out.iterdir()}
+        self.assertEqual(files, {"account.elf", "found.log", "found.html", "found.json", "replay.toml"})
+        self.assertEqual((self.out / "account.elf").read_bytes(), (IMAGES / "account.elf").read_bytes())
+
+    def test_replayed_on_one_core_and_on_eight(self):
+        self.found("account.elf")
+        memory = next(line.split()[2] for line in (self.out / "replay.toml").read_text().splitlines() if line.startswith("memory"))
+        walked = subprocess.run([*program(), "walk", "account.elf", memory, "found.log"], cwd=self.out, capture_output=True).stdout
+        plan = (self.out / "replay.toml").read_text()
+        for cores in (4, 1, 8):
+            (self.out / "replay.toml").write_text(plan.replace("cores = 4", "cores = %d" % cores))
+            subprocess.run([*program(), "run", "replay.toml"], cwd=self.out, check=True, stdout=subprocess.DEVNULL)
+            self.assertEqual((self.out / "replayed.account").read_bytes(), walked)
+
+    def test_locks_of_a_circle(self):
+        status, said, _ = self.found("deadlock.elf")
+        self.assertEqual(status, 1)
+        for line in ("no thread goes on, in whatever order", "thread 0 (main) waits for the end of thread 1, main, deadlock.c:37",
+                     "thread 1 (first) waits for mutex b, first, deadlock.c:11; holds a since first, deadlock.c:9",
+                     "thread 2 (second) waits for mutex a, second, deadlock.c:25; holds b since second, deadlock.c:24",
+                     "so thread 1 waits for thread 2, thread 2 waits for thread 1"):
+            self.assertIn("  %s\n" % line, said)
+
+    def test_freed_block(self):
+        _, said, _ = self.found("usedafterfree.elf")
+        self.assertIn("thread 2 loads the block of usedafterfree.c:13 (read_latest, usedafterfree.c:37), which thread 1 has freed "
+                      "(replace, usedafterfree.c:25)\n", said)
+        self.assertRegex(said, r"frees +block of usedafterfree.c:13 +replace, usedafterfree.c:25\n")
+
+    def test_json(self):
+        status, said, _ = self.found("deadlock.elf", "--json")
+        told = json.loads(said)
+        self.assertEqual((status, told["status"], told["found"]["forced"], told["found"]["hangs"]), (1, "found", 1, True))
+        self.assertEqual([t["function"] for t in told["found"]["threads"]], ["main", "first", "second"])
+        stored = json.loads((self.out / "found.json").read_text())
+        self.assertEqual({key: stored[key] for key in told}, told)
+
+
+@unittest.skipUnless(CAN_BUILD and support.can_walk(), LEFT_OUT)
+class NotFound(InScratch):
+    def test_all_orders(self):
+        for name in ("account-mended.elf", "polls.elf"):  # in the second, a thread that polls under a lock isn't a hang
+            status, said, _ = self.found(name)
+            self.assertEqual(status, 0, said)
+            self.assertIn("%s: no order fails, with however many switches: all states were met, " % name, said)
+            self.assertFalse(self.out.exists())
+
+    def test_bound(self):
+        status, said, _ = self.found("account.elf", "--switches", "0")
+        self.assertEqual(status, 0)
+        self.assertRegex(said, r"account.elf: no order without a forced switch among \d+ places fails, in \d+ runs?, ")
+
+    def test_limits(self):
+        status, said, _ = self.found("polls.elf", "--steps", "100")
+        self.assertEqual(status, 3)
+        self.assertIn("came to the limit of steps", said)
+        self.assertNotIn("no order", said)
+        status, said, _ = self.found("polls.elf", "--seconds", "0.01")
+        self.assertEqual(status, 3)
+        self.assertIn("the limit of seconds was met", said)
+
+    def test_further_condition(self):
+        status, said, _ = self.found("account-mended.elf", "--bad", "word balance = 115")
+        self.assertEqual(status, 1)
+        self.assertIn("no forced switch", said)
+
+    def test_json(self):
+        status, said, _ = self.found("account-mended.elf", "--json", "--switches", "1")
+        told = json.loads(said)
+        self.assertEqual((status, told["status"], told["search"]["all orders up to"]), (0, "clear", 1))
+        self.assertTrue(told["covered"][0].startswith("no order with at most 1 forced switch"))
+
+
+@unittest.skipUnless(CAN_BUILD and support.can_walk(), LEFT_OUT)
+class Folders(InScratch):
+    def test_found_again(self):
+        self.found("account.elf")
+        (self.out / "mine.txt").write_text("mine")
+        self.assertEqual(self.found("deadlock.elf")[0], 1)
+        self.assertFalse((self.out / "account.elf").exists())
+        self.assertEqual((self.out / "mine.txt").read_text(), "mine")
+        self.assertEqual(self.found("account-mended.elf")[0], 0)
+        self.assertEqual([path.name for path in self.out.iterdir()], ["mine.txt"])
+
+    def test_others_folder(self):
+        self.out.mkdir()
+        (self.out / "found.log").write_text("of somebody else")
+        status, said, errors = self.found("account.elf")
+        self.assertEqual((status, said), (2, ""))
+        self.assertIn("has files that delorean-find hasn't written", errors)
+        self.assertEqual((self.out / "found.log").read_text(), "of somebody else")
+
+    def test_no_folder(self):
+        self.out.write_text("a file")
+        self.assertEqual(self.found("account.elf")[0], 2)
+        self.assertEqual(find(IMAGES / "account.elf", "--out", self.out.parent / "no/where")[0], 2)
+        self.assertEqual(self.out.read_text(), "a file")
+
+
+class Words(unittest.TestCase):
+    def test_refused(self):
+        race = support.TOP / "examples/race/race.elf"
+        for words in ([], ["nothing.elf"], ["-O2"], [race, "-O2"], [race, race], [race, "--switches", "-1"], [race, "--bad", "exit 0"],
+                      [race, "--memory", "5000"], [support.TOP / "hunt/tests/support.py"]):
+            with self.subTest(words), tempfile.TemporaryDirectory() as scratch:
+                status, said, errors = find(*words, "--out", Path(scratch) / "out")
+                self.assertEqual((status, said), (2, ""), errors)
+                self.assertTrue(errors.startswith("find: "), errors)
+
+    @unittest.skipUnless(CAN_BUILD and support.can_walk(), LEFT_OUT)
+    def test_program_without_the_library(self):
+        with tempfile.TemporaryDirectory() as scratch:
+            status, said, _ = find(support.TOP / "examples/race/race.elf", "--out", Path(scratch) / "out")
+        self.assertEqual(status, 1)
+        self.assertIn("race.elf fails with 2 forced switches", said)
+        self.assertRegex(said, r"stores +counter +\w+ over \w+ +work, race.c:22\n")
+
+
+@unittest.skipUnless(support.tool("riscv64-unknown-elf-gcc") and CAN_BUILD and support.can_walk(), NO_CROSS_COMPILER)
+class Sources(InScratch):
+    def test_compiled_and_found(self):
+        status, said, errors = find(EXAMPLES / "account.c", "--out", self.out)
+        self.assertEqual(status, 1, errors)
+        self.assertIn("account.c fails with 1 forced switch", said)
+        self.assertTrue((self.out / "account.elf").is_file())
+
+    def test_words_for_the_compiler(self):
+        status, said, errors = find("-DMENDED", EXAMPLES / "account.c", "-O1", "--out", self.out)
+        self.assertEqual(status, 0, said + errors)
+
+    def test_not_compiled(self):
+        status, said, errors = find(EXAMPLES / "account.c", "-Dbalance=", "--out", self.out)
+        self.assertEqual((status, said), (2, ""))
+        self.assertIn("it wasn't compiled", errors)
+        self.assertIn("account.c", errors)
+
+
+if __name__ == "__main__":
+    unittest.main()

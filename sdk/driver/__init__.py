@@ -1,0 +1,1 @@
+"""What sdk/cc is made of."""

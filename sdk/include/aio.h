@@ -1,0 +1,1 @@
+#error "aio.h: there are no files"

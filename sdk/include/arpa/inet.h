@@ -1,0 +1,1 @@
+#error "arpa/inet.h: there is no network here"

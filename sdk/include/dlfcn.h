@@ -1,0 +1,1 @@
+#error "dlfcn.h: nothing is linked at run time"

@@ -1,0 +1,1 @@
+#error "netdb.h: there is no network here"

@@ -1,0 +1,1 @@
+#error "netinet/in.h: there is no network here"

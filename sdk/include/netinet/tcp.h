@@ -1,0 +1,1 @@
+#error "netinet/tcp.h: there is no network here"

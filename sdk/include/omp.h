@@ -1,0 +1,1 @@
+#error "omp.h: there is no OpenMP: take pthreads"

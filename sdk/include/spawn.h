@@ -1,0 +1,1 @@
+#error "spawn.h: there is one process: take threads"

@@ -1,0 +1,1 @@
+#error "sys/socket.h: there is no network here"

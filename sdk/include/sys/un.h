@@ -1,0 +1,1 @@
+#error "sys/un.h: there is no network here"

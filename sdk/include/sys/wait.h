@@ -1,0 +1,1 @@
+#error "sys/wait.h: there is one process: take threads"
