@@ -87,7 +87,6 @@ static enum outcome finished(struct run *r, uint32_t last, const struct conditio
 
 enum outcome guided(struct run *r, const struct guide *guide, const struct condition *bad) {
     uint32_t last = 0;
-    r->tries_locks = true; /* so that each thread that waits is in its loop */
     start_run(r);
     for (size_t j = 0; j < guide->count; j++) {
         const struct turn *turn = &guide->turns[j];

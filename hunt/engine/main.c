@@ -193,6 +193,8 @@ static void do_search(char *rest) {
     printf("tally %llu %llu %llu %llu %u %u %u\n", (unsigned long long)tally.tries, (unsigned long long)tally.ended,
            (unsigned long long)(tally.waited + tally.repeated), (unsigned long long)tally.limited,
            tally.most_places, tally.bound, tally.restarts);
+    run.minds_marks = false;
+    learn(false);
     if (finish == FOUND)
         tell_run();
     printf("end %s\n", finishes[finish]);

@@ -82,14 +82,13 @@ void end_turn(struct run *r, enum turn_end end) {
     r->current = NO_ONE;
 }
 
-/* Where interrupts may come, a handler may find a lock that its own thread holds, so there marks say nothing. */
 static bool is_acquire(const struct run *r, const struct thread *t) {
     const struct setup *s = r->machine.setup;
-    return s->acquires != NULL && r->raise_count == 0 && t->pc < s->size && s->acquires[t->pc / 4];
+    return r->minds_marks && s->acquires != NULL && t->pc < s->size && s->acquires[t->pc / 4];
 }
 
 static bool is_blocked(struct run *r, const struct thread *t) {
-    if (r->tries_locks || t->status != LIVE || !is_acquire(r, t))
+    if (t->status != LIVE || !is_acquire(r, t))
         return false;
     struct next next = next_of(&r->machine, t);
     return next.kind == MEMORY && word_at(&r->machine, next.address) != 0;
@@ -322,9 +321,9 @@ void try_locks(struct run *r) {
     for (uint32_t k = 0; k < r->machine.thread_count; k++) {
         if (!is_blocked(r, &r->machine.threads[k]))
             continue;
-        r->tries_locks = true;
+        r->minds_marks = false;
         go_to_loop(r, k);
-        r->tries_locks = false;
+        r->minds_marks = true;
     }
     /* a loop that stores was known with the memory as it was before */
     for (uint32_t k = 0; k < r->machine.thread_count; k++)

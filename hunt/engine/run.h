@@ -26,7 +26,7 @@ struct turn {
 struct run {
     struct machine machine;
     bool all_places;  /* each access to a shared word is a place */
-    bool tries_locks; /* threads go on at locks that are held */
+    bool minds_marks; /* a thread before a marked instruction whose lock is held waits */
     const struct condition *watched; /* words that must never be so are looked at after each store; or NULL */
     bool met;                        /* they were so, and the run is at its end */
     struct raise raises[MOST_RAISES];

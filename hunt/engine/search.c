@@ -197,11 +197,14 @@ static enum result at_leaf(void) {
     bool blocked = some_are_blocked(run);
     if (blocked) {
         keep_run(&kept, run);
+        learn(false); /* what comes now is for the log alone */
         try_locks(run);
     }
     enum result result = judge_leaf();
-    if (blocked && result != IS_BAD)
+    if (blocked && result != IS_BAD) {
         take_back_run(&kept, run);
+        learn(true);
+    }
     return result;
 }
 
@@ -428,13 +431,14 @@ enum finish search(struct run *r, const struct condition *bad_, const struct lim
     double started = now_seconds();
     enum finish limit;
     run = r;
-    run->tries_locks = false;
     bad = bad_;
     limits = limits_;
     tally = tally_;
     ends_at = started + limits->seconds;
+    learn(true);
     start_seen(limits->states);
     every_shared_word_is_a_place(run->all_places || run->raise_count > 0);
+    run->minds_marks = !run->all_places && run->raise_count == 0;
     send_scouts(run, limits->seconds / 10);
     uint32_t known = knowledge();
     for (start_over();;) {

@@ -13,7 +13,7 @@ static struct hash sum_of_all;
 static uint8_t *place;
 static uint32_t place_words;
 static uint64_t touches;
-static bool all_places = true, news, at_place;
+static bool all_places = true, news, at_place, learns = true;
 
 /* ---------------------------------------------------------------- places */
 
@@ -29,8 +29,12 @@ bool has_news(void) { return news; }
 
 void tell_news(void) { news = true; }
 
+void learn(bool so) { learns = so; }
+
+bool is_learning(void) { return learns; }
+
 void make_place(uint32_t address) {
-    if (all_places || place[address / 4])
+    if (!learns || all_places || place[address / 4])
         return;
     place[address / 4] = 1;
     place_words++;
@@ -96,7 +100,7 @@ static void add_touch(uint32_t thread, uint32_t word) {
 
 /* A DMA is done at once, so it has no segment; and where there are handlers, each shared word is a place's. */
 void touch(uint32_t context, uint32_t address, enum touch how) {
-    if (all_places || news || place[address / 4])
+    if (!learns || all_places || news || place[address / 4])
         return;
     const struct touched_by *t = &touched_by[address / 4];
     uint64_t mine = context < MOST_THREADS ? 1ull << context : 0;

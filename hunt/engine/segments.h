@@ -19,6 +19,9 @@ uint32_t place_word_count(void);
 uint32_t knowledge(void);
 bool has_news(void); /* of this run */
 void tell_news(void);
+/* Whether runs are to be learned from, as they are unless this says otherwise. */
+void learn(bool so);
+bool is_learning(void);
 
 void touch(uint32_t context, uint32_t address, enum touch how); /* a shared word */
 /* The thread's next step is at a place, and begins a segment, which doesn't have it; or the step is within its segment. */

@@ -27,7 +27,7 @@ uint32_t context_of(const struct machine *m, uint32_t thread) {
 }
 
 static void share(struct touchers *t) {
-    if (t->shared)
+    if (t->shared || !is_learning())
         return;
     t->shared = true;
     count++;

@@ -29,7 +29,7 @@ static uint32_t drawn_thread(const struct run *r, uint64_t *state) {
 static bool goes_to_end(struct run *r, const struct condition *bad) {
     uint64_t state = 0x9E3779B97F4A7C15u, until = r->machine.time + LONG;
     r->step_limit = UINT64_MAX;
-    r->tries_locks = true;
+    r->minds_marks = false;
     for (uint32_t turn = 0; turn < LONG && r->machine.time < until; turn++) {
         if (!some_is_stuck(bad, &r->machine))
             return true;

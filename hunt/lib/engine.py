@@ -39,7 +39,8 @@ Bound = namedtuple("Bound", "bound tries states places shared seconds")
 Search = namedtuple("Search", "how bounds tries ended hung limited places bound told ends")
 # memory: the bytes asked for. threads: (status, code) of each; status 0 is live, 1 ended, 2 faulted. forced: the fewest switches.
 End = namedtuple("End", "memory threads forced")
-# threads: the most that there may be, or None for as many as the version has.
+# threads: the most that there may be, or None for as many as the version has. all_places: threads may come before any access to a
+# shared word.
 Options = namedtuple("Options", "seed input tick turn steps raises version threads all_places",
                      defaults=(0, None, 64, 10000, 1000000, (), 1, None, False))
 

@@ -1,0 +1,150 @@
+"""Programs that come to two states which differ in one thing alone. If a state's key leaves it out, the search takes the second one
+for the first, and loses an end. And programs of which an end needs that one kind of instruction is a place."""
+
+import tempfile
+import unittest
+
+from all_ends import met_ends
+from lib.conditions import read_condition
+from lib.engine import Options
+from lib.symbols import Names
+from small_programs import CODE_OF_THREAD, LR, OWN, SC, SPAWN, add, addi, atomic, beq, call, lw, slli, sw
+from test_search import CAN_BUILD, NO_COMPILER, searched
+from test_search_states import A, ANSWER, B, BUFFER, DELAY, ENDS, HANDLER, IRET, REQUEST, SEEN, SPAWNS, laid, sets
+
+WRITE, READ, RANDOM, CLOCK, HAS_ENDED = 2, 3, 4, 5, 11
+PIPE, INPUT = 0, 9
+NOTHING_NOW, REFUSED = 0xFFFFFFFD, 0xFFFFFFFC
+CLEARED = [addi(register, 0, 0) for register in (5, 6, 7, 8, 9, 10, 11, 12, 17)]
+SAW = [sw(10, SEEN), *ENDS]
+
+
+def if_seen(words):
+    return [beq(7, 0, 4 * len(words) + 4), *words]
+
+
+def calls(number, *values):
+    return [*[addi(10 + place, 0, value) for place, value in enumerate(values)], *call(number)]
+
+
+@unittest.skipUnless(CAN_BUILD, NO_COMPILER)
+class Keys(unittest.TestCase):
+    def met(self, *threads, **options):
+        how, met, _ = met_ends(laid(*threads), Options(steps=100000, **options))
+        self.assertEqual(how, "all")
+        return set(met)
+
+    def seen(self, does, asks, **options):
+        """What thread 0 gets when it asks. Thread 1 does something if it sees A set, as it is for a moment; of that nothing is left
+        in memory and registers."""
+        ends = self.met([*SPAWNS, *sets(A, 1), *sets(A, 0), *CLEARED, *asks, *SAW],
+                        [lw(7, A), *does, *CLEARED, lw(9, B), *ENDS], [*ENDS], **options)
+        return {end[2] for end in ends}, {end[1:3] for end in ends}
+
+    def test_clock(self):
+        self.assertEqual(self.seen(if_seen(call(CLOCK)), call(CLOCK))[0], {64, 128})
+
+    def test_random_bytes(self):
+        does = [*calls(RANDOM, OWN + 4, 1), sw(0, OWN + 4)]
+        self.assertEqual(len(self.seen(if_seen(does), [*calls(RANDOM, OWN, 1), lw(10, OWN)])[0]), 2)
+
+    def test_input(self):
+        with tempfile.NamedTemporaryFile() as given:
+            given.write(b"ab")
+            given.flush()
+            does = [*calls(READ, INPUT, OWN + 4, 1), sw(0, OWN + 4)]
+            seen, _ = self.seen(if_seen(does), [*calls(READ, INPUT, OWN, 1), lw(10, OWN)], input=given.name)
+        self.assertEqual(seen, {ord("a"), ord("b")})
+
+    def test_pipe(self):
+        _, ends = self.seen([sw(7, OWN), *calls(WRITE, PIPE, OWN, 1), sw(0, OWN)], calls(READ, PIPE, B, 1))
+        self.assertEqual(ends, {(0, NOTHING_NOW), (0, 1), (1, 1)})
+
+    def test_request(self):
+        self.assertEqual(self.seen(if_seen(calls(REQUEST, BUFFER, 4)), calls(REQUEST, BUFFER + 64, 4))[0], {0, REFUSED})
+
+    def test_number_of_threads(self):
+        spawns = calls(SPAWN, 2 * CODE_OF_THREAD, 0, 0)
+        how, met, _ = met_ends(laid([*SPAWNS, *sets(A, 1), *sets(A, 0), *CLEARED, *spawns, *SAW],
+                                    [lw(7, A), *if_seen(spawns), *CLEARED, lw(9, B), *ENDS], [*ENDS]))
+        self.assertEqual((how, {end[2] for end in met}), ("all", {2, 3}))
+
+    def test_reservation(self):
+        ends = self.met([*SPAWNS, *sets(A, 1), *sets(A, 0), *ENDS],
+                        [lw(7, A), addi(6, 0, OWN), beq(7, 0, 8), atomic(LR, 9, 6, 0), addi(7, 0, 0), lw(9, B), atomic(SC, 8, 6, 0),
+                         sw(8, ANSWER), *ENDS])
+        self.assertEqual({end[3] for end in ends}, {0, 1})
+
+    def test_age_of_a_reservation(self):
+        """After a delay of 2,000 steps another one of 2,100 is too long for a chunk; and a chunk may end in any order."""
+        delay = [addi(9, 0, 1050), addi(9, 9, -1), *DELAY[2:]]
+        met = met_ends(laid([*SPAWNS, *sets(A, 1), *sets(A, 0), *ENDS],
+                            [addi(6, 0, OWN), atomic(LR, 9, 6, 0), lw(7, A), *if_seen(DELAY), addi(7, 0, 0), addi(9, 0, 0), lw(5, B),
+                             *delay, atomic(SC, 8, 6, 0), sw(8, ANSWER), *ENDS]))
+        self.assertEqual(met[1], {(0, 0, 0, 0): 0, (0, 0, 0, 1): 1})
+
+    def test_exit_code(self):
+        image = laid([*SPAWNS, *sets(A, 1), *sets(A, 0), lw(9, B), *ENDS], [lw(10, A), *call(0)])
+        for code in 0, 1:
+            self.assertEqual(searched(image, read_condition(["word %X = 0 and exit 1 = %d" % (A, code)], Names(image))).how, "found")
+
+
+@unittest.skipUnless(CAN_BUILD, NO_COMPILER)
+class Interrupts(unittest.TestCase):
+    def met(self, main, handler, *values, other=()):
+        how, met, _ = met_ends(laid([addi(10, 0, CODE_OF_THREAD), *call(HANDLER), *main, *ENDS], [*handler, *call(IRET)], other),
+                               Options(steps=100000, raises=tuple((0, value) for value in values)))
+        self.assertEqual(how, "all")
+        return {end[2] for end in met}
+
+    def test_saved_pc(self):
+        """The handler's 1 is lost, if it comes before thread 0 sets the register to 0."""
+        self.assertEqual(self.met([addi(5, 0, 0), sw(5, SEEN)], [addi(5, 0, 1)], 1), {0, 1})
+
+    def test_which_have_come(self):
+        """The first one changes nothing, and the second one comes only after it."""
+        self.assertEqual(self.met([], [addi(10, 10, -1), beq(10, 0, 12), addi(9, 0, 7), sw(9, SEEN)], 1, 2), {0, 7})
+
+    def test_masked(self):
+        """Whoever leaves a handler without IRET gets no interrupt any more."""
+        self.assertEqual(self.met([addi(0, 0, 0)], [lw(9, SEEN), addi(9, 9, 1), sw(9, SEEN), *ENDS], 1, 2), {0, 1})
+
+
+@unittest.skipUnless(CAN_BUILD, NO_COMPILER)
+class Places(unittest.TestCase):
+    def ends(self, *threads):
+        how, met, _ = met_ends(laid(*threads))
+        self.assertEqual(how, "all")
+        return set(met)
+
+    def test_spawn(self):
+        """Who spawns first gets the lesser number."""
+        spawns = calls(SPAWN, 2 * CODE_OF_THREAD, 0, 0)
+        ends = self.ends([*SPAWNS, *spawns, *SAW], [*spawns, sw(10, ANSWER), *ENDS], [*ENDS])
+        self.assertEqual({end[2:4] for end in ends}, {(2, 3), (3, 2)})
+
+    def test_exit_and_fault(self):
+        """2: a thread was left between its store and its end."""
+        for end in (ENDS, [0]):
+            asks = [lw(9, A), addi(10, 0, 1), *call(HAS_ENDED), slli(9, 9, 1), add(10, 10, 9), *SAW]
+            how, met, _ = met_ends(laid([*SPAWNS, *asks], [*sets(A, 1), *end]))
+            self.assertEqual((how, {seen for _, _, seen, _ in met}), ("all", {0, 1, 2, 3}))
+
+    def test_calls(self):
+        """Each is done by two threads, and who does it first gets another answer."""
+        for asks in call(CLOCK), calls(REQUEST, BUFFER, 4), [*calls(RANDOM, OWN, 1), lw(10, OWN)]:
+            ends = self.ends([*SPAWNS, *asks, *SAW], [*asks, sw(10, ANSWER), *ENDS])
+            self.assertGreater(len({end[2:4] for end in ends}), 1)
+
+    def test_pipe(self):
+        ends = self.ends([*SPAWNS, *calls(READ, PIPE, B, 1), *SAW], [*calls(WRITE, PIPE, OWN, 1), *ENDS])
+        self.assertEqual({end[2] for end in ends}, {1, NOTHING_NOW})
+
+    def test_dma(self):
+        """The DMA clears the word before the thread loads it, or after that."""
+        ends = self.ends([addi(9, 0, 5), sw(9, SEEN + 64), *calls(REQUEST, SEEN + 64, 0), lw(10, SEEN + 64), *SAW])
+        self.assertEqual({end[2] for end in ends}, {0, 5})
+
+
+if __name__ == "__main__":
+    unittest.main()
