@@ -92,7 +92,8 @@ class Driver(Case):
     def test_words_that_will_not_do(self):
         hello = self.written(HELLO)
         for words, sentence in [([hello, "-fsanitize=thread"], "sanitizers need an operating system"), ([self.at / "a.cpp"], "only C is compiled"),
-                                ([hello, "--threads", "64"], "--threads is a number from 1 to 63"), ([hello, "-o"], "-o has no value"),
+                                ([hello, "--threads", "64"], "--threads is a number from 1 to 63"), ([hello, "-o"], "-o has no value"), ([hello, "--event-time", "7"], "a power of ten"),
+                                
                                 (["-O2"], "no source is given")]:
             got = call(CC, *words)
             self.assertEqual(got.returncode, 2, got.stdout)
