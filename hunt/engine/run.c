@@ -268,9 +268,9 @@ enum stop go_on(struct run *r, bool past) {
     for (;; past = false) {
         const struct thread *t = &r->machine.threads[r->current];
         struct next next = next_of(&r->machine, t);
-        bool at_place = is_place(r, t, next);
         if (r->met)
             return AT_STOP;
+        bool at_place = is_place(r, t, next);
         if (is_blocked_at(r, t, next))
             return AT_WAIT;
         if (!past && at_place)
@@ -285,10 +285,10 @@ enum stop go_on(struct run *r, bool past) {
 
 enum stop go_steps(struct run *r, uint64_t steps) {
     for (uint64_t j = 0; j < steps; j++) {
-        const struct thread *t = &r->machine.threads[r->current];
-        struct next next = next_of(&r->machine, t);
         if (r->met)
             return AT_STOP;
+        const struct thread *t = &r->machine.threads[r->current];
+        struct next next = next_of(&r->machine, t);
         if (is_blocked_at(r, t, next))
             return AT_WAIT;
         enum stop stop = step_on(r, next, is_place(r, t, next));
