@@ -84,9 +84,10 @@ class Driver(Case):
             with tempfile.TemporaryDirectory() as folder:
                 (Path(folder) / "a.c").write_text(case[0] + "\n")
                 return compiled(folder, Path(folder) / "a.c")
-        for (_, sentence), got in self.each(self.REFUSED, said):
+        def check(case, got):
             self.assertEqual(got.status, 1, got.text)
-            self.assertIn(sentence, got.text)
+            self.assertIn(case[1], got.text)
+        self.each(self.REFUSED, said, check)
 
     def test_words_that_will_not_do(self):
         hello = self.written(HELLO)

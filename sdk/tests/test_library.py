@@ -80,10 +80,12 @@ int main(void) { """
             source.write_text(self.BEGIN + case[0] + " return 0; }\n")
             return ran(source, "-w", "-O0")
 
+    def check(self, case, got):
+        self.assertEqual(got.code, case[1], got)
+        self.assertTrue(got.console.startswith(case[2]), got)
+
     def test_each(self):
-        for (_, code, text), got in self.each(self.CASES, self.failed):
-            self.assertEqual(got.code, code, got)
-            self.assertTrue(got.console.startswith(text), got)
+        self.each(self.CASES, self.failed, self.check)
 
 
 if __name__ == "__main__":
