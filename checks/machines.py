@@ -12,6 +12,7 @@ from dataclasses import dataclass, field
 
 TOP = pathlib.Path(__file__).resolve().parent.parent
 EXAMPLES = TOP / "examples"
+PROGRAM = TOP / "out" / "delorean"
 OLD = b"as it was before\n"  # what written names hold before a run
 
 
@@ -400,13 +401,15 @@ def options(text):
     """The parser of a check's words, whose help is its docstring."""
     parser = argparse.ArgumentParser(description=text, formatter_class=argparse.RawDescriptionHelpFormatter)
     parser.add_argument(
-        "--program", type=lambda path: str(pathlib.Path(path).resolve()), default=str(TOP / "bin" / "delorean"),
-        help="another program than bin/delorean",
+        "--program", type=lambda path: str(pathlib.Path(path).resolve()), default=str(PROGRAM),
+        help="another program than out/delorean",
     )
     return parser
 
 
 def ready(program):
-    """The first call may build the program, which says so on the standard error."""
+    """The script that finds the program may build it, which it says on the standard error."""
+    if program == str(PROGRAM):
+        subprocess.run([TOP / "bin" / "delorean", "--path"], stdout=subprocess.DEVNULL)
     if subprocess.run([program], stdout=subprocess.DEVNULL).returncode != 2:
         raise SystemExit(f"no words aren't answered by status 2: {program}")

@@ -44,7 +44,7 @@ static void commit(uint32_t actor, uint64_t size) {
 
 /* ---------------------------------------------------------------- chunks */
 
-/* The chunk's next commit ends here at the latest: after the longest chunk's size, and not between an LR and an SC that succeeds. */
+/* The chunk's next commit ends here at the latest: it isn't too long, and doesn't end between an LR and an SC that succeeds. */
 static uint64_t next_end(uint64_t from) {
     uint32_t longest = run->machine.setup->longest_chunk;
     if (chunk.steps - from <= longest)

@@ -87,18 +87,19 @@ static bool is_acquire(const struct run *r, const struct thread *t) {
     return r->minds_marks && s->acquires != NULL && t->pc < s->size && s->acquires[t->pc / 4];
 }
 
+static bool is_blocked_at(const struct run *r, const struct thread *t, struct next next) {
+    return is_acquire(r, t) && next.kind == MEMORY && word_at(&r->machine, next.address) != 0;
+}
+
 static bool is_blocked(struct run *r, const struct thread *t) {
-    if (t->status != LIVE || !is_acquire(r, t))
-        return false;
-    struct next next = next_of(&r->machine, t);
-    return next.kind == MEMORY && word_at(&r->machine, next.address) != 0;
+    return t->status == LIVE && is_acquire(r, t) && is_blocked_at(r, t, next_of(&r->machine, t));
 }
 
 static bool is_place(const struct run *r, const struct thread *t, struct next next) {
     switch (next.kind) {
     case LOCAL:
         return is_place_word(t->pc);
-    case MEMORY: /* whoever is left after an LR loses the reservation, so an LR, and an SC that has it, can't be moved over a switch */
+    case MEMORY: /* whoever is left loses the reservation, so neither an LR nor an SC that has it can be moved over a switch */
         return is_place_word(next.address) || is_place_word(t->pc) || is_acquire(r, t) || is_load_reserved(&r->machine, t)
                || (is_store_conditional(&r->machine, t) && has_reserved(&r->machine, t, next.address));
     case CALL: { /* an interrupt may come before any, and leaves another number in a7 */
@@ -119,11 +120,11 @@ static void look_at_moment(struct run *r, uint64_t stores) {
         r->met = r->met || holds_now(r->watched, &r->machine);
 }
 
-static void take_step(struct run *r, struct next next) {
+static void do_step(struct run *r, struct next next, bool at_place) {
     struct served served;
     uint64_t stores = r->machine.stores;
     present(r)->steps++;
-    if (is_place(r, &r->machine.threads[r->current], next))
+    if (at_place)
         begin_segment(r->current);
     else
         go_on_in_segment();
@@ -134,6 +135,10 @@ static void take_step(struct run *r, struct next next) {
     else
         serve(&r->machine, r->current, next, &served);
     look_at_moment(r, stores);
+}
+
+static void take_step(struct run *r, struct next next) {
+    do_step(r, next, is_place(r, &r->machine.threads[r->current], next));
 }
 
 static bool same_thread(const struct thread *t, const struct thread *u) { return memcmp(t, u, sizeof *t) == 0; }
@@ -172,7 +177,7 @@ static void look_around(struct run *r, uint64_t length, struct looks *looks) {
     }
 }
 
-/* It goes on to that state of the loop in which it waits, before the place of the least pc. The answer is how many places there are. */
+/* It goes on to that state of the loop in which it waits, before the place of the least pc. The answer is how many places it has. */
 static uint32_t settle(struct run *r, uint64_t length) {
     struct machine *m = &r->machine;
     struct thread *t = &m->threads[r->current];
@@ -238,9 +243,9 @@ static bool is_spent(const struct run *r) {
 }
 
 /* One step, then how it stands. AT_PLACE means that nothing has ended. */
-static enum stop step_on(struct run *r, struct next next) {
+static enum stop step_on(struct run *r, struct next next, bool at_place) {
     struct machine *m = &r->machine;
-    take_step(r, next);
+    do_step(r, next, at_place);
     if (m->threads[r->current].status != LIVE || r->met)
         return AT_STOP;
     if (comes_again(r)) {
@@ -265,13 +270,14 @@ enum stop go_on(struct run *r, bool past) {
         struct next next = next_of(&r->machine, t);
         if (r->met)
             return AT_STOP;
-        if (is_blocked(r, t))
+        bool at_place = is_place(r, t, next);
+        if (is_blocked_at(r, t, next))
             return AT_WAIT;
-        if (!past && is_place(r, t, next))
+        if (!past && at_place)
             return AT_PLACE;
         if (!past && is_interruptible(r))
             return AT_INTERRUPTIBLE;
-        enum stop stop = step_on(r, next);
+        enum stop stop = step_on(r, next, at_place);
         if (stop != AT_PLACE)
             return stop;
     }
@@ -281,9 +287,11 @@ enum stop go_steps(struct run *r, uint64_t steps) {
     for (uint64_t j = 0; j < steps; j++) {
         if (r->met)
             return AT_STOP;
-        if (is_blocked(r, &r->machine.threads[r->current]))
+        const struct thread *t = &r->machine.threads[r->current];
+        struct next next = next_of(&r->machine, t);
+        if (is_blocked_at(r, t, next))
             return AT_WAIT;
-        enum stop stop = step_on(r, next_of(&r->machine, &r->machine.threads[r->current]));
+        enum stop stop = step_on(r, next, is_place(r, t, next));
         if (stop != AT_PLACE && stop != AT_SPENT)
             return stop;
     }

@@ -101,8 +101,8 @@ static void take_choice(struct trial *t, uint32_t choice, enum turn_end end) {
 /* Whether the current thread has touched nothing that others touch since it came. */
 static bool is_fresh(const struct trial *t) { return t->fresh && t->touches_then == touch_count(); }
 
-/* A thread that waits is nothing to go on with. But others may see what it stores in its loop; and in a loop of several places it may
-   be left when it has looked at one word, and not yet at another. */
+/* A thread that waits is nothing to go on with. But others may see what it stores in its loop; and in a loop of several places it
+   may be left when it has looked at one word, and not yet at another. */
 static bool is_choice(uint32_t choice) {
     const struct machine *m = &run->machine;
     if (choice < m->thread_count)

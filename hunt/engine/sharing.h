@@ -1,5 +1,5 @@
-/* Which words are shared: those that two of the threads, handlers and DMAs have touched, in whatever runs, one of them with a store;
-   and words of code that were stored to. A word that was found so stays so. */
+/* Which words are shared: those that two of the threads, handlers and DMAs have touched, in whatever runs, one of them with a
+   store; and words of code that were stored to. A word that was found so stays so. */
 #ifndef SHARING_H
 #define SHARING_H
 

@@ -109,8 +109,10 @@ class NotWalked(Exception):
 
 
 def program():
-    """The words that run the proved program: those of the environment variable DELOREAN, else bin/delorean beside hunt/."""
-    return shlex.split(os.environ["DELOREAN"]) if os.environ.get("DELOREAN") else [str(TOP / "bin" / "delorean")]
+    """The words that run the proved program: those of the environment variable DELOREAN, else bin/delorean beside hunt/. That also
+    knows the word `release`."""
+    named = os.environ.get("DELOREAN", "")
+    return shlex.split(named) if named not in ("", "release") else [str(TOP / "bin" / "delorean")]
 
 
 class Walk:

@@ -17,16 +17,24 @@ from .shrinking import Shrinker, measure
 Aim = namedtuple("Aim", "condition until")
 
 
-def without_hangs(condition):
-    return [case for case in condition if not any(atom.kind in HANGS for atom in case)]
+def without(condition, *kinds):
+    """The cases that have no atom of these kinds."""
+    return [case for case in condition if not any(atom.kind in kinds for atom in case)]
+
+
+def decided(recording, condition):
+    """Without the cases that want a thread stuck, if the state comes again but the engine found an order that goes on."""
+    if recording.leaf == "repeats" and not recording.ends_badly(condition):
+        return without(condition, "stuck")
+    return condition
 
 
 def met(recording, condition):
     """The Aim in the way in which the recording meets the condition, or None if it doesn't: at its run's end; or else where the
     log ends, although threads could go on, where nothing is a hang; or else at a moment before."""
-    if recording.at_end.meets(condition, recording.is_at_end()):
+    if recording.at_end.meets(decided(recording, condition), recording.is_at_end()):
         return Aim(condition, TO_ITS_END)
-    here, moments = without_hangs(condition), [case for case in condition if is_of_moment(case)]
+    here, moments = without(condition, *HANGS), [case for case in condition if is_of_moment(case)]
     if recording.at_log_end.meets(here, True):
         return Aim(here, TO_LAST_TURN)
     return Aim(moments, TO_LAST_TURN) if moments and recording.passes(moments) else None
@@ -76,7 +84,7 @@ class Tries:
             least = shrinker.shrunk(self.recording.turns)
             if least is None:
                 raise Differs("the engine loses the log's end")
-            return aim, measure(least), shrinker.told()
+            return aim, measure(least), shrinker.told(least)
 
     def least(self, aims):
         """Of the first aim, or of a later one if that has fewer forced switches."""

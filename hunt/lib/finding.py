@@ -106,7 +106,8 @@ def least(job, told, seconds):
     """The run with as few turns as could be found, as told."""
     with job.engine() as engine:
         shrinker = Shrinker(engine, TO_ITS_END, time.monotonic() + seconds)
-        return shrinker.told() if shrinker.shrunk(told.turns) else told
+        taken = shrinker.shrunk(told.turns)
+        return shrinker.told(taken) if taken else told
 
 
 def judged(job, told, seconds):

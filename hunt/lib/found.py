@@ -2,6 +2,7 @@
 has files and isn't known is left as it is."""
 
 import json
+import os
 from pathlib import Path
 import shutil
 
@@ -44,6 +45,8 @@ class Folder:
             raise Refused("%s is there, and isn't a folder" % self.path)
         if not self.path.parent.is_dir():
             raise Refused("%s: there is no such folder" % self.path.parent)
+        if not os.access(self.path if self.path.exists() else self.path.parent, os.W_OK | os.X_OK):
+            raise Refused("%s: nothing can be written there" % self.path)
         if self.path.is_dir() and any(self.path.iterdir()) and not self.is_known():
             raise Refused("%s has files that delorean-find hasn't written: give another folder by --out" % self.path)
 

@@ -2,15 +2,17 @@
 to be written can be.
 
 Ctrl-C ends a command with status 130 and a line on standard error. If whoever reads its output closes it (`| head -1`), the
-command ends without a word, with status 141, as programs do that the signal ends.
+command ends without a word, with status 141, as programs do that the signal ends. What the system refuses, for example a full
+disk, ends it with 2 and a line; and a fault of the command itself with 70, and where it was.
 """
 
 import os
 from pathlib import Path
 import signal
 import sys
+import traceback
 
-STOPPED, NOT_READ = 130, 141
+STOPPED, NOT_READ, REFUSED, FAULT = 130, 141, 2, 70
 
 
 class NoOutput(Exception):
@@ -29,9 +31,23 @@ def run(name, main):
         print("%s: stopped" % name, file=sys.stderr)
         status = STOPPED
     except BrokenPipeError:
-        os.dup2(os.open(os.devnull, os.O_WRONLY), sys.stdout.fileno())
+        drop_output()
         status = NOT_READ
+    except OSError as error:
+        drop_output()
+        where = "%s: " % error.filename if error.filename else ""
+        print("%s: %s%s" % (name, where, error.strerror or error), file=sys.stderr)
+        status = REFUSED
+    except Exception:
+        drop_output()
+        traceback.print_exc()
+        status = FAULT
     sys.exit(status)
+
+
+def drop_output():
+    """What wasn't written yet never is."""
+    os.dup2(os.open(os.devnull, os.O_WRONLY), sys.stdout.fileno())
 
 
 def try_output(name):

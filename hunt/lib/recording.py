@@ -7,26 +7,11 @@ on any more, or the limit of steps is met before.
 
 from .account import NotWalked
 from .conditions import ANY, COMPARISONS, Atom, Ended
-from .engine import DMA, EXACTLY, RAISE, TO_LAST_TURN, Turn
+from .engine import EXACTLY, TO_LAST_TURN
 from .judge import Differs, Judge
-from .logs import DMA as DMA_COMMIT
 from .logs import Malformed, read_log
 from .searching import Refused
-
-
-def turns_of(log, commits):
-    """A turn for each commit of a log, given as (actor, size) by its walk's account, and for each interrupt."""
-    done, turns = {}, []
-    for actor, size in commits:
-        if actor == DMA_COMMIT:
-            turns.append(Turn(DMA, 0, 0, "stopped"))
-            continue
-        turns.append(Turn(actor, size or 1, 0, "forced"))
-        done[actor] = done.get(actor, 0) + 1
-        value = log.interrupts.get((actor, done[actor]))
-        if value is not None:
-            turns.append(Turn(RAISE, actor, value, "stopped"))
-    return turns
+from .shrinking import turns_of
 
 
 def commits_of(account):
@@ -75,6 +60,11 @@ class Recording:
         """Whether the log comes to a moment that the condition is of."""
         with self.job.engine(self.answers, self.dmas, condition) as engine:
             return engine.guided(self.turns, EXACTLY, TO_LAST_TURN)[0] == "bad"
+
+    def ends_badly(self, condition):
+        """Whether the engine finds that the run, gone on with, meets the condition."""
+        with self.job.engine(self.answers, self.dmas, condition) as engine:
+            return engine.guided(self.turns, EXACTLY)[0] == "bad"
 
     # ------------------------------------------------------------ its end
 

@@ -130,4 +130,4 @@ class Job:
         if told.leaf == "repeats":
             yield "the state comes again: the loop of each that is live was walked, and leads back to it"
         if told.leaf == "goes-on":
-            yield "others could go on; %s" % ("it is so where the log ends" if self.judge.is_cut else "that changes nothing of this")
+            yield "others could go on; " + ("it is so where the log ends" if self.judge.is_cut else "that changes nothing of this")

@@ -7,8 +7,23 @@ passed over; where that leads elsewhere, exactly.
 
 import time
 
-from .engine import AGAIN, DMA, EXACTLY, FREELY, WHOLE
+from .engine import AGAIN, DMA, EXACTLY, FREELY, RAISE, WHOLE, Turn
+from .logs import DMA as DMA_COMMIT
 
+
+def turns_of(log, commits):
+    """A turn for each commit of a log, given as (actor, size) by its walk's account, and for each interrupt."""
+    done, turns = {}, []
+    for actor, size in commits:
+        if actor == DMA_COMMIT:
+            turns.append(Turn(DMA, 0, 0, "stopped"))
+            continue
+        turns.append(Turn(actor, size or 1, 0, "forced"))
+        done[actor] = done.get(actor, 0) + 1
+        value = log.interrupts.get((actor, done[actor]))
+        if value is not None:
+            turns.append(Turn(RAISE, actor, value, "stopped"))
+    return turns
 
 
 def is_thread(turn):
@@ -90,9 +105,9 @@ class Shrinker:
             self.least = taken
         return taken
 
-    def told(self):
-        """The engine's Told of the least run, which it does again step by step."""
-        return self.engine.told(self.least, AGAIN, self.until)[1]
+    def told(self, taken):
+        """The engine's Told of a run that ends badly and took these turns, which it does again step by step."""
+        return self.engine.told(taken, AGAIN, self.until)[1]
 
 
 class Descent:

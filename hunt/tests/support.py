@@ -1,7 +1,9 @@
 """The examples as the tests take them, and whether the proved program is there."""
 
+import functools
 import os
 import shutil
+import subprocess
 import sys
 import tomllib
 from collections import namedtuple
@@ -50,10 +52,11 @@ def traced(name):
     return Trace(image, log, p)
 
 
+@functools.cache
 def can_walk():
     """Whether the proved program can be called without being built first."""
-    places = TOP / "out/delorean", TOP / "crates/delorean/out/delorean"
-    return bool(os.environ.get("DELOREAN")) or any(place.is_file() for place in places)
+    said = subprocess.check_output([TOP / "bin/delorean", "--version"], text=True)
+    return "\nprogram none" not in said
 
 
 def tool(name):

@@ -28,6 +28,15 @@ def interrupted(process):
     return process.returncode, said
 
 
+class Refused(unittest.TestCase):
+    def test_a_full_disk(self):
+        for words in ([], ["who", "counter"]):
+            with open("/dev/full", "w") as full:
+                process = started("trace", *LOGGED, *words, stdout=full)
+                self.assertEqual(process.communicate(timeout=60)[1], "trace: No space left on device\n")
+            self.assertEqual(process.returncode, 2)
+
+
 class Interrupted(unittest.TestCase):
     def setUp(self):
         folder = tempfile.TemporaryDirectory()

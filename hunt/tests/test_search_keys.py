@@ -79,14 +79,15 @@ class Keys(unittest.TestCase):
         """After a delay of 2,000 steps another one of 2,100 is too long for a chunk; and a chunk may end in any order."""
         delay = [addi(9, 0, 1050), addi(9, 9, -1), *DELAY[2:]]
         met = met_ends(laid([*SPAWNS, *sets(A, 1), *sets(A, 0), *ENDS],
-                            [addi(6, 0, OWN), atomic(LR, 9, 6, 0), lw(7, A), *if_seen(DELAY), addi(7, 0, 0), addi(9, 0, 0), lw(5, B),
-                             *delay, atomic(SC, 8, 6, 0), sw(8, ANSWER), *ENDS]))
+                            [addi(6, 0, OWN), atomic(LR, 9, 6, 0), lw(7, A), *if_seen(DELAY), addi(7, 0, 0), addi(9, 0, 0),
+                             lw(5, B), *delay, atomic(SC, 8, 6, 0), sw(8, ANSWER), *ENDS]))
         self.assertEqual(met[1], {(0, 0, 0, 0): 0, (0, 0, 0, 1): 1})
 
     def test_exit_code(self):
         image = laid([*SPAWNS, *sets(A, 1), *sets(A, 0), lw(9, B), *ENDS], [lw(10, A), *call(0)])
         for code in 0, 1:
-            self.assertEqual(searched(image, read_condition(["word %X = 0 and exit 1 = %d" % (A, code)], Names(image))).how, "found")
+            ends = read_condition(["word %X = 0 and exit 1 = %d" % (A, code)], Names(image))
+            self.assertEqual(searched(image, ends).how, "found")
 
 
 @unittest.skipUnless(CAN_BUILD, NO_COMPILER)

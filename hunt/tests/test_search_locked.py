@@ -10,8 +10,7 @@ from all_ends import met_ends
 from lib.engine import Options, acquires
 from lib.image import read_image
 from locked_programs import MARK, given_lock, locked_program, taken, with_marks
-from small_programs import (CODE_OF_THREAD, EXIT, RESULTS, SHARED, SPAWN, SIZE, addi, bne, call, elf, explored, lw, sees, sets, slli,
-                            sw)
+from small_programs import (CODE_OF_THREAD, EXIT, RESULTS, SHARED, SIZE, SPAWN, addi, call, elf, explored, lw, sees, sets, slli, sw)
 from test_search import CAN_BUILD, NO_COMPILER, command
 
 A, B, WORD = SHARED, SHARED + 4, SHARED + 0x20
@@ -58,7 +57,7 @@ class Locked(unittest.TestCase):
             self.assertTrue(all(met[outcome] <= cost for outcome, cost in found.items()), seed)
 
     def test_release_and_the_bound(self):
-        """Whoever is blocked is left for nothing, so one forced switch inside the region is enough. After its end it would be two."""
+        """Whoever is blocked is left for nothing, so one forced switch inside the region is enough. After it two would be wanted."""
         takes, gives = taken(FIRST, True), given_lock(FIRST)
         file = marked_file(
             [*SPAWNS, *sets(A, 1), *takes, lw(7, WORD), slli(7, 7, 1), addi(7, 7, 1), sw(7, WORD), *gives, *sets(B, 1), *ENDS],

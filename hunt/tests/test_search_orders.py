@@ -41,9 +41,9 @@ class EveryOrder(unittest.TestCase):
         self.assertTrue(0 < hangs < len(RESERVING))
 
 
-# Of the first seeds with few states those with three threads, with a hang, or with the most ends.
-RESERVING = (2, 3, 8, 14, 27, 39, 42, 47, 52, 53, 59, 63, 70, 71, 78, 79, 82, 84, 85, 89, 90, 91, 94, 97, 112, 117, 121, 122, 127, 131,
-             132, 138, 146, 147, 149, 154, 160, 166, 181, 185, 194, 196, 206, 209, 211, 215, 216, 219, 223, 242)
+# Of the first seeds with few states: those with three threads, with a hang, or with the most ends.
+RESERVING = (2, 3, 8, 14, 27, 39, 42, 47, 52, 53, 59, 63, 70, 71, 78, 79, 82, 84, 85, 89, 90, 91, 94, 97, 112, 117, 121, 122, 127,
+             131, 132, 138, 146, 147, 149, 154, 160, 166, 181, 185, 194, 196, 206, 209, 211, 215, 216, 219, 223, 242)
 
 if __name__ == "__main__":
     unittest.main()

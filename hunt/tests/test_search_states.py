@@ -5,8 +5,8 @@ import unittest
 
 from all_ends import met_ends
 from lib.engine import Options
-from small_programs import (CODE_OF_THREAD, EXIT, LR, OWN, RESULTS, SC, SHARED, SPAWN, add, addi, atomic, beq, bne, call, image_of, lw,
-                            sees, sets, slli, sw)
+from small_programs import (CODE_OF_THREAD, EXIT, LR, OWN, RESULTS, SC, SHARED, SPAWN, add, addi, atomic, beq, bne, call, image_of,
+                            lw, sees, sets, slli, sw)
 from test_search import CAN_BUILD, NO_COMPILER
 
 A, B, FLAG, Q, W = SHARED, SHARED + 4, SHARED + 8, SHARED + 12, SHARED + 20
@@ -87,12 +87,12 @@ class States(unittest.TestCase):
         self.assertEqual(met, {(0, 1, 0, 0, 0): 0, (0, 1, 0, 1, 0): 2})
 
     def test_words_of_a_waiting_loop_are_places(self):
-        """Thread 1 is known to wait in its loop as thread 2 leaves it to, and isn't run. But it may have looked at A, and not yet at
-        W. W is only stored to if FLAG was seen at both its values, which wants three forced switches."""
+        """Thread 1 is known to wait in its loop while A is 0, and isn't run. But it may have looked at A, and not yet at W. That is
+        stored to only if FLAG was seen at both its values, which wants three forced switches."""
         met = self.outcomes(
             [*sets(A, 1), *SPAWNS_TWO, *ENDS],
-            [addi(9, 0, 1), sw(9, FLAG), addi(9, 0, 2), sw(9, FLAG), lw(7, A), bne(7, 0, 16), lw(8, W), beq(8, 0, -12), addi(5, 0, 1),
-             sw(5, ANSWER), *ENDS],
+            [addi(9, 0, 1), sw(9, FLAG), addi(9, 0, 2), sw(9, FLAG), lw(7, A), bne(7, 0, 16), lw(8, W), beq(8, 0, -12),
+             addi(5, 0, 1), sw(5, ANSWER), *ENDS],
             [lw(7, FLAG), addi(7, 7, -1), lw(8, FLAG), addi(8, 8, -2), *DELAY, addi(6, 0, 1), sw(0, A), sw(6, A), bne(7, 0, 12),
              bne(8, 0, 8), sw(6, W), *ENDS])
         self.assertEqual(met, {(1, 0, 0, 0, 0): 0, (1, 0, 0, 1, 0): 5})

@@ -1,5 +1,5 @@
-"""A log whose walk ends badly is never denied by shrink, and what it writes ends as it must; a hang is told from a log that ends too
-early, and a limit from either. Logs are those of seeds, some that are cut, and some of small programs."""
+"""A log whose walk ends badly is never denied by shrink, and what it writes ends as it must. A hang is told from a log that ends too
+early, and a limit from either. The logs are those of seeds, some that are cut, and some of small programs."""
 
 import re
 import tempfile
@@ -10,6 +10,7 @@ from unittest import mock
 
 import support
 from lib import searching
+from lib.aims import Tries
 from lib.conditions import Ended, read_condition
 from lib.engine import EXACTLY, TO_LAST_TURN, Engine, Turn
 from lib.image import read_image
@@ -102,17 +103,25 @@ class OfRing(Shrunk):
 class Words(OfRing):
     """What is kept, and how it is chosen."""
 
+    OTHERWISE = "the log that was given ends otherwise; --same keeps its end"
+
     def test_another_end_has_fewer_forced_switches(self):
-        _, same, ended = self.ring("--bad", "exit 0 != 0", "--same")
+        """Two are enough for a wrong sum, and more are left for this one."""
+        _, said, ended = self.ring("--bad", "exit 0 != 0", "--same")
         self.assertEqual(ended.threads[0], ("ended", 19))
-        _, any_end, ended = self.ring("--bad", "exit 0 != 0")
-        forced = [int(re.search(r" (\d+) forced", said)[1]) for said in (same, any_end)]
-        if ended.threads[0] == ("ended", 19):
-            self.assertEqual(forced[0], forced[1])
-        else:
-            self.assertLess(forced[1], forced[0])
-            self.assertIn("the log that was given ends otherwise; --same keeps its end", any_end)
-        self.assertNotIn("ends otherwise", same)
+        self.assertNotIn(self.OTHERWISE, said)
+        self.assertIn(", 3 forced", said)
+        _, said, ended = self.ring("--bad", "exit 0 != 0")
+        self.assertNotEqual(ended.threads[0], ("ended", 19))
+        self.assertIn(self.OTHERWISE, said)
+        self.assertIn(", 2 forced", said)
+
+    def test_own_end_unless_another_has_fewer(self):
+        for forced, taken in (((2, 2), "own"), ((3, 2), "other"), ((2, 3), "own")):
+            tries = Tries(None, None, 60)
+            found = {"own": ("own", (forced[0], 9), None), "other": ("other", (forced[1], 1), None)}
+            with mock.patch.object(tries, "found", found.get):
+                self.assertEqual(tries.least(["own", "other"])[0], taken)
 
     def test_same_end_and_a_condition(self):
         status, said, ended = self.ring("--same", "--bad", "word count = 0 and exit 0 > 10")
@@ -185,6 +194,23 @@ class Limits(Shrunk):
         status, said, ended = self.of_steps(self.COUNTS_IN_MEMORY, 100, "--bad", "word 400 = 33", "--steps", "10")
         self.assertEqual((status, ended.word(SHARED)), (0, 33), said)
 
+    def test_state_that_comes_again(self):
+        """Each thread changes its word and puts it back, until it sees that the other one has changed its own; then it lets that one
+        see the same. Alone neither ends; in turns they may."""
+        own, other = SHARED, SHARED + 4
+        code = laid(addi(10, 0, 256), addi(11, 0, 0), addi(12, 0, 0), *call(1), addi(7, 0, 1), sw(7, own), sw(0, own), lw(8, other),
+                    beq(8, 0, -12), sw(7, own), addi(10, 0, 0), *call(0))
+        code |= {256 + at: word for at, word in laid(addi(7, 0, 1), sw(7, other), sw(0, other), lw(8, own), beq(8, 0, -12),
+                                                     sw(7, other), addi(10, 0, 0), *call(0)).items()}
+        log = write_log(packed("log 1 order-size 4096 3\np 0 0 4\np 1 0 0\np 2 0 9\n"))
+        with written(code) as file:
+            status, said, _ = self.shrunk(file.name, 4096, log, "--bad", "hang")
+            self.assertEqual(status, 0, said)
+            self.assertIn("threads 0 and 1 hang: from the log's end the run comes to a state that comes again\n", said)
+            status, said, _ = self.shrunk(file.name, 4096, log, "--bad", "stuck")
+            self.assertEqual(status, 1, said)
+            self.assertIn("the log's run ends otherwise:\n", said)
+
     def test_engine_in_doubt(self):
         """If the walk doesn't bear out what comes after the log, what the log itself has is known all the same."""
         def differs(judge, told):
@@ -213,7 +239,7 @@ class Limits(Shrunk):
         self.assertEqual((status, ended.threads), (0, [("ended", 7)]), said)
         status, said, _ = self.of_steps(code, 50, "--bad", "hang")
         self.assertEqual(status, 1)
-        self.assertIn("thread 0 doesn't hang, the log ends too early: from there the run goes on to its end\n"
+        self.assertIn("thread 0 doesn't hang: the log ends too early, and from there the run goes on to its end\n"
                       "the log's run ends otherwise:\nthread 0 ended with 7\n", said)
 
 

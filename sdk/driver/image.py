@@ -18,13 +18,14 @@ def _quoted(text):
 
 
 def settings(words):
-    """What the library asks for by address, as assembler: the words of main, and whether waits may return without a signal."""
+    """What the library asks for by address, as assembler: the words of main, whether waits may return without a signal, and how long an event is."""
     name = Path(words.output).name.removesuffix(".elf")
     texts = [name, *words.arguments]
     lines = [".data", ".balign 4", ".globl __argument_count, __arguments", "__argument_count: .word %d" % len(texts), "__arguments:"]
     lines += [" .word argument_%d" % j for j in range(len(texts))] + [" .word 0"]
     lines += ["argument_%d: .asciz %s" % (j, _quoted(text)) for j, text in enumerate(texts)]
-    lines += [".section .rodata", ".balign 4", ".globl __spurious", "__spurious: .word %d" % words.spurious]
+    lines += [".section .rodata", ".balign 4", ".globl __spurious", "__spurious: .word %d" % words.spurious,
+              ".globl __event_time", "__event_time: .word %d" % words.numbers["event-time"]]
     return "\n".join(lines) + "\n"
 
 

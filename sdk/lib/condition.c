@@ -20,8 +20,10 @@ static int give_up(pthread_cond_t *c, unsigned number) {
     unsigned word;
     do {
         word = LOAD_RESERVED(c->word);
-        if (is_after(word, number))
+        if (is_after(word, number)) {
+            GIVE_UP_RESERVATION();
             return 0;
+        }
     } while (STORE_CONDITIONAL(c->word, woken_up_to(word, number + 1)));
     return 1;
 }
@@ -92,8 +94,10 @@ int pthread_cond_signal(pthread_cond_t *c) {
     unsigned word;
     do {
         word = LOAD_RESERVED(c->word);
-        if (next_woken(word) == next_comes(word))
+        if (next_woken(word) == next_comes(word)) {
+            GIVE_UP_RESERVATION();
             return 0;
+        }
     } while (STORE_CONDITIONAL(c->word, woken_up_to(word, next_woken(word) + 1)));
     return 0;
 }
@@ -102,8 +106,10 @@ int pthread_cond_broadcast(pthread_cond_t *c) {
     unsigned word;
     do {
         word = LOAD_RESERVED(c->word);
-        if (next_woken(word) == next_comes(word))
+        if (next_woken(word) == next_comes(word)) {
+            GIVE_UP_RESERVATION();
             return 0;
+        }
     } while (STORE_CONDITIONAL(c->word, woken_up_to(word, next_comes(word))));
     return 0;
 }

@@ -8,12 +8,17 @@ enum { WRITES = 0x80000000 };
 int pthread_rwlock_init(pthread_rwlock_t *l, const pthread_rwlockattr_t *a) { (void)a; l->word = 0; return 0; }
 int pthread_rwlock_destroy(pthread_rwlock_t *l) { return LOAD(l->word) ? EBUSY : 0; }
 
+static int is_busy(void) {
+    GIVE_UP_RESERVATION();
+    return EBUSY;
+}
+
 static int try_to_read(pthread_rwlock_t *l, void *at) {
     unsigned word;
     do {
         word = LOAD_RESERVED(l->word);
         if (word & WRITES)
-            return EBUSY;
+            return is_busy();
     } while (STORE_CONDITIONAL(l->word, word + 1));
     __note_held(l, READ_LOCK, at);
     return 0;
@@ -22,7 +27,7 @@ static int try_to_read(pthread_rwlock_t *l, void *at) {
 static int try_to_write(pthread_rwlock_t *l, void *at) {
     do
         if (LOAD_RESERVED(l->word))
-            return EBUSY;
+            return is_busy();
     while (STORE_CONDITIONAL(l->word, WRITES));
     __note_held(l, WRITE_LOCK, at);
     return 0;

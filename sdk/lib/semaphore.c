@@ -23,8 +23,10 @@ static int take_one(sem_t *s) {
     unsigned value;
     do {
         value = LOAD_RESERVED(s->value);
-        if (value == 0)
+        if (value == 0) {
+            GIVE_UP_RESERVATION();
             return 0;
+        }
     } while (STORE_CONDITIONAL(s->value, value - 1));
     return 1;
 }

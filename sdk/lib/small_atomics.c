@@ -43,6 +43,7 @@ static unsigned laid(unsigned word, unsigned shift, unsigned mask, unsigned valu
         do { \
             word = LOAD_RESERVED(*w); \
             if ((T)(word >> shift) != *(T *)expected) { \
+                GIVE_UP_RESERVATION(); \
                 *(T *)expected = (T)(word >> shift); \
                 return false; \
             } \

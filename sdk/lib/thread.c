@@ -109,8 +109,10 @@ static int claim(struct thread *t) {
     unsigned over;
     do {
         over = LOAD_RESERVED(t->over);
-        if (over != IS_FREE && !(over == HAS_STOPPED && t->detached))
+        if (over != IS_FREE && !(over == HAS_STOPPED && t->detached)) {
+            GIVE_UP_RESERVATION();
             return 0;
+        }
     } while (STORE_CONDITIONAL(t->over, IS_TAKEN));
     return 1;
 }

@@ -18,4 +18,10 @@
        __asm__ volatile("sc.w.aqrl %0, %2, (%1)" : "=&r"(failed_) : "r"(&(word)), "r"(value) : "memory"); \
        failed_; })
 
+/* Whoever goes without a STORE_CONDITIONAL gives up the reservation: so a wait comes back to the same state. One that fails does this: it
+   is of a word of the stack, which nobody has reserved, and stores nothing. */
+#define GIVE_UP_RESERVATION() \
+    ({ unsigned own_; \
+       __asm__ volatile("sc.w zero, zero, (%0)" : : "r"(&own_) : "memory"); })
+
 #endif

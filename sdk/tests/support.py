@@ -102,21 +102,26 @@ def on_host(source, *words, arguments=(), **more):
 HOST = unittest.skipUnless(shutil.which("gcc"), "no gcc for the host: what programs print there isn't compared")
 
 
-class Case(unittest.TestCase):
-    def each(self, cases, work):
-        """Does the work for each case, as many at once as there are processors, and gives the cases with what came of them."""
-        def guarded(case):
-            try:
-                return work(case)
-            except (Failed, OSError, ValueError) as error:
-                return error
+def results(cases, work):
+    """The work's results for the cases, in their order, or what it raised; as many at once as there are processors."""
+    def guarded(case):
+        try:
+            return work(case)
+        except (Failed, OSError, ValueError) as error:
+            return error
 
-        with ThreadPoolExecutor(min(4, os.cpu_count() or 1)) as pool:
-            for case, result in zip(cases, list(pool.map(guarded, cases))):
-                with self.subTest(case=case):
-                    if isinstance(result, Exception):
-                        self.fail(str(result))
-                    yield case, result
+    with ThreadPoolExecutor(min(4, os.cpu_count() or 1)) as pool:
+        return list(pool.map(guarded, cases))
+
+
+class Case(unittest.TestCase):
+    def each(self, cases, work, check):
+        """Does the work for each case, and checks what came of it: check(case, result)."""
+        for case, result in zip(cases, results(cases, work)):
+            with self.subTest(case=case):
+                if isinstance(result, Exception):
+                    self.fail(str(result))
+                check(case, result)
 
     def assertClear(self, found):
         """All orders, however many switches they have."""

@@ -35,6 +35,10 @@ class SameAsHost(Case):
         wanted = on_host(PROGRAMS / "threads.c", "-latomic")
         self.assertEqual((wanted.returncode, without_host("threads")()), (0, (0, wanted.stdout)))
 
+    def test_sleeping_for_long(self):
+        """Two seconds are two thousand events of a millisecond."""
+        self.assertEqual(without_host("sleeping")("--event-time", 1000, cores=1, events=20000), (0, on_host(PROGRAMS / "sleeping.c").stdout))
+
     @unittest.skipUnless(shutil.which("clang") and shutil.which("ld.lld"), "no clang and lld: programs aren't compiled by them")
     def test_threads_by_clang(self):
         self.assertEqual(without_host("threads")("--clang"), (0, on_host(PROGRAMS / "threads.c", "-latomic").stdout))
@@ -80,10 +84,12 @@ int main(void) { """
             source.write_text(self.BEGIN + case[0] + " return 0; }\n")
             return ran(source, "-w", "-O0")
 
+    def check(self, case, got):
+        self.assertEqual(got.code, case[1], got)
+        self.assertTrue(got.console.startswith(case[2]), got)
+
     def test_each(self):
-        for (_, code, text), got in self.each(self.CASES, self.failed):
-            self.assertEqual(got.code, code, got)
-            self.assertTrue(got.console.startswith(text), got)
+        self.each(self.CASES, self.failed, self.check)
 
 
 if __name__ == "__main__":

@@ -12,7 +12,7 @@ from support import SDK, SEARCHED, Case, Failed, searched
 Mutant = namedtuple("Mutant", "what file old new program flags sources", defaults=((),))
 
 MUTANTS = [
-    Mutant("a lock that lets two in", "include/pthread.h", "while (DELOREAN_TAKE(m_->word))", "if (DELOREAN_TAKE(m_->word))",
+    Mutant("a lock that lets two in", "include/pthread.h", "while (DELOREAN_TAKE(m_->word))", "if (__atomic_exchange_n(&m_->word, 1, 5))",
            "mutex", "-DTHREADS=3 -DROUNDS=1"),
     Mutant("a lock taken by a load and a store", "include/delorean/lock.h", "amoswap.w.aqrl %0, %0, (%1)", "lw %0, (%1)\\n sw %2, (%1)",
            "mutex", "-DTHREADS=2 -DROUNDS=1"),
@@ -37,14 +37,14 @@ MUTANTS = [
     Mutant("a barrier without rounds", "lib/barrier.c", "(round + 1) << 16", "0", "barrier", "-DTHREADS=2 -DROUNDS=2"),
     Mutant("a barrier that miscounts", "lib/barrier.c", "ADD(b->word, 1), round = word >> 16;",
            "LOAD(b->word), round = word >> 16; STORE(b->word, word + 1);", "barrier", "-DTHREADS=2 -DROUNDS=1"),
-    Mutant("readers beside a writer", "lib/rwlock.c", "if (word & WRITES)\n            return EBUSY;", "", "rwlock", "-DWRITERS=1 -DREADERS=1"),
+    Mutant("readers beside a writer", "lib/rwlock.c", "if (word & WRITES)\n            return is_busy();", "", "rwlock", "-DWRITERS=1 -DREADERS=1"),
     Mutant("a writer beside readers", "lib/rwlock.c", "if (LOAD_RESERVED(l->word))", "if (LOAD_RESERVED(l->word) & WRITES)", "rwlock",
            "-DWRITERS=1 -DREADERS=1"),
     Mutant("two writers", "lib/rwlock.c", "while (STORE_CONDITIONAL(l->word, WRITES));", "while (STORE(l->word, WRITES), 0);", "rwlock",
            "-DWRITERS=2 -DREADERS=0"),
     Mutant("a writer that leaves as a reader", "lib/rwlock.c", "(void)SWAP(l->word, 0);", "(void)ADD(l->word, -1);", "rwlock",
            "-DWRITERS=1 -DREADERS=1"),
-    Mutant("a spin lock that lets two in", "lib/spin.c", "while (DELOREAN_TAKE(*l))", "if (DELOREAN_TAKE(*l))", "spin", "-DTHREADS=3"),
+    Mutant("a spin lock that lets two in", "lib/spin.c", "while (DELOREAN_TAKE(*l))", "if (SWAP(*l, 1))", "spin", "-DTHREADS=3 -DTRIES=0"),
     Mutant("once, twice", "lib/once.c", "__atomic_fetch_or(&o->word, RUNS, __ATOMIC_SEQ_CST)", "o->word; STORE(o->word, was | RUNS)", "once",
            "-DTHREADS=2"),
     Mutant("once, not waited for", "lib/once.c", "WAIT_WHILE(LOAD(o->word) != DONE);", "", "once", "-DTHREADS=2"),
@@ -90,8 +90,7 @@ def hunted(mutant):
 
 class Mutants(Case):
     def test_each_is_found(self):
-        for _, found in self.each(MUTANTS, hunted):
-            self.assertEqual(found.status, 0, found.text)
+        self.each(MUTANTS, hunted, lambda _, found: self.assertEqual(found.status, 0, found.text))
 
     def test_a_wait_that_rests_on_its_signal(self):
         """`if` in place of `while` around a wait: only --spurious shows it."""

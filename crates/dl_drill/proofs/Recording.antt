@@ -1,6 +1,6 @@
 -- A row of one sphere, which can be recorded if it is.
 use Rattle.std.proofs.Common.{ℕ, zero, suc, [], ◌∷◌, All, arith}
-use Rattle.spec_protocol.specs.machine.Machine.{SphereSetup}
+use Rattle.spec_sphere.specs.sphere.Setups.{SphereSetup}
 use Rattle.dl_sphere.specs.Setups.{HasBegun, IsRecordableIf}
 use Rattle.dl_sphere.specs.declared.setup.SphereSetup.{SphereSetup as Setup}
 

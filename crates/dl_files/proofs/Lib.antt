@@ -1,2 +1,2 @@
 pub mod Places
-pub mod Reading
+pub mod Telling

@@ -6,3 +6,4 @@ pub mod Seen
 pub mod Staged
 pub mod Streams
 pub mod Taken
+pub mod Told

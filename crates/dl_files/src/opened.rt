@@ -1,33 +1,37 @@
-//! What is done with a file that was opened, or could not be: it is read, whole or a part of it, or written.
-//!
-//! Each call says what it reads or writes, of any file. Which file is opened, and how, is up to the caller.
-ghost use Rattle.std.specs.Prelude.{◌≡◌, ◌≢◌, ◌↔◌, ◌<◌, ◌≤◌, ◌^◌, length, take, vec_len, IfOk, IfErr, IsOkAnd, IsErrAnd, IsErrOf};
+//! A file of a system, read whole or a part of it, or written.
+ghost use Rattle.std.specs.Prelude.{◌≡◌, ◌≢◌, ◌↔◌, ◌<◌, ◌≤◌, ◌^◌, length, take, vec_len, None, IfOk, IfErr, IfSome, OnOk, OnErr, IsErrOf};
+ghost use Rattle.std.specs.FinMap.{get};
 ghost use Rattle.std.specs.IoError.{error_kind};
-ghost use Rattle.std.specs.Io.KnownBytes.{Appends};
-ghost use Rattle.dl_files.specs.Streams.{AreReadOn, HasLeft, HasPart};
+ghost use Rattle.dl_files.specs.Contents.{Holds, HoldsAt, with_file, with_more};
+ghost use Rattle.dl_files.specs.Told.{CantRead, Reads, Refuses, Spoils, held};
 
-use crate::FileError;
 use crate::streams::{Unread, fill, read_whole, write_whole};
+use crate::{FileError, System};
 use std::alloc::Global;
 use std::io;
-use std::io::{ErrorKind, Read, Seek, SeekFrom, Write};
+use std::io::ErrorKind;
 
 /// All bytes of the file.
-pub(crate) fn read_opened<F: Read + Drop>(
-    opened: io::Result<F>,
+pub(crate) fn read_file<S: System>(
+    system: &mut S,
+    name: &str,
     alloc: Global,
 ) -> Result<Vec<u8>, FileError>
-    ensures bytes { IfOk result (λ bytes.
-        IsOkAnd opened (λ file. HasLeft (F.remaining file) bytes.items)) }
+    ensures bytes { IfOk result (λ bytes. Holds (held (S.told system.old)) name.now bytes.items) }
     ensures size { IfOk result (λ bytes. vec_len bytes ≤ 2 ^ 30) }
-    ensures absent { IsErrOf result FileError.Absent
-        ↔ IsErrAnd opened (λ e. error_kind e ≡ ErrorKind.NotFound) }
+    ensures absent { IfSome (held (S.told system.old))
+        (λ m. IsErrOf result FileError.Absent ↔ (get m name.now ≡ None)) }
+    ensures ok { OnOk result (Reads (S.told system.old) (S.told system.new)) }
+    ensures failed { IsErrOf result FileError.Failed
+        → CantRead name.now (S.told system.old) (S.told system.new) }
+    ensures passed { IfErr result (λ e. e ≢ FileError.Failed
+        → Reads (S.told system.old) (S.told system.new)) }
 {
-    let mut file = match opened {
+    let mut file = match system.open(name) {
         Ok(file) => file,
         Err(error) => return Err(why_unopened(&error)),
     };
-    match read_whole(&mut file, alloc) {
+    match read_whole(system, &mut file, alloc) {
         Ok(bytes) => Ok(bytes),
         Err(Unread::OutOfMemory) => Err(FileError::OutOfMemory),
         Err(Unread::Failed(_) | Unread::TooLarge) => Err(FileError::Failed),
@@ -35,43 +39,57 @@ pub(crate) fn read_opened<F: Read + Drop>(
 }
 
 /// The bytes of the file from `offset` on, as many as fit into the piece. No file reaches as far as 2^63 bytes.
-pub(crate) fn fill_opened<F: Read + Seek + Drop>(
-    opened: io::Result<F>,
+pub(crate) fn read_part<S: System>(
+    system: &mut S,
+    name: &str,
     offset: u64,
     into: &mut [u8],
 ) -> Result<usize, FileError>
-    ensures part { IfOk result (λ n. IsOkAnd opened (λ file.
-        AreReadOn F.remaining F.stream_bytes F.stream_position → offset < 2 ^ 63
-        → HasPart (F.stream_bytes file) (F.stream_position file) offset (length into.old) (take n into.new))) }
+    ensures bytes { IfOk result (λ n.
+        HoldsAt (held (S.told system.old)) name.now offset (length into.old) (take n into.new)) }
     ensures most { IfOk result (λ n. n ≤ length into.old) }
+    ensures absent { IfSome (held (S.told system.old))
+        (λ m. IsErrOf result FileError.Absent ↔ (get m name.now ≡ None)) }
+    ensures ok { OnOk result (Reads (S.told system.old) (S.told system.new)) }
+    ensures failed { IsErrOf result FileError.Failed → Refuses (S.told system.old) (S.told system.new) }
+    ensures passed { IfErr result (λ e. e ≢ FileError.Failed
+        → Reads (S.told system.old) (S.told system.new)) }
     ensures no_memory { IfErr result (λ e. e ≢ FileError.OutOfMemory) }
-    ensures absent { IsErrOf result FileError.Absent
-        ↔ IsErrAnd opened (λ e. error_kind e ≡ ErrorKind.NotFound) }
 {
-    let mut file = match opened {
+    let mut file = match system.open(name) {
         Ok(file) => file,
         Err(error) => return Err(why_unopened(&error)),
     };
     if offset > i64::MAX as u64 {
         return Ok(0);
     }
-    if file.seek(SeekFrom::Start(offset)).is_err() {
+    if system.seek(&mut file, offset).is_err() {
         return Err(FileError::Failed);
     }
-    match fill(&mut file, into) {
+    match fill(system, &mut file, into) {
         Ok(n) => Ok(n),
         Err(_) => Err(FileError::Failed),
     }
 }
 
-/// The file once the bytes are written to it at its position.
-pub(crate) fn write_opened<F: Write + Drop>(opened: io::Result<F>, bytes: &[u8]) -> io::Result<F>
-    ensures written { IfOk result (λ after.
-        IsOkAnd opened (λ before. Appends (F.contents before) (F.contents after) bytes.now)) }
+/// Makes these the bytes of the file.
+pub(crate) fn write_file<S: System>(system: &mut S, name: &str, bytes: &[u8]) -> io::Result<()>
+    ensures written { OnOk result
+        (held (S.told system.new) ≡ with_file name.now bytes.now (held (S.told system.old))) }
+    ensures refused { OnErr result (Spoils name.now (S.told system.old) (S.told system.new)) }
 {
-    let mut file = opened?;
-    write_whole(&mut file, bytes)?;
-    Ok(file)
+    let mut file = system.create(name)?;
+    write_whole(system, &mut file, bytes)
+}
+
+/// Puts the bytes after those of the file, which is made if it isn't there.
+pub(crate) fn append_file<S: System>(system: &mut S, name: &str, bytes: &[u8]) -> io::Result<()>
+    ensures written { OnOk result
+        (held (S.told system.new) ≡ with_more name.now bytes.now (held (S.told system.old))) }
+    ensures refused { OnErr result (Spoils name.now (S.told system.old) (S.told system.new)) }
+{
+    let mut file = system.add(name)?;
+    write_whole(system, &mut file, bytes)
 }
 
 // Why a file that couldn't be opened can't be read.

@@ -1,46 +1,60 @@
-//! The files of the system, which tell nothing of their contents. What is read and written of an opened file is proved of any
-//! file, in `opened.rt`; which name is opened, and whether to read it, empty it or add to it, is trusted.
-ghost use Rattle.std.specs.Fs.{asks_append, asks_create, asks_truncate};
-ghost use Rattle.std.specs.Prelude.{◌≡◌, ◌≢◌, ◌↔◌, None, true, false, ◌≤◌, ◌^◌, length, vec_len, IfOk, IfErr, IsOk, OnOk, IsErrOf};
+//! The files of a system, which is all that is trusted: what is read and written of it is proved of any system that tells what
+//! its files hold.
+ghost use Rattle.std.specs.Prelude.{◌≡◌, ◌≢◌, ◌≤◌, ◌^◌, ◌↔◌, [], None, length, take, vec_len, IfOk, IfErr, IfSome, IsOk, OnOk, OnErr, IsErrOf};
+ghost use Rattle.std.specs.FinMap.{get};
+ghost use Rattle.dl_files.specs.Contents.{Begins, Holds, HoldsAt, with_file, with_more};
 ghost use Rattle.dl_files.specs.Seen.{uncounted, untold, with_change, with_unread, with_unwritten};
+ghost use Rattle.dl_files.specs.Told.{CantRead, Reads, Refuses, Spoils, held};
 
-use crate::opened::{fill_opened, read_opened, write_opened};
-use crate::{Beginning, FileError, Files};
+use crate::opened::{append_file, read_file, read_part, write_file};
+use crate::{Beginning, FileError, Files, Os, System};
 use std::alloc::Global;
-use std::fs::OpenOptions;
 use std::marker::Model;
-use std::{fs, io, rt};
+use std::{io, rt};
 
-/// The files of the system that `R` reaches, seen as their counts. Each refusal is counted, even that of an absent file,
-/// except when memory runs out. Reading a file of more than 2^30 bytes whole is a fault, once that many are read; parts can be
-/// read of a file of any size.
+/// The files of a system, seen as what the system tells and their counts. Each refusal is counted, even that of an absent
+/// file, except when memory runs out. Reading a file of more than 2^30 bytes whole is a fault, once that many are read; parts
+/// can be read of a file of any size.
 #[derive(Drop)]
-pub struct RealFiles<R> {
-    rt: R,
+pub struct SystemFiles<S: System> {
+    system: S,
     faults: u64,
     unread: u64,
     changes: u64,
 }
 
-impl<R> Model for RealFiles<R> {
-    ghost use Rattle.dl_files.specs.Seen.{Counts};
+/// The files of the system that `R` reaches.
+pub type RealFiles<R> = SystemFiles<Os<R>>;
 
-    ghost Value = { Counts };
+impl<S: System> Model for SystemFiles<S> {
+    ghost use Rattle.dl_files.specs.Told.{Outside, outside_code};
+
+    ghost Value = { Outside };
+
+    ghost coded = { outside_code };
 
     ghost view = { λ files. record {
-      faults = files.faults;
-      unread = files.unread;
-      changes = files.changes;
+      told = S.told files.system;
+      counts = record { faults = files.faults; unread = files.unread; changes = files.changes };
     } };
 }
 
-impl<R: rt::Files> RealFiles<R> {
+impl<R: rt::Files> SystemFiles<Os<R>> {
     /// The files that `rt` reaches, with nothing counted yet.
     pub fn new(rt: R) -> Self
-        ensures { result ≡ uncounted }
+        ensures { result ≡ record { told = None; counts = uncounted } }
+    {
+        Self::over(Os::new(rt))
+    }
+}
+
+impl<S: System> SystemFiles<S> {
+    /// The files of this system, with nothing counted yet.
+    pub fn over(system: S) -> Self
+        ensures { result ≡ record { told = S.told system; counts = uncounted } }
     {
         Self {
-            rt,
+            system,
             faults: 0,
             unread: 0,
             changes: 0,
@@ -49,7 +63,7 @@ impl<R: rt::Files> RealFiles<R> {
 
     // A read that failed, or that found no file.
     fn unread(&mut self)
-        ensures { self.new ≡ with_unread self.old }
+        ensures { self.new ≡ record self.old { counts = with_unread self.old.counts } }
     {
         self.faults = self.faults.saturating_add(1);
         self.unread = self.unread.saturating_add(1);
@@ -59,7 +73,8 @@ impl<R: rt::Files> RealFiles<R> {
     fn settle_read<T: Drop>(&mut self, read: Result<T, FileError>) -> Result<T, FileError>
         ensures answer { result ≡ read }
         ensures ok { OnOk result (self.new ≡ self.old) }
-        ensures refused { IfErr result (λ e. e ≢ FileError.OutOfMemory → self.new ≡ with_unread self.old) }
+        ensures refused { IfErr result (λ e. e ≢ FileError.OutOfMemory
+            → self.new ≡ record self.old { counts = with_unread self.old.counts }) }
         ensures memory { IsErrOf result FileError.OutOfMemory → self.new ≡ self.old }
     {
         match read {
@@ -70,15 +85,15 @@ impl<R: rt::Files> RealFiles<R> {
     }
 
     // What a write answers. Each one is counted.
-    fn settle_write<T: Drop>(&mut self, done: io::Result<T>) -> Result<(), FileError>
+    fn settle_write(&mut self, done: io::Result<()>) -> Result<(), FileError>
         ensures done { IsOk result ↔ IsOk done }
-        ensures ok { OnOk result (self.new ≡ with_change self.old) }
+        ensures ok { OnOk result (self.new ≡ record self.old { counts = with_change self.old.counts }) }
         ensures only { IfErr result (λ e. e ≡ FileError.Failed) }
-        ensures refused { IfErr result (λ _. self.new ≡ with_unwritten self.old) }
+        ensures refused { OnErr result (self.new ≡ record self.old { counts = with_unwritten self.old.counts }) }
     {
         self.changes = self.changes.saturating_add(1);
         match done {
-            Ok(_) => Ok(()),
+            Ok(()) => Ok(()),
             Err(_) => {
                 self.faults = self.faults.saturating_add(1);
                 Err(FileError::Failed)
@@ -87,41 +102,61 @@ impl<R: rt::Files> RealFiles<R> {
     }
 }
 
-impl<R: rt::Files> Files for RealFiles<R> {
-    ghost seen = { untold };
+impl<S: System> Files for SystemFiles<S> {
+    ghost seen = { λ files. untold files.counts };
 
     fn faults(&self) -> u64 {
         self.faults
     }
 
     fn read(&mut self, alloc: Global, name: &str) -> Result<Vec<u8>, FileError>
+        ensures bytes { IfOk result (λ bytes. Holds (held self.old.told) name.now bytes.items) }
         ensures size { IfOk result (λ bytes. vec_len bytes ≤ 2 ^ 30) }
-        ensures ok { OnOk result (self.new ≡ self.old) }
-        ensures refused { IfErr result (λ e. e ≢ FileError.OutOfMemory → self.new ≡ with_unread self.old) }
-        ensures memory { IsErrOf result FileError.OutOfMemory → self.new ≡ self.old }
+        ensures absent { IfSome (held self.old.told)
+            (λ m. IsErrOf result FileError.Absent ↔ (get m name.now ≡ None)) }
+        ensures told { OnOk result (Reads self.old.told self.new.told) }
+        ensures failed { IsErrOf result FileError.Failed → CantRead name.now self.old.told self.new.told }
+        ensures passed { IfErr result (λ e. e ≢ FileError.Failed → Reads self.old.told self.new.told) }
+        ensures ok { OnOk result (self.new.counts ≡ self.old.counts) }
+        ensures refused { IfErr result (λ e. e ≢ FileError.OutOfMemory
+            → self.new.counts ≡ with_unread self.old.counts) }
+        ensures memory { IsErrOf result FileError.OutOfMemory → self.new.counts ≡ self.old.counts }
     {
-        let read = read_opened(fs::open(&self.rt, name), alloc);
+        let read = read_file(&mut self.system, name, alloc);
         self.settle_read(read)
     }
 
     fn read_at(&mut self, name: &str, offset: u64, into: &mut [u8]) -> Result<usize, FileError>
+        ensures bytes { IfOk result (λ n.
+            HoldsAt (held self.old.told) name.now offset (length into.old) (take n into.new)) }
         ensures most { IfOk result (λ n. n ≤ length into.old) }
-        ensures ok { OnOk result (self.new ≡ self.old) }
+        ensures absent { IfSome (held self.old.told)
+            (λ m. IsErrOf result FileError.Absent ↔ (get m name.now ≡ None)) }
+        ensures told { OnOk result (Reads self.old.told self.new.told) }
+        ensures failed { IsErrOf result FileError.Failed → Refuses self.old.told self.new.told }
+        ensures passed { IfErr result (λ e. e ≢ FileError.Failed → Reads self.old.told self.new.told) }
+        ensures ok { OnOk result (self.new.counts ≡ self.old.counts) }
         ensures no_memory { IfErr result (λ e. e ≢ FileError.OutOfMemory) }
-        ensures refused { IfErr result (λ _. self.new ≡ with_unread self.old) }
+        ensures refused { OnErr result (self.new.counts ≡ with_unread self.old.counts) }
     {
-        let read = fill_opened(fs::open(&self.rt, name), offset, into);
+        let read = read_part(&mut self.system, name, offset, into);
         self.settle_read(read)
     }
 
     // Of a pipe or a device only the next part can be read.
-    fn begin(
-        &mut self,
-        alloc: Global,
-        name: &str,
-        into: &mut [u8],
-    ) -> Result<Beginning, FileError> {
-        if fs::metadata(&self.rt, name).is_ok_and(|found| found.is_file()) {
+    fn begin(&mut self, alloc: Global, name: &str, into: &mut [u8]) -> Result<Beginning, FileError>
+        ensures begins { IfOk result (Begins (held self.old.told) name.now (length into.old) into.new) }
+        ensures absent { IfSome (held self.old.told)
+            (λ m. IsErrOf result FileError.Absent ↔ (get m name.now ≡ None)) }
+        ensures told { OnOk result (Reads self.old.told self.new.told) }
+        ensures failed { IsErrOf result FileError.Failed → CantRead name.now self.old.told self.new.told }
+        ensures passed { IfErr result (λ e. e ≢ FileError.Failed → Reads self.old.told self.new.told) }
+        ensures ok { OnOk result (self.new.counts ≡ self.old.counts) }
+        ensures refused { IfErr result (λ e. e ≢ FileError.OutOfMemory
+            → self.new.counts ≡ with_unread self.old.counts) }
+        ensures memory { IsErrOf result FileError.OutOfMemory → self.new.counts ≡ self.old.counts }
+    {
+        if self.system.is_file(name) {
             let n = self.read_at(name, 0, into)?;
             return Ok(Beginning::Part(n));
         }
@@ -130,39 +165,37 @@ impl<R: rt::Files> Files for RealFiles<R> {
     }
 
     fn write(&mut self, name: &str, bytes: &[u8]) -> Result<(), FileError>
-        ensures ok { OnOk result (self.new ≡ with_change self.old) }
+        ensures written { OnOk result
+            (held self.new.told ≡ with_file name.now bytes.now (held self.old.told)) }
+        ensures spoiled { OnErr result (Spoils name.now self.old.told self.new.told) }
+        ensures ok { OnOk result (self.new.counts ≡ with_change self.old.counts) }
         ensures only { IfErr result (λ e. e ≡ FileError.Failed) }
-        ensures refused { IfErr result (λ _. self.new ≡ with_unwritten self.old) }
+        ensures refused { OnErr result (self.new.counts ≡ with_unwritten self.old.counts) }
     {
-        let done = write_opened(fs::create(&self.rt, name), bytes);
+        let done = write_file(&mut self.system, name, bytes);
         self.settle_write(done)
     }
 
     fn create(&mut self, name: &str) -> Result<(), FileError>
-        ensures ok { OnOk result (self.new ≡ with_change self.old) }
+        ensures created { OnOk result
+            (held self.new.told ≡ with_file name.now [] (held self.old.told)) }
+        ensures spoiled { OnErr result (Spoils name.now self.old.told self.new.told) }
+        ensures ok { OnOk result (self.new.counts ≡ with_change self.old.counts) }
         ensures only { IfErr result (λ e. e ≡ FileError.Failed) }
-        ensures refused { IfErr result (λ _. self.new ≡ with_unwritten self.old) }
+        ensures refused { OnErr result (self.new.counts ≡ with_unwritten self.old.counts) }
     {
         self.write(name, b"")
     }
 
     fn append(&mut self, name: &str, bytes: &[u8]) -> Result<(), FileError>
-        ensures ok { OnOk result (self.new ≡ with_change self.old) }
+        ensures appended { OnOk result
+            (held self.new.told ≡ with_more name.now bytes.now (held self.old.told)) }
+        ensures spoiled { OnErr result (Spoils name.now self.old.told self.new.told) }
+        ensures ok { OnOk result (self.new.counts ≡ with_change self.old.counts) }
         ensures only { IfErr result (λ e. e ≡ FileError.Failed) }
-        ensures refused { IfErr result (λ _. self.new ≡ with_unwritten self.old) }
+        ensures refused { OnErr result (self.new.counts ≡ with_unwritten self.old.counts) }
     {
-        let done = write_opened(added_to().open(&self.rt, name), bytes);
+        let done = append_file(&mut self.system, name, bytes);
         self.settle_write(done)
     }
-}
-
-// A file that is added to, and made if it isn't there.
-fn added_to() -> OpenOptions
-    ensures append { asks_append result ≡ true }
-    ensures create { asks_create result ≡ true }
-    ensures truncate { asks_truncate result ≡ false }
-{
-    let mut options = OpenOptions::new();
-    options.append(true).create(true);
-    options
 }

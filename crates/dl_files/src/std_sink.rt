@@ -1,54 +1,68 @@
-//! The standard output, which does not tell what it took. How bytes are handed to it is proved of any writer, in `streams.rt`;
-//! that they are handed to it and to no other is trusted.
-ghost use Rattle.std.specs.Prelude.{◌≡◌, None, ◌≤◌, ◌<◌, length, IfOk, IfErr, OnOk};
+//! A sink over an output, which is all that is trusted: how bytes are handed to it is proved of any output that tells what it
+//! holds.
+ghost use Rattle.std.specs.Prelude.{◌≡◌, None, ◌≤◌, ◌<◌, length, IfOk, IfErr, OnOk, OnErr};
 ghost use Rattle.dl_files.specs.Count.{next};
+ghost use Rattle.dl_files.specs.Taken.{with_taken};
 
 use crate::streams::write_some;
-use crate::{Sink, SinkError};
-use std::io;
+use crate::{Os, Output, Sink, SinkError};
 use std::marker::Model;
 
-/// The standard output of `R`, seen as its count of faults. It keeps nothing, so it needs no memory.
+/// An output as a sink, seen as what it holds, if it tells, and its count of faults. It keeps nothing, so it needs no memory.
 #[derive(Drop)]
-pub struct StdSink<R> {
-    rt: R,
+pub struct OutputSink<O: Output> {
+    output: O,
     faults: u64,
 }
 
-impl<R> Model for StdSink<R> {
-    ghost use Rattle.std.specs.Prelude.{ℕ};
+/// The standard output of `R`.
+pub type StdSink<R> = OutputSink<Os<R>>;
 
-    ghost Value = { ℕ };
+impl<O: Output> Model for OutputSink<O> {
+    ghost use Rattle.dl_files.specs.Told.{Out};
 
-    ghost view = { λ sink. sink.faults };
+    ghost Value = { Out };
+
+    ghost view = { λ sink. record { taken = O.holds sink.output; faults = sink.faults } };
 }
 
-impl<R: Print> StdSink<R> {
+impl<R: Print> OutputSink<Os<R>> {
     /// The standard output of `rt`, with no fault yet.
     pub fn new(rt: R) -> Self
-        ensures { result ≡ 0 }
+        ensures { result ≡ record { taken = None; faults = 0 } }
     {
-        Self { rt, faults: 0 }
+        Self::over(Os::new(rt))
     }
 }
 
-impl<R: Print> Sink for StdSink<R> {
-    ghost taken = { λ _. None };
+impl<O: Output> OutputSink<O> {
+    /// This output, with no fault yet.
+    pub fn over(output: O) -> Self
+        ensures { result ≡ record { taken = O.holds output; faults = 0 } }
+    {
+        Self { output, faults: 0 }
+    }
+}
 
-    ghost count = { λ faults. faults };
+impl<O: Output> Sink for OutputSink<O> {
+    ghost taken = { λ sink. sink.taken };
+
+    ghost count = { λ sink. sink.faults };
 
     fn faults(&self) -> u64 {
         self.faults
     }
 
     fn put(&mut self, bytes: &[u8]) -> Result<usize, SinkError>
+        ensures took { IfOk result (λ n. self.new.taken ≡ with_taken n bytes.now self.old.taken) }
         ensures within { IfOk result (λ n. n ≤ length bytes.now) }
         ensures some { IfOk result (λ n. 0 < length bytes.now → 0 < n) }
-        ensures ok { OnOk result (self.new ≡ self.old) }
+        ensures same { OnErr result (self.new.taken ≡ self.old.taken) }
+        ensures ok { OnOk result (self.new.faults ≡ self.old.faults) }
         ensures only { IfErr result (λ e. e ≡ SinkError.Failed) }
-        ensures refused { IfErr result (λ _. self.new ≡ next self.old) }
+        ensures refused { OnErr result (self.new.faults ≡ next self.old.faults) }
     {
-        match write_some(&mut io::writer(&self.rt), bytes) {
+        match write_some(&mut self.output, bytes) {
             Ok(n) => Ok(n),
             Err(_) => {
                 self.faults = self.faults.saturating_add(1);

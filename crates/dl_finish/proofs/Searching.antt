@@ -5,7 +5,7 @@ use Rattle.dl_entry.specs.declared.Actor.{Actor}
 use Rattle.spec_engine.specs.Flights.{at, passes, told_at}
 use Rattle.spec_engine.proofs.Searches.{first_is, first_is_none}
 use Rattle.spec_protocol.specs.declared.event.Event.{Event}
-use Rattle.spec_protocol.specs.machine.Spheres.{Role, Plain, Record, Replay, Sphere, no_sphere}
+use Rattle.spec_sphere.specs.sphere.Spheres.{Role, Plain, Record, Replay, Sphere, no_sphere}
 use Rattle.spec_protocol.specs.machine.World.{World, Occupant, runs, core_of}
 use Rattle.spec_protocol.specs.machine.Finishing.{SphereTurn, untold, named_turn, turn_of_role, least, for_held, for_core}
 use Rattle.dl_finish.specs.Turns.{turn_in, if_runs, on_core}

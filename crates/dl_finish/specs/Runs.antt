@@ -2,7 +2,8 @@
 use Rattle.std.specs.Prelude.{◌≡◌, ℕ, ◌+◌, ◌<◌, true, List, ◌++◌, length, take, slice_get, Some}
 use Rattle.spec_protocol.specs.declared.event.Event.{Event}
 use Rattle.spec_protocol.specs.machine.World.{World}
-use Rattle.spec_protocol.specs.machine.Machine.{ReplaySetup, IsReplayed, SphereSetup, Setup}
+use Rattle.spec_sphere.specs.sphere.Setups.{ReplaySetup, IsReplayed, SphereSetup}
+use Rattle.spec_protocol.specs.machine.Machine.{Setup}
 use Rattle.spec_finishing.specs.Ending.{Ends}
 use Rattle.spec_finishing.specs.Finished.{HasPlayed}
 use Rattle.spec_finishing.specs.Function.{finishing_of}

@@ -3,7 +3,7 @@ use Rattle.std.specs.Prelude.{ℕ, Option, Some, None, if◌then◌else◌}
 use Rattle.dl_entry.specs.declared.Actor.{Actor}
 use Rattle.spec_engine.specs.Flights.{at}
 use Rattle.spec_protocol.specs.declared.event.Event.{Event}
-use Rattle.spec_protocol.specs.machine.Spheres.{Role, Plain, Record, Replay, actor_of}
+use Rattle.spec_sphere.specs.sphere.Spheres.{Role, Plain, Record, Replay, actor_of}
 use Rattle.spec_protocol.specs.machine.World.{World, Occupant, runs}
 use Rattle.spec_protocol.specs.machine.Finishing.{for_held}
 

@@ -105,7 +105,7 @@ fn for_replays<G: Sig>(machine: &Machine<G>) -> Option<Event>
 }
 
 // Whose turn it is in a replay that still goes on.
-#[tactic(auto, unfolding(spec_protocol::specs::machine::Spheres::head_of))]
+#[tactic(auto, unfolding(spec_sphere::specs::sphere::Spheres::head_of))]
 fn turn(sphere: &Sphere) -> Option<Actor>
     ensures { result ≡ turn_in sphere.now.sphere.role }
 {

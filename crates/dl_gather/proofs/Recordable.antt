@@ -16,8 +16,8 @@ use Rattle.spec_strata.specs.Checking.{StrataAnswer, Parallel, Unfit, Conflict, 
 use Rattle.spec_log.specs.declared.fault.Fault.{Fault}
 use Rattle.spec_program.specs.Stages.{Refused, refusing}
 use Rattle.spec_program.proofs.Made.{then_ok}
-use Rattle.spec_protocol.specs.machine.Machine.{EpochSetup, RoleSetup, IsPlain, IsRecorded, SphereSetup}
-use Rattle.spec_protocol.specs.promises.Sound.{AreEpochsIf, IsRecordable}
+use Rattle.spec_sphere.specs.sphere.Setups.{EpochSetup, RoleSetup, IsPlain, IsRecorded, SphereSetup}
+use Rattle.spec_sphere.specs.promises.Sound.{AreEpochsIf, IsRecordable}
 use Rattle.dl_gather.specs.declared.inputs.SphereInputs.{SphereInputs}
 use Rattle.dl_gather.specs.Inputs.{IsPlannedRole, IsReadRole, ArePlannedRoles, AreReadRoles, sphere_view}
 use Rattle.dl_gather.specs.Intervals.{IsOrdered, AreAllOrdered}

@@ -4,7 +4,7 @@ use Rattle.std.proofs.lemmas.List.{map-append}
 use Rattle.dl_elf.specs.Images.{Image}
 use Rattle.dl_sphere.specs.declared.setup.SphereSetup.{SphereSetup}
 use Rattle.dl_sphere.specs.Setups.{setup_of as setup_view}
-use Rattle.spec_protocol.specs.machine.Machine as protocol
+use Rattle.spec_sphere.specs.sphere.Setups as protocol
 use Rattle.spec_program.specs.Built.{sphere_of, spheres_of}
 use Rattle.spec_program.specs.Stages.{Refused}
 use Rattle.dl_gather.specs.declared.halt.Halt.{Halt}

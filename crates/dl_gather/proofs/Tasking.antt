@@ -4,7 +4,7 @@ use Rattle.dl_elf.specs.Images.{Image}
 use Rattle.dl_machine.specs.Setups.{setup_in as machine_of}
 use Rattle.dl_plan.specs.Values.{PlanValues}
 use Rattle.dl_run.specs.Schedules.{events_in}
-use Rattle.spec_protocol.specs.machine.Machine as protocol
+use Rattle.spec_sphere.specs.sphere.Setups as protocol
 use Rattle.spec_program.specs.Built.{images_of, spheres_of, events_of, setup_of}
 use Rattle.spec_program.specs.Files.{PlanRead}
 use Rattle.spec_program.specs.Tasks.{task_read}

@@ -5,7 +5,7 @@ use Rattle.dl_logio.specs.Files.{read_view}
 use Rattle.dl_scriptio.specs.Files.{read_view as script_view}
 use Rattle.dl_plan.specs.Values.{PlanValues, RecordValues, RoleValues, Plain, Record, Replay, InStrata, SphereValues, IsMemory, epochs_view}
 use Rattle.spec_play.specs.Intervals.{AreOrdered}
-use Rattle.spec_protocol.specs.promises.Sound.{IsRecordable}
+use Rattle.spec_sphere.specs.promises.Sound.{IsRecordable}
 use Rattle.spec_program.specs.Built.{record_setup}
 use Rattle.spec_program.specs.Files.{ScheduleRead, ScriptRead, EventsDrawn, RecordInputs, RoleRead, PlainRead, RecordRead}
 use Rattle.spec_program.specs.Files.{ReplayRead, StrataRead, SphereRead, PlanRead}

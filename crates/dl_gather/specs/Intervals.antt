@@ -6,7 +6,7 @@ use Rattle.dl_entry.specs.declared.End.{End}
 use Rattle.dl_entry.specs.declared.Why.{Why}
 use Rattle.spec_play.specs.declared.walk_end.WalkEnd.{WalkEnd}
 use Rattle.spec_play.specs.Intervals.{AreOrdered}
-use Rattle.spec_protocol.specs.machine.Machine.{RoleSetup, SphereSetup}
+use Rattle.spec_sphere.specs.sphere.Setups.{RoleSetup, SphereSetup}
 use Rattle.spec_program.specs.Files.{RoleRead, PlainRead, RecordRead, ReplayRead, StrataRead, SphereRead}
 
 -- a walk that ended so has diverged before that commit for this reason, or hasn't

@@ -1,7 +1,7 @@
 //! The interval of a log that a plan names, and where its replay begins.
 ghost use Rattle.std.specs.Prelude.{◌≡◌, Some, None, IfOk};
 ghost use Rattle.spec_play.specs.Intervals.{interval_of, IsWithin, IsWithinIf};
-ghost use Rattle.spec_protocol.specs.machine.Machine.{RoleSetup};
+ghost use Rattle.spec_sphere.specs.sphere.Setups.{RoleSetup};
 ghost use Rattle.dl_sphere.specs.Setups.{IsBegun, IsBegunIf, interval_in};
 ghost use Rattle.dl_gather.specs.Intervals.{HasDivergedBefore, sphere_on};
 

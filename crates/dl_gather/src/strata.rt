@@ -1,6 +1,6 @@
 //! Strata that are replayed on an image.
 ghost use Rattle.std.specs.Prelude.{◌≡◌, Ok, IfOk, IfErr};
-ghost use Rattle.spec_protocol.specs.machine.Machine.{IsReplayed};
+ghost use Rattle.spec_sphere.specs.sphere.Setups.{IsReplayed};
 ghost use Rattle.spec_strata.specs.Checking.{Parallel, answer_of};
 ghost use Rattle.spec_strata.specs.Reading.{read_of};
 ghost use Rattle.dl_sphere.specs.Setups.{IsBegunAs, replay_setup, role_setup};

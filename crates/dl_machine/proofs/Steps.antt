@@ -13,8 +13,7 @@ use Rattle.spec_engine.specs.Chunks.{Chunk, fresh, is_open, step, may_follow}
 use Rattle.spec_engine.specs.Flights.{Flights, at}
 use Rattle.spec_kernel.specs.Devices.{Devices}
 use Rattle.spec_protocol.specs.declared.reply.Reply.{Reply}
-use Rattle.spec_protocol.specs.machine.Placing.{replays}
-use Rattle.spec_protocol.specs.machine.Spheres.{Role, is_stopped, limit_after, limit_after_in}
+use Rattle.spec_sphere.specs.sphere.Spheres.{replays, Role, is_stopped, limit_after, limit_after_in}
 use Rattle.spec_protocol.specs.machine.Stepping.{cut_held, cut_in, cutting, reply_of_cut, reply_of_step, step_held, step_younger, stepping, younger_afresh, younger_for}
 use Rattle.spec_protocol.specs.machine.World.{EventOutcome, Occupant, World, answered, sphere_at, with_core}
 use Rattle.dl_chunk.specs.Pairs.{Pair, PairCutting, PairStepping, can_step, following, pair_cut, pair_cut_of, pair_step, runs_younger, younger_or}

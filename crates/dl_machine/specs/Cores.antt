@@ -6,7 +6,7 @@ use Rattle.spec_engine.specs.declared.answers.How.{How}
 use Rattle.spec_engine.specs.Signatures.{Signature, nothing}
 use Rattle.spec_engine.specs.Chunks.{Chunk, is_open, may_follow}
 use Rattle.spec_protocol.specs.machine.Asking.{promoted, was_interrupted}
-use Rattle.spec_protocol.specs.machine.Spheres.{Sphere}
+use Rattle.spec_sphere.specs.sphere.Spheres.{Sphere}
 use Rattle.spec_protocol.specs.machine.World.{Occupant, Numbers, held_afresh}
 use Rattle.dl_chunk.specs.Pairs.{Pair, begins_younger, can_step}
 use Rattle.dl_sphere.specs.SizedSpheres.{SizedSphere}

@@ -2,9 +2,9 @@
 use Rattle.std.specs.Prelude.{◌≡◌, ℕ, ◌≤◌, true, All, length, List, Option, slice_set, slice_index_or}
 use Rattle.spec_engine.specs.Flights.{at}
 use Rattle.spec_engine.specs.Signatures.{is_size}
-use Rattle.spec_protocol.specs.machine.Spheres.{Sphere, no_sphere}
+use Rattle.spec_sphere.specs.sphere.Spheres.{Sphere, no_sphere}
 use Rattle.spec_protocol.specs.machine.World.{Occupant, Numbers}
-use Rattle.spec_protocol.specs.promises.Sound.{IsChunkSize}
+use Rattle.spec_sphere.specs.promises.Sound.{IsChunkSize}
 use Rattle.dl_sphere.specs.Setups.{standard_in}
 use Rattle.dl_sphere.specs.SizedSpheres.{SizedSphere}
 use Rattle.dl_machine.specs.Cores.{Core}

@@ -3,16 +3,16 @@ use Rattle.std.specs.Prelude.{◌≡◌, ℕ, true, false, List, length, slice_g
 use Rattle.dl_entry.specs.declared.Point.{Point}
 use Rattle.spec_play.specs.Plays.{plays}
 use Rattle.spec_protocol.specs.declared.event.Event.{Event}
-use Rattle.spec_protocol.specs.machine.Spheres.{Recording, Cursor, Record, Replay, Sphere, is_over}
-use Rattle.spec_protocol.specs.machine.Placing.{replays}
+use Rattle.spec_sphere.specs.sphere.Spheres.{Recording, Cursor, Record, Replay, Sphere, is_over, replays}
 use Rattle.spec_protocol.specs.machine.World.{World, sphere_at}
-use Rattle.spec_protocol.specs.machine.Machine.{last_played, first_played, ReplaySetup, EpochSetup, RecordSetup, IsRecorded}
-use Rattle.spec_protocol.specs.machine.Machine.{IsReplayed, Setup, SphereSetup, in_strata}
+use Rattle.spec_sphere.specs.sphere.Setups.{last_played, first_played, ReplaySetup, EpochSetup, RecordSetup, IsRecorded}
+use Rattle.spec_sphere.specs.sphere.Setups.{IsReplayed, SphereSetup, in_strata}
+use Rattle.spec_protocol.specs.machine.Machine.{Setup}
 use Rattle.spec_protocol.specs.machine.Serial.{CanDoAll, serial, serial_start}
 use Rattle.spec_protocol.specs.machine.Shown.{shown_of}
-use Rattle.spec_protocol.specs.promises.Alike.{IsAlike}
+use Rattle.spec_sphere.specs.promises.Alike.{IsAlike}
 use Rattle.spec_protocol.specs.promises.Kept.{IsKept, Shows, WillKeep}
-use Rattle.spec_protocol.specs.promises.PlayingBack.{PlaysBack}
+use Rattle.spec_sphere.specs.promises.PlayingBack.{PlaysBack}
 use Rattle.spec_protocol.specs.promises.Sound.{IsWithinLimits}
 use Rattle.spec_strata.specs.declared.strata.StrataParts.{StrataParts}
 use Rattle.spec_replay.specs.Following.{Follows}

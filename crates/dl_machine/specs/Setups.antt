@@ -1,10 +1,11 @@
 -- What a machine is made of.
 use Rattle.std.specs.Prelude.{◌≡◌, ℕ, ◌≤◌, true, max, All, map, length, List, [], ◌∷◌, Option, Some, None}
 use Rattle.spec_engine.specs.Signatures.{is_size}
-use Rattle.spec_protocol.specs.machine.Spheres.{Sphere}
+use Rattle.spec_sphere.specs.sphere.Spheres.{Sphere}
 use Rattle.spec_protocol.specs.machine.World.{Occupant, Numbers, held_afresh}
 use Rattle.spec_protocol.specs.machine.Machine as protocol
-use Rattle.spec_protocol.specs.promises.Sound.{IsChunkSize, AreFew}
+use Rattle.spec_sphere.specs.promises.Sound.{IsChunkSize}
+use Rattle.spec_protocol.specs.promises.Sound.{AreFew}
 use Rattle.dl_sphere.specs.declared.setup.SphereSetup.{SphereSetup}
 use Rattle.dl_sphere.specs.Setups.{HasBegun, IsRecordableIf, role_setup, setup_of, standard_asked}
 use Rattle.dl_machine.specs.declared.setup.Setup.{Setup}

@@ -2,8 +2,9 @@
 ghost use Rattle.std.specs.Prelude.{◌≡◌, ◌<◌, ◌^◌, None, Some, true, false, length, option_map, IfOk, IsSome, OnErr, OnOk};
 ghost use Rattle.spec_engine.specs.Flights.{at, is_full};
 ghost use Rattle.spec_engine.specs.Signatures.{line, signed};
-ghost use Rattle.spec_protocol.specs.machine.Asking.{ask_arbiter, asking, asks_serial, grant_chunk, grant_serial, is_short as short_of};
-ghost use Rattle.spec_protocol.specs.machine.Spheres.{is_stopped, turn_against as turn_before};
+ghost use Rattle.spec_protocol.specs.machine.Asking.{ask_arbiter, asking, asks_serial, grant_chunk, grant_serial};
+ghost use Rattle.spec_engine.specs.Closing.{is_short as short_of};
+ghost use Rattle.spec_sphere.specs.sphere.Spheres.{is_stopped, turn_against as turn_before};
 ghost use Rattle.spec_protocol.specs.promises.Kept.{NoneIsDue};
 ghost use Rattle.spec_protocol.specs.machine.World.{flown, sphere_at, with_core};
 ghost use Rattle.dl_machine.specs.Cores.{goes_on};

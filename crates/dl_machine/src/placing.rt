@@ -3,7 +3,8 @@ ghost use Rattle.std.specs.Prelude.{◌≡◌, ◌<◌, true, false, length, sli
 ghost use Rattle.spec_isa.specs.declared.thread.Parts.{Parts};
 ghost use Rattle.spec_kernel.specs.Interrupts.{takes_interrupt};
 ghost use Rattle.spec_protocol.specs.declared.reply.Reply.{Reply};
-ghost use Rattle.spec_protocol.specs.machine.Placing.{placing, raise_in, raising, replays, with_renewed};
+ghost use Rattle.spec_protocol.specs.machine.Placing.{placing, raise_in, raising, with_renewed};
+ghost use Rattle.spec_sphere.specs.sphere.Spheres.{replays};
 ghost use Rattle.spec_protocol.specs.promises.Kept.{NoneIsDue};
 ghost use Rattle.spec_protocol.specs.machine.World.{core_of, held_afresh, sphere_at, with_core};
 ghost use Rattle.dl_machine.specs.Events.{passes_checks};

@@ -1,13 +1,12 @@
 //! The state of the machine, with one method for each event.
 ghost use Rattle.std.specs.Prelude.{◌≡◌, ◌<◌, ◌%◌, ◌^◌, List, false, true, IfOk, IfSome, IsOk, OnErr, OnOk, All, length, option_map};
 ghost use Rattle.spec_engine.specs.Flights.{IsInside, at};
-ghost use Rattle.spec_protocol.specs.machine.Machine.{act, world_of};
+ghost use Rattle.spec_protocol.specs.machine.Machine.{act, world_of, Setup as SetupOf};
 ghost use Rattle.spec_protocol.specs.declared.event.Event.{Event as EventOf};
-ghost use Rattle.spec_protocol.specs.machine.Machine.{Setup as SetupOf};
 ghost use Rattle.spec_protocol.specs.promises.Alike.{AreAlike};
 ghost use Rattle.spec_protocol.specs.promises.Kept.{NoneIsDue, Shows};
 ghost use Rattle.spec_protocol.specs.machine.World.{sphere_at};
-ghost use Rattle.spec_protocol.specs.promises.Sound.{IsImage};
+ghost use Rattle.spec_sphere.specs.promises.Sound.{IsImage};
 ghost use Rattle.dl_sphere.specs.Setups.{setup_of};
 ghost use Rattle.dl_machine.specs.Setups.{IsWithin, setup_in};
 ghost use Rattle.dl_machine.specs.Events.{IsWanted, wants_memory};

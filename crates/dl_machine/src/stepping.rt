@@ -2,7 +2,7 @@
 ghost use Rattle.std.specs.Prelude.{◌≡◌, ◌≤◌, ◌<◌, max, true, false, length, slice_get, Some};
 ghost use Rattle.spec_isa.specs.declared.thread.Parts.{Parts};
 ghost use Rattle.spec_play.specs.Effects.{counted};
-ghost use Rattle.spec_protocol.specs.machine.Spheres.{is_stopped, limit_after};
+ghost use Rattle.spec_sphere.specs.sphere.Spheres.{is_stopped, limit_after};
 ghost use Rattle.spec_protocol.specs.machine.Stepping.{cutting, reply_of_cut as cut_named, reply_of_step as step_named, stepping};
 ghost use Rattle.spec_protocol.specs.machine.World.{sphere_at};
 ghost use Rattle.dl_sphere.specs.Setups.{standard_in};

@@ -2,8 +2,8 @@
 ghost use Rattle.std.specs.Prelude.{◌≡◌, ◌<◌, ◌⊎◌, None, Some, false, true, length, IfOk, IsSome, OnErr, OnOk};
 ghost use Rattle.spec_engine.specs.Flights.{is_full};
 ghost use Rattle.spec_play.specs.Progress.{position};
-ghost use Rattle.spec_protocol.specs.machine.Commits.{Diverged, Granted, MovedSphere, dma_moved};
-ghost use Rattle.spec_protocol.specs.machine.Spheres.{is_stopped, turn_against as turn_before};
+ghost use Rattle.spec_sphere.specs.sphere.Commits.{Diverged, Granted, MovedSphere, dma_moved};
+ghost use Rattle.spec_sphere.specs.sphere.Spheres.{is_stopped, turn_against as turn_before};
 ghost use Rattle.spec_protocol.specs.machine.Transferring.{dma_done, dma_with, transfer, transferring};
 ghost use Rattle.spec_protocol.specs.promises.Kept.{NoneIsDue};
 ghost use Rattle.spec_protocol.specs.machine.World.{sphere_at};

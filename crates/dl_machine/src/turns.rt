@@ -1,12 +1,12 @@
 //! Whose turn keeps an actor from committing.
 ghost use Rattle.std.specs.Prelude.{◌≡◌};
-ghost use Rattle.spec_protocol.specs.machine.Spheres.{other_than as other_of, turn_against as turn_before};
+ghost use Rattle.spec_sphere.specs.sphere.Spheres.{other_than as other_of, turn_against as turn_before};
 
 use dl_entry::Actor;
 use dl_sphere::Sphere;
 
 /// The actor whose turn keeps this one from committing; none where it may commit.
-#[tactic(auto, unfolding(spec_protocol::specs::machine::Spheres::head_of, spec_protocol::specs::machine::Spheres::turn_against))]
+#[tactic(auto, unfolding(spec_sphere::specs::sphere::Spheres::head_of, spec_sphere::specs::sphere::Spheres::turn_against))]
 pub(crate) fn turn_against(sphere: &Sphere, actor: Actor) -> Option<Actor>
     ensures { result ≡ turn_before sphere.now.sphere actor }
 {

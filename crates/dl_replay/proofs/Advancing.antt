@@ -16,16 +16,16 @@ use Rattle.spec_play.specs.Spawned.{AreNew}
 use Rattle.spec_play.specs.States.{progress_from}
 use Rattle.spec_play.specs.Intervals.{at_end_of_log, now_in}
 use Rattle.spec_play.specs.Turns.{TurnOrEnd, Ended, now_at, turn_of, at_end, has_left_over}
-use Rattle.spec_protocol.specs.machine.Spheres.{is_over}
+use Rattle.spec_sphere.specs.sphere.Spheres.{is_over}
 use Rattle.dl_kernel.specs.States.{PlayState as State, state_in}
 use Rattle.dl_kernel.specs.Calls.{spawned_list}
-use Rattle.spec_protocol.specs.promises.Sound.{IsSoundIf}
+use Rattle.spec_sphere.specs.promises.Sound.{IsSoundIf}
 use Rattle.dl_replay.specs.Following.{Following, followed}
 use Rattle.spec_kernel.specs.Interrupts.{is_live}
 use Rattle.dl_replay.specs.Lists.{head_of}
 use Rattle.dl_replay.specs.Standings.{IsWithinIf}
 use Rattle.spec_strata.specs.Standing.{Standing}
-use Rattle.spec_protocol.specs.machine.Commits.{now_by}
+use Rattle.spec_sphere.specs.sphere.Commits.{now_by}
 use Rattle.dl_replay.specs.Replays.{Agrees, IsReplaying}
 
 -- ---- whose turn it is

@@ -8,7 +8,7 @@ use Rattle.spec_isa.specs.declared.thread.Parts.{Parts}
 use Rattle.spec_play.specs.declared.used.Used.{Used}
 use Rattle.spec_play.specs.Progress.{Progress, position}
 use Rattle.spec_play.specs.Turns.{at_end, has_left_over, now_at, turn_of}
-use Rattle.spec_protocol.specs.machine.Commits.{now_by}
+use Rattle.spec_sphere.specs.sphere.Commits.{now_by}
 use Rattle.spec_strata.specs.declared.stratum.Stratum.{Stratum}
 use Rattle.spec_strata.specs.declared.stratum.Stratum.TheVariants.{Chunks, Serial, Dma}
 use Rattle.spec_strata.specs.declared.strata.StrataParts.{StrataParts}

@@ -15,7 +15,7 @@ use Rattle.spec_log.specs.Log.{IsLog, IsSizes, IsShortSize}
 use Rattle.spec_log.specs.Size.{is_thread, sizes_of_thread, thread_size}
 use Rattle.spec_play.specs.Effects.{counted}
 use Rattle.spec_play.specs.Turns.{Turn}
-use Rattle.spec_protocol.specs.machine.Spheres.{Replay, limit_in, limit_of, limit_after, whole_limit, pieces_of}
+use Rattle.spec_sphere.specs.sphere.Spheres.{Replay, limit_in, limit_of, limit_after, whole_limit, pieces_of}
 use Rattle.spec_play.specs.declared.used.Used.{Used}
 use Rattle.dl_replay.specs.Following.{Following, cursor_of}
 

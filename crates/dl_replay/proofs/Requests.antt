@@ -12,7 +12,7 @@ use Rattle.spec_kernel.specs.Answers.{bad_buffer, refused}
 use Rattle.spec_kernel.specs.Calls.{Called, gives, spawn, set_handler, iret, request_dma, is_dma_buffer, called}
 use Rattle.spec_kernel.specs.Serving.{StepResult, outside_called, inside_called, is_outside, device_loaded, device_stored, serve_kind, serve}
 use Rattle.spec_play.proofs.Threads.{any-call}
-use Rattle.spec_protocol.specs.promises.Sound.{IsSoundRequest, IsSoundIf}
+use Rattle.spec_sphere.specs.promises.Sound.{IsSoundRequest, IsSoundIf}
 
 branch : {A : Type 0} (P : A → Type 0) (b : Bool) (x y : A) → (b ≡ true → P x) → (b ≡ false → P y) → P (cond b x y)
 branch P true x y p q = p refl

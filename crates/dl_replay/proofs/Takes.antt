@@ -7,8 +7,8 @@ use Rattle.dl_entry.specs.declared.Actor.{Actor}
 use Rattle.spec_isa.specs.declared.thread.Load.{Load}
 use Rattle.spec_play.specs.declared.used.Used.{Used}
 use Rattle.spec_play.specs.Turns.{TurnOrEnd, Turn, TurnOfDma, Ended}
-use Rattle.spec_protocol.specs.machine.Spheres.{Replay, Sphere, actor_of, is_over, joins_in, other_than, turn_in}
-use Rattle.spec_protocol.proofs.Moves.Joining.{turn-is}
+use Rattle.spec_sphere.specs.sphere.Spheres.{Replay, Sphere, actor_of, is_over, joins_in, other_than, turn_in}
+use Rattle.spec_sphere.proofs.Moves.Joining.{turn-is}
 use Rattle.spec_strata.specs.Standing.{Standing}
 use Rattle.dl_mode.specs.Strata.{has_left, is_head, takes_at}
 use Rattle.dl_replay.specs.Following.{Following, cursor_of}

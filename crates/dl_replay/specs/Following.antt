@@ -12,8 +12,8 @@ use Rattle.spec_play.specs.Turns as turns
 use Rattle.spec_strata.specs.Standing.{Standing}
 use Rattle.spec_play.specs.States.{State, progress_from}
 use Rattle.spec_play.specs.Intervals.{now_in}
-use Rattle.spec_protocol.specs.machine.Spheres.{Cursor}
-use Rattle.spec_protocol.specs.machine.Commits.{now_by}
+use Rattle.spec_sphere.specs.sphere.Spheres.{Cursor}
+use Rattle.spec_sphere.specs.sphere.Commits.{now_by}
 use Rattle.dl_replay.specs.declared.turn_or_end.TurnOrEnd.{TurnOrEnd}
 
 pub record Following : Type 0 where

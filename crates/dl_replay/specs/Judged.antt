@@ -6,7 +6,7 @@ use Rattle.spec_play.specs.Verdicts.{LogVerdict, Goes, Fails}
 use Rattle.spec_play.specs.Transfers.{DmaVerdict, DmaGoes, DmaFails}
 use Rattle.spec_play.specs.Plays.{with_threads}
 use Rattle.spec_strata.specs.Standing.{Standing, after_thread, after_dma, is_last}
-use Rattle.spec_protocol.specs.machine.Commits.{with_commit}
+use Rattle.spec_sphere.specs.sphere.Commits.{with_commit}
 use Rattle.dl_kernel.specs.States.{PlayState as State}
 use Rattle.dl_replay.specs.declared.verdict.Verdict.{Verdict}
 use Rattle.dl_replay.specs.Following.{Following, followed, diverged}

@@ -2,7 +2,7 @@
 use Rattle.std.specs.Prelude.{ℕ, ◌+◌, Bool, true, false}
 use Rattle.spec_isa.specs.declared.thread.Parts.{Parts}
 use Rattle.spec_play.specs.Effects.{counted}
-use Rattle.spec_protocol.specs.machine.Spheres.{Role, limit_in, limit_after_in, limit_of, limit_after}
+use Rattle.spec_sphere.specs.sphere.Spheres.{Role, limit_in, limit_after_in, limit_of, limit_after}
 
 -- of a thread that has done so many commits
 abbrev pub chunk_limit_in : (after : Bool) → Role → (s thread commits : ℕ) → ℕ

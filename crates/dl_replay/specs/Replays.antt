@@ -3,8 +3,8 @@ use Rattle.std.specs.Prelude.{◌≡◌, ◌<◌, false, length}
 use Rattle.spec_log.specs.Log.{IsLog}
 use Rattle.spec_play.specs.Progress.{Progress, position}
 use Rattle.spec_play.specs.Resuming.{IsBounded}
-use Rattle.spec_protocol.specs.machine.Spheres.{is_over}
-use Rattle.spec_protocol.specs.promises.Sound.{IsSoundIf}
+use Rattle.spec_sphere.specs.sphere.Spheres.{is_over}
+use Rattle.spec_sphere.specs.promises.Sound.{IsSoundIf}
 use Rattle.dl_kernel.specs.States.{PlayState as State, state_in}
 use Rattle.dl_replay.specs.Following.{Following}
 use Rattle.dl_replay.specs.Standings.{IsWithinIf}

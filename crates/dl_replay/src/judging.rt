@@ -12,7 +12,7 @@ ghost use Rattle.spec_play.specs.Verdicts.{ended, chunk_why, chunk_verdict, seri
 ghost use Rattle.spec_play.specs.Transfers.{is_for, dma_verdict};
 ghost use Rattle.dl_kernel.specs.Calls.{spawned_list};
 ghost use Rattle.dl_kernel.specs.States.{state_in};
-ghost use Rattle.spec_protocol.specs.promises.Sound.{IsSoundIf};
+ghost use Rattle.spec_sphere.specs.promises.Sound.{IsSoundIf};
 ghost use Rattle.dl_replay.specs.Replays.{Agrees};
 ghost use Rattle.dl_replay.specs.Judging.{verdict_of, given_by, step_verdict, transfer_seen, transfer_verdict};
 

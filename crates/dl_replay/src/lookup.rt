@@ -8,7 +8,7 @@ ghost use Rattle.spec_log.specs.declared.mode_name.ModeName.TheVariants.{Picolog
 ghost use Rattle.spec_log.specs.Size.{size_in};
 ghost use Rattle.spec_play.specs.Turns.{are_sizes_used};
 ghost use Rattle.spec_play.specs.Verdicts.{interrupt_at};
-ghost use Rattle.spec_protocol.specs.machine.Spheres.{whole_limit};
+ghost use Rattle.spec_sphere.specs.sphere.Spheres.{whole_limit};
 ghost use Rattle.spec_strata.specs.Canonical.{canonical};
 ghost use Rattle.spec_strata.specs.Standing.{stratum_begun};
 ghost use Rattle.spec_strata.specs.Strata.{AreStrata};

@@ -4,7 +4,7 @@ ghost use Rattle.spec_kernel.specs.Interrupts.{is_live};
 ghost use Rattle.spec_play.specs.Progress.{Progress};
 ghost use Rattle.spec_play.specs.Turns.{turn_of, at_end, has_left_over};
 ghost use Rattle.spec_play.specs.Intervals.{at_end_of_log, now_in};
-ghost use Rattle.spec_protocol.specs.machine.Commits.{now_by};
+ghost use Rattle.spec_sphere.specs.sphere.Commits.{now_by};
 ghost use Rattle.dl_replay.specs.Following.{turn_seen};
 ghost use Rattle.dl_replay.specs.Replays.{Agrees};
 ghost use Rattle.dl_replay.specs.Lists.{head_of};

@@ -14,19 +14,21 @@ use Rattle.spec_log.specs.Log.{IsLog}
 use Rattle.spec_kernel.specs.Devices.{Devices}
 use Rattle.spec_play.specs.Progress.{Progress, position}
 use Rattle.spec_play.specs.States.{State}
-use Rattle.spec_protocol.specs.promises.Alike.{epochs_in}
+use Rattle.spec_sphere.specs.promises.Alike.{epochs_in}
 use Rattle.dl_record.specs.Epochs.{base_state}
 use Rattle.spec_play.specs.Plays.{Played}
 use Rattle.spec_play.specs.Turns.{TurnOrEnd, Turn, TurnOfDma, Ended}
 use Rattle.spec_protocol.specs.declared.event.Event.{Event}
-use Rattle.spec_protocol.specs.machine.Spheres.{Role, Plain, Record, Replay, Cursor, Sphere, is_over, no_sphere}
-use Rattle.spec_protocol.specs.machine.Placing.{replays}
+use Rattle.spec_sphere.specs.sphere.Spheres.{Role, Plain, Record, Replay, Cursor, Sphere, is_over, no_sphere}
+use Rattle.spec_sphere.specs.sphere.Spheres.{replays}
 use Rattle.spec_protocol.specs.machine.World.{World, sphere_at}
-use Rattle.spec_protocol.specs.machine.Machine.{EpochSetup, ReplaySetup, RecordSetup, RoleSetup, IsPlain, IsRecorded, IsReplayed, SphereSetup, Setup, happens, world_of, world_after}
+use Rattle.spec_sphere.specs.sphere.Setups.{EpochSetup, ReplaySetup, RecordSetup, RoleSetup, IsPlain, IsRecorded, IsReplayed, SphereSetup}
+use Rattle.spec_protocol.specs.machine.Machine.{Setup, happens, world_of, world_after}
 use Rattle.spec_protocol.specs.machine.Logged.{sphere_in}
 use Rattle.spec_protocol.specs.machine.Serial.{SerialState}
 use Rattle.spec_protocol.specs.promises.Promises.{IsSetup, after}
-use Rattle.spec_protocol.specs.promises.Sound.{no_image, image_at}
+use Rattle.spec_sphere.specs.promises.Sound.{no_image}
+use Rattle.spec_protocol.specs.promises.Sound.{image_at}
 use Rattle.spec_finishing.specs.Ending.{IsAtEnd, OfReplays}
 use Rattle.spec_finishing.proofs.Ending.Knowing.{after-event}
 use Rattle.spec_finishing.proofs.Ending.KindsKept.{is_replayed}

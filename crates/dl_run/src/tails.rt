@@ -1,7 +1,7 @@
 //! The tail of a sphere that is recorded in epochs.
 ghost use Rattle.std.specs.Prelude.{◌≡◌, ◌^◌, ◌<◌, List, All, Some, IfOk, length};
 ghost use Rattle.spec_protocol.specs.declared.event.Event.{Event};
-ghost use Rattle.spec_protocol.specs.machine.Machine.{EpochSetup, RecordSetup, IsRecorded};
+ghost use Rattle.spec_sphere.specs.sphere.Setups.{EpochSetup, RecordSetup, IsRecorded};
 ghost use Rattle.spec_protocol.specs.promises.Sound.{image_at};
 ghost use Rattle.spec_log.specs.Log.{IsLog};
 ghost use Rattle.spec_run.specs.Promise.{HasWords, IsCode};

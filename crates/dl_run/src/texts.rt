@@ -3,7 +3,7 @@ ghost use Rattle.std.specs.Prelude.{◌≡◌, ◌<◌, List, None, IfOk, length
 ghost use Rattle.dl_account.specs.CommitLists.{commits_in};
 ghost use Rattle.dl_kernel.specs.InOrder.{listed};
 ghost use Rattle.spec_protocol.specs.declared.event.Event.{Event};
-ghost use Rattle.spec_protocol.specs.machine.Machine.{RecordSetup, IsRecorded};
+ghost use Rattle.spec_sphere.specs.sphere.Setups.{RecordSetup, IsRecorded};
 ghost use Rattle.spec_protocol.specs.promises.Sound.{image_at};
 ghost use Rattle.spec_run.specs.Texts.{account_text as account_of, console_text, log_of_points, log_text, report_text as report_of, summary_text as summary_of};
 ghost use Rattle.spec_run.specs.Tails.{is_recorded_whole};

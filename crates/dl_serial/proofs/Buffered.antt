@@ -3,7 +3,7 @@ use Rattle.std.proofs.Common.{◌≡◌, ℕ, zero, suc, ◌+◌, ◌*◌, ◌<�
 use Rattle.std.proofs.lemmas.List.{append_assoc, append-nil, map-append}
 use Rattle.std.proofs.lemmas.Option.{same_Some}
 use Rattle.spec_isa.specs.Words.{Stored}
-use Rattle.spec_engine.specs.Flights.{AreInside}
+use Rattle.spec_isa.specs.Inside.{AreInside}
 use Rattle.spec_query.specs.declared.Store.{Store}
 
 pub each_inside : (size : ℕ) (ws : List Stored) (i : ℕ) (s : Stored) → slice_get ws i ≡ Some s → AreInside size ws → 4 * s.number + 4 ≤ size

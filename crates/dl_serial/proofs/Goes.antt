@@ -12,7 +12,7 @@ use Rattle.spec_isa.specs.Words.{Stored}
 use Rattle.spec_isa.specs.Runs.{Run}
 use Rattle.spec_isa.specs.Threads.{IsThread}
 use Rattle.spec_log.specs.declared.LogParts.{LogParts}
-use Rattle.spec_engine.specs.Flights.{AreInside}
+use Rattle.spec_isa.specs.Inside.{AreInside}
 use Rattle.spec_kernel.specs.Needs.{Need, need}
 use Rattle.spec_kernel.specs.Records.{fits}
 use Rattle.spec_kernel.specs.Serving.{StepResult, serve}
@@ -22,11 +22,11 @@ use Rattle.spec_play.specs.Progress.{Progress, with_input, with_interrupt}
 use Rattle.spec_play.specs.declared.used.Used.{Used}
 use Rattle.spec_play.specs.Transfers.{DmaVerdict, DmaGoes, dma_verdict}
 use Rattle.spec_play.specs.Verdicts.{LogVerdict, Goes, Fails, TakenRecord, given, with_interrupted, interrupt_at, chunk_verdict, unless, served_verdict, serial_verdict}
-use Rattle.spec_protocol.specs.promises.Sound.{IsSoundIf}
-use Rattle.spec_protocol.proofs.Invariants.Cores.{branch}
-use Rattle.spec_protocol.proofs.Sound.Threads.{BringsIf, IsSoundStepResult, serve-sound}
-use Rattle.spec_protocol.proofs.Sound.Moves.{fits-brings}
-use Rattle.spec_protocol.proofs.Sound.Transfers.{IfDmaGoes, dma-goes}
+use Rattle.spec_sphere.specs.promises.Sound.{IsSoundIf}
+use Rattle.spec_play.proofs.Threads.{branch}
+use Rattle.spec_sphere.proofs.Sound.Threads.{BringsIf, IsSoundStepResult, serve-sound}
+use Rattle.spec_sphere.proofs.Sound.Moves.{fits-brings}
+use Rattle.spec_sphere.proofs.Sound.Transfers.{IfDmaGoes, dma-goes}
 
 goes : LogVerdict → Bool
 goes (Goes e u) = true

@@ -12,7 +12,7 @@ use Rattle.spec_isa.specs.Operations.{load_size, is_device_load, refusal, refuse
 use Rattle.spec_isa.specs.Runs.{Run, run}
 use Rattle.spec_isa.proofs.MemoryLaws.{length_lays}
 use Rattle.spec_kernel.specs.Needs.{fetched}
-use Rattle.spec_engine.specs.Flights.{AreInside}
+use Rattle.spec_isa.specs.Inside.{AreInside}
 use Rattle.spec_strata.specs.Footprints.{is_loaded, looks_at, looks}
 
 -- ---- one instruction

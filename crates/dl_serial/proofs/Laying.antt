@@ -8,7 +8,7 @@ use Rattle.spec_isa.proofs.MemoryLaws.{length_lay, length_lays}
 use Rattle.spec_isa.proofs.BufferLaws.{read_over, lays_put}
 use Rattle.dl_wbuf.specs.Buffers.{Words, has_room}
 use Rattle.dl_thread.specs.Sight.{Lays}
-use Rattle.spec_engine.specs.Flights.{AreInside}
+use Rattle.spec_isa.specs.Inside.{AreInside}
 use Rattle.dl_serial.specs.Overlays.{sight_of, with_word}
 
 pub first_inside : (size : ℕ) (ws : List Stored) (s : Stored) → slice_get ws 0 ≡ Some s → AreInside size ws → 4 * s.number + 4 ≤ size

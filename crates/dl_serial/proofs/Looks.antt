@@ -16,7 +16,7 @@ use Rattle.dl_thread.specs.declared.answer.Did.{Did}
 use Rattle.dl_thread.specs.Sight.{Sight}
 use Rattle.dl_thread.specs.Answer.{did, fetched_word, load_made, store_made, unless_serial, has_room as sight_room, fetch_read, load_read, MayRead, MayWrite}
 use Rattle.spec_strata.specs.Footprints.{is_loaded, looks_at, looks}
-use Rattle.spec_strata.proofs.Local.Running.{one-outcome, serial_outcome}
+use Rattle.spec_play.proofs.Local.Running.{one-outcome, serial_outcome}
 use Rattle.spec_strata.proofs.Local.Stopping.{looks-stays}
 use Rattle.dl_serial.specs.declared.looked.Looked.{Looked}
 use Rattle.dl_serial.specs.Overlays.{sight_of}

@@ -18,7 +18,7 @@ use Rattle.spec_play.specs.Turns.{TurnOrEnd, Turn, TurnOfDma, Ended}
 use Rattle.spec_play.specs.Transfers.{DmaVerdict, DmaGoes, DmaFails, dma_verdict}
 use Rattle.spec_play.specs.Verdicts.{LogVerdict, Goes, Fails, TakenRecord, given, interrupt_at, served_verdict, serial_verdict}
 use Rattle.spec_play.specs.Plays.{Played, opened, settled, dma_settled, size_or_standard, thread_verdict, play_thread, play_turn, play_one, plays}
-use Rattle.spec_protocol.specs.promises.Sound.{IsSoundIf}
+use Rattle.spec_sphere.specs.promises.Sound.{IsSoundIf}
 use Rattle.dl_replay.proofs.Requests.{serve-request}
 use Rattle.dl_serial.proofs.Goes.{chunk-left, interrupted-like, unless-goes}
 

@@ -8,12 +8,12 @@ use Rattle.spec_isa.specs.Instruction.{InstructionOutcome, Next, Serial, one, un
 use Rattle.spec_isa.specs.Runs.{Run, run_start, followed, run, with_store}
 use Rattle.spec_kernel.specs.Needs.{next_kind}
 use Rattle.spec_isa.proofs.MemoryLaws.{length_lays}
-use Rattle.spec_engine.specs.Flights.{AreInside}
-use Rattle.spec_protocol.specs.promises.Sound.{AreSoundWords}
-use Rattle.spec_protocol.proofs.Memory.Running.{one_serial}
-use Rattle.spec_protocol.proofs.PlayingBack.Verdicts.{run-stops}
-use Rattle.spec_protocol.proofs.Sound.Words.{put-length, sound-none}
-use Rattle.spec_protocol.proofs.Sound.Chunks.{next-store, with-words}
+use Rattle.spec_isa.specs.Inside.{AreInside}
+use Rattle.spec_sphere.specs.promises.Sound.{AreSoundWords}
+use Rattle.spec_play.proofs.Local.Running.{one_serial}
+use Rattle.spec_sphere.proofs.PlayingBack.Verdicts.{run-stops}
+use Rattle.spec_sphere.proofs.Sound.Words.{put-length, sound-none}
+use Rattle.spec_sphere.proofs.Sound.Instructions.{next-store, with-words}
 use Rattle.dl_serial.specs.Chunks.{HasRun, chunk_of}
 use Rattle.dl_serial.specs.declared.chunk.Chunk.{Chunk}
 

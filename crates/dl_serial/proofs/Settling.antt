@@ -20,7 +20,7 @@ use Rattle.spec_play.specs.Transfers.{DmaVerdict, DmaGoes, DmaFails}
 use Rattle.spec_play.specs.Verdicts.{LogVerdict, Fails}
 use Rattle.spec_play.proofs.Going.{turn-lives}
 use Rattle.spec_play.proofs.Positions.{position-more}
-use Rattle.spec_protocol.specs.promises.Sound.{IsSoundIf, IsSoundIf}
+use Rattle.spec_sphere.specs.promises.Sound.{IsSoundIf, IsSoundIf}
 use Rattle.spec_query.specs.Stores.{words_gone, words_transferred}
 use Rattle.dl_kernel.specs.States.{PlayState as State}
 use Rattle.dl_kernel.specs.InOrder.{listed}

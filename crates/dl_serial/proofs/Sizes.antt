@@ -12,10 +12,10 @@ use Rattle.spec_play.specs.declared.used.Used.{Used}
 use Rattle.spec_play.specs.Turns.{TurnOrEnd, Turn, TurnOfDma, Ended}
 use Rattle.spec_play.specs.Verdicts.{chunk_verdict}
 use Rattle.spec_play.specs.Plays.{Played, size_or_standard, thread_verdict}
-use Rattle.spec_protocol.specs.machine.Spheres.{Cursor, Replay, whole_limit, pieces_of, limit_of}
-use Rattle.spec_protocol.proofs.Moves.Threads.{run-keeps}
-use Rattle.spec_protocol.proofs.PlayingBack.Verdicts.{run-first}
-use Rattle.spec_protocol.proofs.PlayingBack.Sizes.{size_by, size-is, limit_by, limit-is, not-serial}
+use Rattle.spec_sphere.specs.sphere.Spheres.{Cursor, Replay, whole_limit, pieces_of, limit_of}
+use Rattle.spec_sphere.proofs.Moves.Threads.{run-keeps}
+use Rattle.spec_sphere.proofs.PlayingBack.Verdicts.{run-first}
+use Rattle.spec_sphere.proofs.PlayingBack.Sizes.{size_by, size-is, limit_by, limit-is, not-serial}
 
 -- ---- the limit
 

@@ -17,7 +17,7 @@ use Rattle.spec_play.specs.Turns.{Ended}
 use Rattle.spec_play.specs.Verdicts.{interrupt_at}
 use Rattle.spec_play.specs.Walks.{Walked, walked_at, is_looked_at}
 use Rattle.spec_play.proofs.Going.{over-stays}
-use Rattle.spec_protocol.specs.promises.Sound.{IsSoundIf}
+use Rattle.spec_sphere.specs.promises.Sound.{IsSoundIf}
 use Rattle.spec_tail.specs.Later.{dmas_passed, has_more_left, log_later, play_later, raised_at, walked_left}
 use Rattle.spec_tail.specs.Playing.{Raised, led_by, raised_first, raised, uncounted, begun_play, log_since, walked, walked_since}
 use Rattle.spec_tail.specs.Tails.{Tail, IsTail, IsRequest}

@@ -14,13 +14,13 @@ use Rattle.spec_play.specs.Transfers.{dma_verdict}
 use Rattle.spec_play.specs.Verdicts.{LogVerdict, chunk_verdict, serial_verdict}
 use Rattle.spec_play.specs.Plays.{Played, settled, dma_settled, thread_verdict, play_thread, play_turn, play_one, plays}
 use Rattle.spec_play.proofs.Going.{plays-stay}
-use Rattle.spec_protocol.specs.machine.Spheres.{whole_limit}
+use Rattle.spec_sphere.specs.sphere.Spheres.{whole_limit}
 use Rattle.dl_replay.specs.Following.{Following, end_of}
 use Rattle.spec_query.specs.declared.Store.{Store}
 use Rattle.spec_query.specs.Stores.{words_gone, words_transferred, thread_words, stores_of, turn_stores, next_stores, stores}
 use Rattle.dl_serial.specs.Playing.{Playing, HaveCome, advanced, played_in, played_more}
 use Rattle.dl_serial.specs.declared.sphere.Sphere.{Sphere}
-use Rattle.spec_protocol.proofs.PlayingBack.Sizes.{serial-turn}
+use Rattle.spec_sphere.proofs.PlayingBack.Sizes.{serial-turn}
 use Rattle.dl_serial.proofs.Sizes.{chunk-turn}
 
 -- ---- turns

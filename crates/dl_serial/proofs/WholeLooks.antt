@@ -10,10 +10,10 @@ use Rattle.spec_log.specs.declared.LogParts.{LogParts}
 use Rattle.spec_log.specs.Size.{size_in}
 use Rattle.spec_play.specs.Turns.{Turn}
 use Rattle.spec_play.specs.Plays.{Played, size_or_standard}
-use Rattle.spec_protocol.specs.machine.Spheres.{whole_limit}
-use Rattle.spec_protocol.proofs.PlayingBack.Sizes.{size_by, size-is, limit_by, limit-is}
+use Rattle.spec_sphere.specs.sphere.Spheres.{whole_limit}
+use Rattle.spec_sphere.proofs.PlayingBack.Sizes.{size_by, size-is, limit_by, limit-is}
 use Rattle.spec_query.specs.declared.Store.{Store}
-use Rattle.spec_engine.specs.Flights.{AreInside}
+use Rattle.spec_isa.specs.Inside.{AreInside}
 use Rattle.spec_strata.specs.Footprints.{looks}
 use Rattle.dl_serial.specs.declared.footprint.Footprint.{Footprint}
 use Rattle.dl_serial.specs.Looks.{has, IsFootprint}

@@ -7,7 +7,7 @@ use Rattle.spec_log.specs.declared.LogParts.{LogParts}
 use Rattle.spec_play.specs.Progress.{Progress, position}
 use Rattle.spec_play.specs.Turns.{Turn}
 use Rattle.spec_play.specs.Plays.{Played, play_one, plays, size_or_standard}
-use Rattle.spec_protocol.specs.promises.Sound.{IsSoundIf}
+use Rattle.spec_sphere.specs.promises.Sound.{IsSoundIf}
 use Rattle.spec_query.specs.declared.Store.{Store}
 use Rattle.spec_query.specs.Stores.{next_stores, stores, stores_of}
 use Rattle.dl_kernel.specs.declared.past.Past.{Past}

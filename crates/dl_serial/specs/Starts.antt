@@ -3,7 +3,7 @@ use Rattle.std.specs.Prelude.{length}
 use Rattle.spec_log.specs.declared.LogParts.{LogParts}
 use Rattle.spec_play.specs.Resuming.{IsBounded}
 use Rattle.spec_play.specs.States.{State}
-use Rattle.spec_protocol.specs.promises.Sound.{IsSoundIf}
+use Rattle.spec_sphere.specs.promises.Sound.{IsSoundIf}
 
 -- the state passes no bound of the log, and its request is a sound one; it need not be of the log's own play
 pub record CanGoOn (log : LogParts) (s : State) : Type 0 where

@@ -3,7 +3,7 @@ ghost use Rattle.std.specs.Prelude.{◌≡◌, ◌+◌, ◌≤◌, ◌++◌, ◌
 ghost use Rattle.spec_isa.specs.declared.thread.Parts.{Parts};
 ghost use Rattle.spec_isa.specs.Runs.{Run};
 ghost use Rattle.spec_isa.specs.Words.{lays};
-ghost use Rattle.spec_engine.specs.Flights.{AreInside};
+ghost use Rattle.spec_isa.specs.Inside.{AreInside};
 ghost use Rattle.spec_play.specs.Progress.{position};
 ghost use Rattle.spec_play.specs.Turns.{Turn, TurnOfDma};
 ghost use Rattle.spec_play.specs.Verdicts.{chunk_verdict, serial_verdict};

@@ -1,7 +1,7 @@
 //! A memory with a chunk's own stores over it: the view that the chunk runs on.
 ghost use Rattle.std.specs.Prelude.{◌≡◌, ◌≤◌, ◌/◌, [], length};
 ghost use Rattle.spec_isa.specs.Words.{lays, read};
-ghost use Rattle.spec_engine.specs.Flights.{AreInside};
+ghost use Rattle.spec_isa.specs.Inside.{AreInside};
 ghost use Rattle.dl_thread.specs.Answer.{after, did, store_laid, store_made, thread_next};
 ghost use Rattle.dl_thread.specs.Sight.{IsWord};
 ghost use Rattle.dl_serial.specs.Overlays.{sight_of, with_store};

@@ -1,7 +1,7 @@
 //! The stores of a walk, noted commit by commit.
 ghost use Rattle.std.specs.Prelude.{◌≡◌, ◌≤◌, ◌+◌, ◌*◌, ◌++◌, length, OnOk};
 ghost use Rattle.spec_isa.specs.Words.{lay, IsBytes};
-ghost use Rattle.spec_engine.specs.Flights.{AreInside};
+ghost use Rattle.spec_isa.specs.Inside.{AreInside};
 ghost use Rattle.spec_query.specs.Stores.{store_of, stores_of};
 
 use dl_entry::{Actor, OutOfMemory};

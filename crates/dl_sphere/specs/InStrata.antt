@@ -4,7 +4,7 @@ use Rattle.std.specs.List.{sum}
 use Rattle.dl_entry.specs.declared.Actor.{Actor}
 use Rattle.dl_entry.specs.declared.Commit.{Commit}
 use Rattle.spec_play.specs.Turns.{TurnOrEnd}
-use Rattle.spec_protocol.specs.machine.Spheres.{actor_of}
+use Rattle.spec_sphere.specs.sphere.Spheres.{actor_of}
 use Rattle.spec_strata.specs.declared.stratum.Stratum.{Stratum}
 use Rattle.spec_strata.specs.declared.stratum.Stratum.TheVariants.{Chunks, Serial, Dma}
 use Rattle.spec_strata.specs.Standing.{Standing, head_standing, place_of}

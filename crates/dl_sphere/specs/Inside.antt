@@ -1,6 +1,6 @@
 -- The sphere that the code keeps.
-use Rattle.spec_protocol.specs.machine.Spheres as protocol
-use Rattle.spec_protocol.specs.machine.Spheres.{Sphere, Cursor}
+use Rattle.spec_sphere.specs.sphere.Spheres as protocol
+use Rattle.spec_sphere.specs.sphere.Spheres.{Sphere, Cursor}
 use Rattle.dl_kernel.specs.declared.past.Past.{Past}
 use Rattle.dl_replay.specs.Following.{cursor_of}
 use Rattle.dl_replay.specs.Replays.{IsReplaying}

@@ -6,11 +6,10 @@ use Rattle.spec_engine.specs.declared.answers.How.{How}
 use Rattle.spec_engine.specs.Chunks.{Chunk}
 use Rattle.spec_kernel.specs.Devices.{Devices}
 use Rattle.spec_play.specs.Turns.{Turn, TurnOfDma}
-use Rattle.spec_protocol.specs.machine.Spheres.{Cursor, Role, Plain, Record, Replay, Sphere, is_over, joins_in, limit_in, whole_limit}
-use Rattle.spec_protocol.specs.machine.Placing.{replays}
-use Rattle.spec_protocol.specs.machine.Asking.{is_short}
-use Rattle.spec_protocol.specs.machine.Commits as commits
-use Rattle.spec_protocol.specs.machine.Commits.{is_piece}
+use Rattle.spec_sphere.specs.sphere.Spheres.{Cursor, Role, Plain, Record, Replay, Sphere, is_over, joins_in, limit_in, whole_limit}
+use Rattle.spec_sphere.specs.sphere.Spheres.{replays}
+use Rattle.spec_engine.specs.Closing.{is_short, is_piece}
+use Rattle.spec_sphere.specs.sphere.Commits as commits
 use Rattle.dl_sphere.specs.declared.moved.DmaSize.{DmaSize}
 use Rattle.dl_sphere.specs.declared.moved.Moved.{Moved}
 

@@ -3,7 +3,7 @@ use Rattle.std.specs.Prelude.{ℕ, List, Option}
 use Rattle.dl_entry.specs.declared.Commit.{Commit}
 use Rattle.dl_entry.specs.declared.Request.{Request}
 use Rattle.spec_isa.specs.declared.thread.Parts.{Parts}
-use Rattle.spec_protocol.specs.machine.Spheres.{Sphere, Role}
+use Rattle.spec_sphere.specs.sphere.Spheres.{Sphere, Role}
 use Rattle.dl_kernel.specs.declared.past.Past.{Past}
 use Rattle.dl_kernel.specs.InOrder.{listed}
 

@@ -4,9 +4,9 @@ use Rattle.dl_entry.specs.declared.Actor.{Actor}
 use Rattle.dl_entry.specs.declared.End.{End}
 use Rattle.dl_entry.specs.declared.Request.{Request}
 use Rattle.spec_log.specs.declared.LogParts.{LogParts}
-use Rattle.spec_protocol.specs.machine.Spheres.{Role, Plain, Record, Replay, joins_in}
+use Rattle.spec_sphere.specs.sphere.Spheres.{Role, Plain, Record, Replay, joins_in}
 use Rattle.spec_play.specs.Transfers.{DmaGoes}
-use Rattle.spec_protocol.specs.machine.Commits.{MovedSphere}
+use Rattle.spec_sphere.specs.sphere.Commits.{MovedSphere}
 use Rattle.dl_replay.specs.Following.{end_of}
 use Rattle.dl_replay.specs.Left.{Stores}
 use Rattle.dl_sphere.specs.declared.moved.DmaSize.{DmaSize}

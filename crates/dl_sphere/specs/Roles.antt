@@ -5,8 +5,8 @@ use Rattle.dl_entry.specs.declared.Input.{Input}
 use Rattle.dl_entry.specs.Numbers.{most_threads, plain_threads}
 use Rattle.spec_play.specs.Progress.{position}
 use Rattle.spec_play.specs.declared.used.Used.{Used}
-use Rattle.spec_protocol.specs.machine.Spheres as protocol
-use Rattle.spec_protocol.specs.promises.Sound.{AreFresh, IsChunkSize, IsSoundIf, commits_in}
+use Rattle.spec_sphere.specs.sphere.Spheres as protocol
+use Rattle.spec_sphere.specs.promises.Sound.{AreFresh, IsChunkSize, IsSoundIf, commits_in}
 use Rattle.dl_kernel.specs.InOrder.{listed}
 use Rattle.dl_record.specs.Epochs.{InEpochs, base}
 use Rattle.spec_play.specs.Noted.{as_log}

@@ -10,10 +10,10 @@ use Rattle.spec_play.specs.Progress.{position}
 use Rattle.spec_play.specs.Plays.{Played}
 use Rattle.spec_play.specs.States.{state_of}
 use Rattle.spec_play.specs.Turns.{Ended}
-use Rattle.spec_protocol.specs.machine.Machine as protocol
-use Rattle.spec_protocol.specs.machine.Machine.{first_played}
-use Rattle.spec_protocol.specs.machine.Spheres as machine
-use Rattle.spec_protocol.specs.promises.Sound.{AreReplayableIf, IsRecordable}
+use Rattle.spec_sphere.specs.sphere.Setups as protocol
+use Rattle.spec_sphere.specs.sphere.Setups.{first_played}
+use Rattle.spec_sphere.specs.sphere.Spheres as machine
+use Rattle.spec_sphere.specs.promises.Sound.{AreReplayableIf, IsRecordable}
 use Rattle.spec_strata.specs.declared.stratum.Stratum.{Stratum}
 use Rattle.spec_strata.specs.declared.strata.StrataParts.{StrataParts}
 use Rattle.spec_strata.specs.Canonical.{canonical}

@@ -1,6 +1,6 @@
 -- A sphere of the definitions, with the standard size of the plan's chunks.
 use Rattle.std.specs.Prelude.{ℕ}
-use Rattle.spec_protocol.specs.machine.Spheres.{Sphere}
+use Rattle.spec_sphere.specs.sphere.Spheres.{Sphere}
 
 pub record SizedSphere : Type 0 where
   pub s : ℕ

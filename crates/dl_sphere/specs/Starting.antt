@@ -6,8 +6,8 @@ use Rattle.spec_play.specs.Noted.{nothing_recorded}
 use Rattle.spec_play.specs.Plays.{Played}
 use Rattle.spec_play.specs.Progress.{nothing_used, position}
 use Rattle.spec_play.specs.States.{State, state_of}
-use Rattle.spec_protocol.specs.machine.Machine.{RecordSetup, ReplaySetup, RoleSetup, IsPlain, IsRecorded, IsReplayed, SphereSetup}
-use Rattle.spec_protocol.specs.machine.Machine.{first_played, first_standing, first_threads, new_epochs}
+use Rattle.spec_sphere.specs.sphere.Setups.{RecordSetup, ReplaySetup, RoleSetup, IsPlain, IsRecorded, IsReplayed, SphereSetup}
+use Rattle.spec_sphere.specs.sphere.Setups.{first_played, first_standing, first_threads, new_epochs}
 use Rattle.dl_record.specs.Epochs.{InEpochs}
 use Rattle.dl_replay.specs.Following.{Following, diverged, followed_from}
 use Rattle.dl_replay.specs.Replays.{IsReplaying}

@@ -2,10 +2,10 @@
 ghost use Rattle.std.specs.Prelude.{◌≡◌, ◌+◌, ◌++◌, IfOk, OnOk, map, Some};
 ghost use Rattle.spec_engine.specs.declared.answers.How.{How};
 ghost use Rattle.spec_play.specs.Effects.{chunk_commit, entry_of};
-ghost use Rattle.spec_protocol.specs.machine.Commits.{is_piece, joined};
-ghost use Rattle.spec_protocol.specs.machine.Spheres.{Cursor};
-ghost use Rattle.spec_protocol.specs.machine.Asking.{is_short};
-ghost use Rattle.spec_protocol.specs.promises.Sound.{commits_in};
+ghost use Rattle.spec_engine.specs.Closing.{is_piece, is_short};
+ghost use Rattle.spec_sphere.specs.sphere.Commits.{joined};
+ghost use Rattle.spec_sphere.specs.sphere.Spheres.{Cursor};
+ghost use Rattle.spec_sphere.specs.promises.Sound.{commits_in};
 
 use dl_chunk::Chunk;
 use dl_entry::{Commit, Load, Loads, OutOfMemory};

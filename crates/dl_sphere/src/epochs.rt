@@ -1,8 +1,8 @@
 //! The state in which an epoch of a recorded sphere begins.
 ghost use Rattle.std.specs.Prelude.{◌≡◌, length, IfOk, OnOk};
 ghost use Rattle.spec_isa.specs.Words.{lays};
-ghost use Rattle.spec_engine.specs.Flights.{AreInside};
-ghost use Rattle.spec_protocol.specs.machine.Shown.{flying, words_of};
+ghost use Rattle.spec_isa.specs.Inside.{AreInside};
+ghost use Rattle.spec_engine.specs.Flying.{flying, words_of};
 ghost use Rattle.dl_sphere.specs.Begins.{state_over};
 
 use dl_entry::OutOfMemory;

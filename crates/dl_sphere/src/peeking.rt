@@ -2,7 +2,7 @@
 ghost use Rattle.std.specs.Prelude.{◌≡◌, ◌^◌, IfOk, IfSome, IsSome, min, length, Some, None, []};
 ghost use Rattle.spec_kernel.specs.Answers.{dma_bytes};
 ghost use Rattle.spec_kernel.specs.Copies.{dma_words};
-ghost use Rattle.spec_protocol.specs.promises.Sound.{IsSoundIf};
+ghost use Rattle.spec_sphere.specs.promises.Sound.{IsSoundIf};
 
 use dl_dev::Devices;
 use dl_entry::{OutOfMemory, Request};

@@ -4,12 +4,11 @@ ghost use Rattle.spec_isa.specs.declared.thread.Parts.{Parts};
 ghost use Rattle.spec_engine.specs.Flights.{IsInside, at, drain};
 ghost use Rattle.spec_kernel.specs.Devices.{Devices};
 ghost use Rattle.spec_play.specs.Progress.{position};
-ghost use Rattle.spec_protocol.specs.machine.Commits.{MovedSphere, dma_moved};
-ghost use Rattle.spec_protocol.specs.machine.Placing.{replays};
-ghost use Rattle.spec_protocol.specs.promises.Alike.{epochs_in};
-ghost use Rattle.spec_protocol.specs.promises.Kept.{has_due};
-ghost use Rattle.spec_protocol.specs.promises.Sound.{IsChunkSize};
-ghost use Rattle.spec_protocol.specs.machine.Spheres.{head_of, is_stopped, halves, is_in_pieces, turn_against};
+ghost use Rattle.spec_sphere.specs.sphere.Commits.{MovedSphere, dma_moved};
+ghost use Rattle.spec_sphere.specs.sphere.Spheres.{replays, head_of, is_stopped, halves, is_in_pieces, turn_against};
+ghost use Rattle.spec_sphere.specs.promises.Alike.{epochs_in};
+ghost use Rattle.spec_sphere.specs.promises.Kept.{has_due};
+ghost use Rattle.spec_sphere.specs.promises.Sound.{IsChunkSize};
 ghost use Rattle.dl_fly.specs.Slots.{set_slot};
 ghost use Rattle.dl_kernel.specs.InOrder.{listed};
 ghost use Rattle.dl_kernel.specs.States.{state_in};
@@ -39,7 +38,7 @@ use spec_log::{Log, ModeName};
 impl Sphere {
     /// How many instructions a chunk of a thread may run that begins now: one of the thread's present commit, or one of the
     /// commit after that.
-    #[tactic(auto, unfolding(spec_protocol::specs::machine::Spheres::limit_of, spec_protocol::specs::machine::Spheres::limit_after))]
+    #[tactic(auto, unfolding(spec_sphere::specs::sphere::Spheres::limit_of, spec_sphere::specs::sphere::Spheres::limit_after))]
     pub fn limit(&self, thread: u8, after: bool) -> u32
         ensures value { (t : Parts) → slice_get self.now.sphere.threads thread ≡ Some t →
             result ≡ chunk_limit after self.now.s self.now.sphere.role thread t }
@@ -67,7 +66,7 @@ impl Sphere {
     }
 
     /// The actor whose turn it is to commit, where not every one may.
-    #[tactic(auto, unfolding(spec_protocol::specs::machine::Spheres::head_of))]
+    #[tactic(auto, unfolding(spec_sphere::specs::sphere::Spheres::head_of))]
     pub fn head(&self) -> Option<Actor>
         ensures { result ≡ head_of self.now.sphere }
     {
@@ -83,7 +82,7 @@ impl Sphere {
 
     /// Whether an actor may commit now in a replay that goes on: it has the turn, or in strata it has chunks left in the
     /// present one.
-    #[tactic(auto, unfolding(spec_protocol::specs::machine::Spheres::turn_against))]
+    #[tactic(auto, unfolding(spec_sphere::specs::sphere::Spheres::turn_against))]
     pub fn takes(&self, actor: Actor) -> bool
         requires replays { replays self.now.sphere.role ≡ true }
         requires going { is_stopped self.now.sphere.role ≡ false }
@@ -247,7 +246,7 @@ impl Sphere {
 
     /// How many bytes a DMA would store after its count, where so many of the input are left; or why the replay leaves
     /// its log there.
-    #[tactic(auto, unfolding(spec_protocol::specs::machine::Commits::dma_moved))]
+    #[tactic(auto, unfolding(spec_sphere::specs::sphere::Commits::dma_moved))]
     pub fn dma_size(&self, input_left: u32) -> DmaSize
         requires { replays self.now.sphere.role ≡ true ⊎ IsSome self.now.sphere.progress.request }
         ensures bytes { (d : Devices) → length d.input ≡ input_left →
@@ -267,7 +266,7 @@ impl Sphere {
     }
 
     /// The words that a DMA would store: none where the replay leaves its log there, or none is asked for.
-    #[tactic(auto, unfolding(spec_protocol::specs::machine::Commits::dma_moved))]
+    #[tactic(auto, unfolding(spec_sphere::specs::sphere::Commits::dma_moved))]
     pub fn dma_words(&self, devices: &Devices) -> Result<Buffer, OutOfMemory>
         ensures words { IfOk result (λ words. (v : MovedSphere) → dma_moved devices.now self.now.sphere ≡ Some v → words.words ≡ v.words) }
         ensures none { IfOk result (λ words. dma_moved devices.now self.now.sphere ≡ None → words.words ≡ []) }

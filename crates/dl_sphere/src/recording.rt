@@ -6,7 +6,7 @@ ghost use Rattle.spec_log.specs.Log.{IsInput, AreFewBytes};
 ghost use Rattle.spec_log.specs.Versions.{IsVersion, IsStandard, new_threads};
 ghost use Rattle.spec_play.specs.Epochs.{commits_of as had_done};
 ghost use Rattle.spec_play.specs.Noted.{as_log};
-ghost use Rattle.spec_protocol.specs.promises.Sound.{AreEpochsIf};
+ghost use Rattle.spec_sphere.specs.promises.Sound.{AreEpochsIf};
 ghost use Rattle.dl_kernel.specs.States.{state_in};
 ghost use Rattle.dl_record.specs.Epochs.{IsBegun, base, base_state, due_in, epoch_begun};
 ghost use Rattle.dl_record.specs.Recording.{in_epochs};

@@ -5,15 +5,14 @@ ghost use Rattle.spec_engine.specs.declared.answers.How.{How};
 ghost use Rattle.spec_kernel.specs.Devices.{Devices};
 ghost use Rattle.spec_kernel.specs.Interrupts.{takes_interrupt};
 ghost use Rattle.spec_isa.specs.Words.{lays};
-ghost use Rattle.spec_engine.specs.Flights.{AreInside};
+ghost use Rattle.spec_isa.specs.Inside.{AreInside};
 ghost use Rattle.spec_play.specs.Progress.{position};
-ghost use Rattle.spec_protocol.specs.machine.Asking.{is_short};
-ghost use Rattle.spec_protocol.specs.machine.Commits.{is_piece, chunk_moved, serial_moved, dma_moved, raised};
-ghost use Rattle.spec_protocol.specs.machine.Epochs.{epoch_begun};
-ghost use Rattle.spec_protocol.specs.machine.Placing.{replays};
-ghost use Rattle.spec_protocol.specs.machine.Shown.{flying};
-ghost use Rattle.spec_protocol.specs.promises.Kept.{has_due};
-ghost use Rattle.spec_protocol.specs.machine.Spheres.{head_of, is_stopped, halves};
+ghost use Rattle.spec_engine.specs.Closing.{is_short, is_piece};
+ghost use Rattle.spec_sphere.specs.sphere.Commits.{chunk_moved, serial_moved, dma_moved, raised};
+ghost use Rattle.spec_sphere.specs.sphere.Epochs.{epoch_begun};
+ghost use Rattle.spec_sphere.specs.sphere.Spheres.{replays, head_of, is_stopped, halves};
+ghost use Rattle.spec_engine.specs.Flying.{flying};
+ghost use Rattle.spec_sphere.specs.promises.Kept.{has_due};
 ghost use Rattle.dl_sphere.specs.Moving.{came, CanCommit, IsTurnOf, IsTurnOfDma};
 ghost use Rattle.dl_sphere.specs.Setups.{standard_in};
 ghost use Rattle.dl_sphere.specs.SizedSpheres.{with_sphere};
@@ -56,7 +55,7 @@ impl Model for Sphere {
 
 impl Sphere {
     /// Commits the closed chunk of a thread, whole or as a piece of a replayed commit, unless the replay leaves its log.
-    #[tactic(auto, unfolding(spec_protocol::specs::machine::Commits::chunk_moved))]
+    #[tactic(auto, unfolding(spec_sphere::specs::sphere::Commits::chunk_moved))]
     pub fn commit_chunk<G: Sig>(
         &mut self,
         thread: u8,

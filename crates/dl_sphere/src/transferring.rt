@@ -3,7 +3,7 @@ ghost use Rattle.std.specs.Prelude.{◌≡◌, ◌^◌, None, Some, false, IfOk,
 ghost use Rattle.spec_kernel.specs.Answers.{dma_bytes, dma_taken};
 ghost use Rattle.spec_kernel.specs.Copies.{dma_words};
 ghost use Rattle.spec_play.specs.Effects.{dma_commit};
-ghost use Rattle.spec_protocol.specs.promises.Sound.{IsSoundRequest};
+ghost use Rattle.spec_sphere.specs.promises.Sound.{IsSoundRequest};
 ghost use Rattle.dl_sphere.specs.Roles.{keeping_of, with_noted, CanNote};
 
 use crate::part::{Part, note};

@@ -1,12 +1,12 @@
 -- Flights: commits whose stores are still being made visible, each in its slot.
-use Rattle.std.specs.Prelude.{ℕ, zero, suc, ◌+◌, ◌*◌, ◌≤◌, ◌≡◌, ◌/◌, ◌%◌, ◌^◌, Bool, true, false, ◌&&◌, ◌||◌, nat_eq, List, [], ◌∷◌, Option, Some}
-use Rattle.std.specs.Prelude.{None, bit_or, if◌then◌else◌, slice_set, slice_index_or}
+use Rattle.std.specs.Prelude.{ℕ, zero, suc, ◌≡◌, ◌/◌, ◌%◌, ◌^◌, Bool, true, false, ◌&&◌, ◌||◌, nat_eq, List, [], ◌∷◌, Option, Some, None, bit_or, if◌then◌else◌, slice_set, slice_index_or}
 use Rattle.std.specs.List.{position}
 use Rattle.spec_isa.specs.Words.{Stored, lay}
 use Rattle.spec_engine.specs.declared.answers.Drain.{Drain}
 use Rattle.spec_engine.specs.declared.answers.Deliver.{Deliver}
 use Rattle.spec_engine.specs.declared.answers.Retire.{Retire}
 use Rattle.spec_engine.specs.Signatures.{Signature, covers, hits}
+use Rattle.spec_isa.specs.Inside.{AreInside}
 
 -- the sphere, the words left in the order of their first store, the lines stored to, and the cores told: bit c stands for core c
 pub record Flight : Type 0 where
@@ -139,11 +139,6 @@ IsOfSize bits (Some f) = f.writes.bits ≡ bits
 -- the same for every slot
 pub record AreOfSize (bits : ℕ) (slots : List (Option Flight)) : Type 0 where
   pub each : (k : ℕ) → IsOfSize bits (at slots k)
-
--- each of these words lies in a memory of that size
-abbrev pub AreInside : (size : ℕ) → List Stored → Type 0
-AreInside size [] = Unit {0}
-AreInside size (s ∷ ss) = (4 * s.number + 4 ≤ size) × AreInside size ss
 
 -- if there is a flight, each of the words that it has left does
 abbrev pub IsInside : (size : ℕ) → Option Flight → Type 0

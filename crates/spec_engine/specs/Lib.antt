@@ -4,3 +4,5 @@ pub mod Choices
 pub mod Chunks
 pub mod Asking
 pub mod Laws
+pub mod Closing
+pub mod Flying

@@ -1,10 +1,11 @@
 -- Worlds that are alike, so that they differ only in what their recordings in epochs have given up, finish by the same events.
 use Rattle.std.proofs.Common.{◌≡◌, ℕ, suc, List, [], ◌∷◌, map, Option, Some, None, refl, sym, ap, ◌∙◌}
 use Rattle.dl_entry.specs.declared.Actor.{Actor}
-use Rattle.spec_protocol.specs.machine.Spheres.{Role, Plain, Record, Replay, Sphere}
+use Rattle.spec_sphere.specs.sphere.Spheres.{Role, Plain, Record, Replay, Sphere}
 use Rattle.spec_protocol.specs.machine.World.{World}
 use Rattle.spec_protocol.specs.machine.Finishing.{SphereTurn, turn_of_role, least, for_actor, for_turn, for_standing, next, standing}
-use Rattle.spec_protocol.specs.promises.Alike.{forgotten, all_forgotten, role_without, AreAlike}
+use Rattle.spec_sphere.specs.promises.Alike.{forgotten, role_without}
+use Rattle.spec_protocol.specs.promises.Alike.{all_forgotten, AreAlike}
 
 who_without : (i n : ℕ) (r : Role) (others : Option SphereTurn) → turn_of_role i (role_without n r) others ≡ turn_of_role i r others
 who_without i n Plain others = refl

@@ -26,12 +26,13 @@ use Rattle.spec_engine.specs.Chunks.{at_limit, reading, storing, loading, runnin
 use Rattle.spec_engine.specs.Flights.{first_slot, free_slot}
 use Rattle.spec_engine.specs.Signatures.{meets}
 use Rattle.spec_protocol.specs.machine.Asking.{grant_chunk, grant_serial, asking}
-use Rattle.spec_protocol.specs.machine.Commits.{chunk_moved, serial_moved, dma_moved, raised}
+use Rattle.spec_sphere.specs.sphere.Commits.{chunk_moved, serial_moved, dma_moved, raised}
 use Rattle.spec_protocol.specs.machine.Finishing.{next, Finishes}
 use Rattle.spec_protocol.specs.machine.Flying.{draining, delivering, retiring}
-use Rattle.spec_protocol.specs.machine.Machine.{ReplaySetup, all_of, in_strata, IsReplayed, Setup, world_of, act, happens, world_after}
+use Rattle.spec_sphere.specs.sphere.Setups.{ReplaySetup, all_of, in_strata, IsReplayed}
+use Rattle.spec_protocol.specs.machine.Machine.{Setup, world_of, act, happens, world_after}
 use Rattle.spec_protocol.specs.machine.Placing.{placing, raising}
-use Rattle.spec_protocol.specs.machine.Spheres.{head_of, turn_against, limit_of}
+use Rattle.spec_sphere.specs.sphere.Spheres.{head_of, turn_against, limit_of}
 use Rattle.spec_protocol.specs.machine.Stepping.{stepping, cutting}
 use Rattle.spec_protocol.specs.machine.Transferring.{transfer, transferring}
 use Rattle.spec_play.proofs.Programs.{image}

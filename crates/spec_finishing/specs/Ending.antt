@@ -3,14 +3,14 @@ use Rattle.std.specs.Prelude.{◌≡◌, ℕ, ◌+◌, ◌*◌, ◌<◌, ◌≤�
 use Rattle.spec_engine.specs.Flights.{at}
 use Rattle.spec_protocol.specs.declared.event.Event.{Event}
 use Rattle.spec_protocol.specs.declared.reply.Reply.{Reply}
-use Rattle.spec_protocol.specs.machine.Spheres.{Role, Plain, Record, Replay, Sphere, is_over}
+use Rattle.spec_sphere.specs.sphere.Spheres.{Role, Plain, Record, Replay, Sphere, is_over, replays}
 use Rattle.spec_protocol.specs.machine.World.{World, Move, sphere_at}
-use Rattle.spec_protocol.specs.machine.Placing.{replays}
-use Rattle.spec_protocol.specs.machine.Machine.{ReplaySetup, IsReplayed, SphereSetup, Setup, world_of, happens, world_after, moves}
+use Rattle.spec_sphere.specs.sphere.Setups.{ReplaySetup, IsReplayed, SphereSetup}
+use Rattle.spec_protocol.specs.machine.Machine.{Setup, world_of, happens, world_after, moves}
 use Rattle.spec_protocol.specs.machine.Serial.{serial_start}
 use Rattle.spec_protocol.specs.machine.Finishing.{Finishes}
 use Rattle.spec_protocol.specs.promises.Promises.{IsSetup, after}
-use Rattle.spec_protocol.specs.promises.Sound.{AreReplayableIf}
+use Rattle.spec_sphere.specs.promises.Sound.{AreReplayableIf}
 use Rattle.spec_finishing.specs.Work.{plays_work, moves_work}
 use Rattle.spec_finishing.specs.Rank.{potential, under_way, rank}
 

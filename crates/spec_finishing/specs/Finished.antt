@@ -6,8 +6,9 @@ use Rattle.spec_strata.specs.declared.strata.StrataParts.{StrataParts}
 use Rattle.spec_strata.specs.Canonical.{canonical}
 use Rattle.spec_strata.specs.OnImages.{IsParallelOn}
 use Rattle.spec_protocol.specs.declared.event.Event.{Event}
-use Rattle.spec_protocol.specs.machine.Spheres.{Cursor, Replay, Sphere}
-use Rattle.spec_protocol.specs.machine.Machine.{last_played, ReplaySetup, in_strata, IsReplayed, SphereSetup, Setup}
+use Rattle.spec_sphere.specs.sphere.Spheres.{Cursor, Replay, Sphere}
+use Rattle.spec_sphere.specs.sphere.Setups.{last_played, ReplaySetup, in_strata, IsReplayed, SphereSetup}
+use Rattle.spec_protocol.specs.machine.Machine.{Setup}
 use Rattle.spec_protocol.specs.machine.Finishing.{FinishesAfter}
 use Rattle.spec_protocol.specs.promises.Promises.{after}
 use Rattle.spec_replay.specs.Promises.{IsPlayed}

@@ -8,9 +8,10 @@ use Rattle.spec_strata.specs.Costs.{stratum_cost}
 use Rattle.spec_strata.specs.Standing.{Standing}
 use Rattle.spec_engine.specs.Flights.{Flight, at, told_at}
 use Rattle.spec_engine.specs.Chunks.{is_open}
-use Rattle.spec_protocol.specs.machine.Spheres.{Cursor, Role, Plain, Record, Replay, Sphere, is_over}
+use Rattle.spec_sphere.specs.sphere.Spheres.{Cursor, Role, Plain, Record, Replay, Sphere, is_over}
 use Rattle.spec_protocol.specs.machine.World.{World, Occupant, core_of}
-use Rattle.spec_protocol.specs.machine.Machine.{first_played, ReplaySetup, SphereSetup, Setup}
+use Rattle.spec_sphere.specs.sphere.Setups.{first_played, ReplaySetup, SphereSetup}
+use Rattle.spec_protocol.specs.machine.Machine.{Setup}
 use Rattle.spec_protocol.specs.machine.Finishing.{SphereTurn, least, standing}
 use Rattle.spec_finishing.specs.Work.{commits_work}
 

@@ -8,3 +8,4 @@ pub mod Operations
 pub mod Instruction
 pub mod Runs
 pub mod Threads
+pub mod Inside

@@ -11,3 +11,4 @@ pub mod Resuming
 pub mod Within
 pub mod Threads
 pub mod Bounds
+pub mod Local

@@ -14,3 +14,4 @@ pub mod States
 pub mod Resuming
 pub mod Intervals
 pub mod Epochs
+pub mod Touching

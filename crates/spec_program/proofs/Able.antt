@@ -7,8 +7,8 @@ use Rattle.dl_elf.specs.Images.{Image}
 use Rattle.dl_files.specs.Contents.{Contents}
 use Rattle.dl_plan.specs.Values.{RoleValues, Plain, Record, Replay, InStrata, SphereValues, PlanValues}
 use Rattle.spec_log.specs.Reading.{read_of}
-use Rattle.spec_protocol.specs.machine.Machine.{ReplaySetup, RoleSetup, IsReplayed, SphereSetup, in_strata}
-use Rattle.spec_protocol.specs.promises.Sound.{AreReplayableIf}
+use Rattle.spec_sphere.specs.sphere.Setups.{ReplaySetup, RoleSetup, IsReplayed, SphereSetup, in_strata}
+use Rattle.spec_sphere.specs.promises.Sound.{AreReplayableIf}
 use Rattle.spec_strata.specs.Checking.{StrataAnswer, Parallel, Unfit, Conflict, IsAnswer, answer_of}
 use Rattle.spec_strata.specs.OnImages.{IsParallelOn}
 use Rattle.spec_strata.specs.Reading as strata

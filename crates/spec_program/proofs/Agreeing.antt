@@ -7,7 +7,7 @@ use Rattle.dl_plan.specs.Values.{EpochValues}
 use Rattle.spec_log.specs.declared.LogParts.{LogParts}
 use Rattle.spec_log.specs.declared.fault.Fault.{Fault}
 use Rattle.spec_protocol.specs.machine.Logged.{sphere_in}
-use Rattle.spec_protocol.specs.machine.Machine.{RecordSetup, ReplaySetup, RoleSetup, IsRecorded, IsReplayed, SphereSetup, in_strata}
+use Rattle.spec_sphere.specs.sphere.Setups.{RecordSetup, ReplaySetup, RoleSetup, IsRecorded, IsReplayed, SphereSetup, in_strata}
 use Rattle.dl_account.specs.Account.{account_of}
 use Rattle.spec_play.specs.Walks.{Walked}
 use Rattle.spec_run.specs.Runs.{executed}

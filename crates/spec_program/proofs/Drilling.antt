@@ -4,7 +4,7 @@ use Rattle.std.specs.Prelude.{slice_get}
 use Rattle.std.proofs.lemmas.Option.{none-some, same_Some}
 use Rattle.spec_log.specs.declared.ModeName.{ModeName}
 use Rattle.spec_play.specs.Turns.{TurnOrEnd}
-use Rattle.spec_protocol.specs.machine.Machine.{ReplaySetup, IsRecorded, IsReplayed, SphereSetup}
+use Rattle.spec_sphere.specs.sphere.Setups.{ReplaySetup, IsRecorded, IsReplayed, SphereSetup}
 use Rattle.spec_finishing.specs.Ending.{CanFinish}
 use Rattle.spec_run.specs.Runs.{end_of, has_diverged}
 use Rattle.spec_run.specs.Texts.{account_text}

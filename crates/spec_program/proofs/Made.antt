@@ -8,8 +8,9 @@ use Rattle.dl_files.specs.Contents.{Contents}
 use Rattle.dl_plan.specs.Plans.{plan_of}
 use Rattle.spec_log.specs.declared.LogParts.{LogParts}
 use Rattle.spec_log.specs.declared.fault.Fault.{Fault}
-use Rattle.spec_protocol.specs.machine.Machine.{RoleSetup, IsReplayed, SphereSetup}
-use Rattle.spec_protocol.specs.promises.Sound.{no_image, image_at}
+use Rattle.spec_sphere.specs.sphere.Setups.{RoleSetup, IsReplayed, SphereSetup}
+use Rattle.spec_sphere.specs.promises.Sound.{no_image}
+use Rattle.spec_protocol.specs.promises.Sound.{image_at}
 use Rattle.spec_strata.specs.declared.strata.StrataParts.{StrataParts}
 use Rattle.spec_strata.specs.Checking.{StrataAnswer, Parallel, Unfit, Conflict, answer_of}
 use Rattle.spec_program.specs.Built.{bad_image, bad_log, images_of, replay_setup, role_in_strata, role_of, sphere_of, spheres_of, events_of}

@@ -12,7 +12,8 @@ use Rattle.spec_log.specs.declared.ModeName.{ModeName}
 use Rattle.spec_log.specs.declared.fault.Fault.{Fault}
 use Rattle.spec_play.specs.Intervals.{interval_of}
 use Rattle.spec_protocol.specs.declared.event.Event.{Event}
-use Rattle.spec_protocol.specs.machine.Machine.{EpochSetup, RecordSetup, ReplaySetup, RoleSetup, IsPlain, IsRecorded, IsReplayed, SphereSetup, Setup, in_strata}
+use Rattle.spec_sphere.specs.sphere.Setups.{EpochSetup, RecordSetup, ReplaySetup, RoleSetup, IsPlain, IsRecorded, IsReplayed, SphereSetup, in_strata}
+use Rattle.spec_protocol.specs.machine.Machine.{Setup}
 use Rattle.spec_protocol.specs.machine.World.{Numbers}
 use Rattle.spec_strata.specs.declared.strata.StrataParts.{StrataParts}
 use Rattle.spec_strata.specs.Checking.{StrataAnswer, Parallel, Unfit, Conflict, answer_of}

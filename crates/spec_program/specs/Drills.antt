@@ -7,7 +7,8 @@ use Rattle.dl_make.specs.Generated.{words_of}
 use Rattle.spec_log.specs.declared.LogParts.{LogParts}
 use Rattle.spec_log.specs.declared.ModeName.{ModeName}
 use Rattle.spec_protocol.specs.declared.event.Event.{Event}
-use Rattle.spec_protocol.specs.machine.Machine.{all_of, RoleSetup, IsRecorded, IsReplayed, SphereSetup, Setup}
+use Rattle.spec_sphere.specs.sphere.Setups.{all_of, RoleSetup, IsRecorded, IsReplayed, SphereSetup}
+use Rattle.spec_protocol.specs.machine.Machine.{Setup}
 use Rattle.spec_run.specs.Texts.{account_text, log_of_points, summary_text}
 use Rattle.spec_program.specs.Lines.{line}
 

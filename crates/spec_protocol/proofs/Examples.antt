@@ -4,7 +4,6 @@ pub mod Recordings
 pub mod TwoThreads
 pub mod TwoChunks
 pub mod Abandoned
-pub mod Spawning
 pub mod Intervals
 pub mod Limits
 pub mod Epochs

@@ -1,7 +1,6 @@
 pub mod Memory
 pub mod Moves
 pub mod Invariants
-pub mod Logs
 pub mod PlayingBack
 pub mod Points
 pub mod Alike

@@ -1,9 +1,4 @@
 -- The play of a recorded log does as the recording did.
-pub mod Following
-pub mod Commits
-pub mod Verdicts
-pub mod Transfers
 pub mod Moves
 pub mod All
 pub mod WholeLogs
-pub mod Sizes

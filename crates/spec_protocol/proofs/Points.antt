@@ -1,11 +1,7 @@
 -- Points done one at a time leave what the machine leaves: its spheres, its logs and its console.
 pub mod Counts
 pub mod Serial
-pub mod OneMore
-pub mod Noted
-pub mod KeptLogs
 pub mod OneByOne
 pub mod Logs
-pub mod Outputs
 pub mod Console
 pub mod Rising

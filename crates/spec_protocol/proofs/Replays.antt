@@ -1,7 +1,3 @@
--- How a replayed sphere stands to its log: whose turn it is, what is used of the log, and the pieces of a commit.
+-- How a replayed sphere stands to its log, after any events: the pieces of a commit.
 pub mod Pieces
 pub mod CountingPieces
-pub mod Order
-pub mod Turns
-pub mod Uses
-pub mod Verdicts

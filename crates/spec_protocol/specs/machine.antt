@@ -1,6 +1,4 @@
 -- What must be believed: the machine, its events one at a time, and what they are compared with.
-pub mod Spheres
-pub mod Commits
 pub mod World
 pub mod Stepping
 pub mod Asking

@@ -7,11 +7,8 @@ pub mod PlayingBack
 pub mod LogsOfPoints
 pub mod Pieces
 pub mod Sound
-pub mod Standing
 pub mod Notable
-pub mod Judging
 pub mod Logs
-pub mod AsRecorded
 pub mod Committers
 pub mod Lasts
 pub mod OneChunk

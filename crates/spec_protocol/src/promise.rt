@@ -1,6 +1,5 @@
 //! What is promised of the protocol. Each promise is a clause of a function that does nothing.
 ghost use Rattle.spec_protocol.specs.promises.Alike.{EventsAreAlike};
-ghost use Rattle.spec_protocol.specs.promises.AsRecorded.{PlainMovesAsRecorded};
 ghost use Rattle.spec_protocol.specs.promises.Committers.{CommittersAreTold};
 ghost use Rattle.spec_protocol.specs.promises.ConsoleBytes.{ConsoleIsPutOut};
 ghost use Rattle.spec_protocol.specs.promises.Kept.{EpochsAreOfPlays, RecordingsAreKept, TailsAreOfPoints};
@@ -8,7 +7,6 @@ ghost use Rattle.spec_protocol.specs.promises.Lasts.{SpheresKeepLasts};
 ghost use Rattle.spec_protocol.specs.promises.Promises.{CommitsAreSerial, InvariantsHold, MovesAreSerial, SizesAreKept};
 ghost use Rattle.spec_protocol.specs.promises.Logs.{LogsAreFresh};
 ghost use Rattle.spec_protocol.specs.promises.LogsOfPoints.{LogsAreOfPoints};
-ghost use Rattle.spec_protocol.specs.promises.Judging.{LogsAreSeenAlike};
 ghost use Rattle.spec_protocol.specs.promises.Notable.{NotesFitLogs};
 ghost use Rattle.spec_protocol.specs.promises.OneChunk.{CoresHaveOneChunk};
 ghost use Rattle.spec_protocol.specs.promises.Pieces.{PiecesCountNothing, PiecesStayTogether, StoppedSpheresStay};
@@ -100,14 +98,6 @@ pub fn logs_are_of_points()
     ensures { LogsAreOfPoints }
 {}
 
-/// Recordings and plays look at a log in the same way: whether a chunk goes as logged depends on its thread's end and its number
-/// of instructions alone; the log of what is kept has its sizes, its heads and the limits of these sizes; and at the end of a
-/// play sizes are used by the numbers of the threads' commits as they are by the threads, short ones at any time; and an
-/// interrupt is left over where not all are due.
-pub fn logs_are_seen_alike()
-    ensures { LogsAreSeenAlike }
-{}
-
 /// After every list of events: the log that a recorded sphere has kept counts the sphere's commits, has no interrupt of a
 /// thread at a later number of commits than the thread's, and at that number only where the thread is masked. So the next
 /// interrupt is of a moment that the log doesn't have.
@@ -132,13 +122,6 @@ pub fn stopped_spheres_stay()
 /// turn stays, or in strata goes to the piece's thread.
 pub fn pieces_count_nothing()
     ensures { PiecesCountNothing }
-{}
-
-/// Whatever its threads, memory and log: a chunk, a DMA or an interrupt leaves in a plain sphere what it leaves in a recorded
-/// one, except for the log, and stores the same words and leaves the same devices. So does a serial step, if both may have as
-/// many threads.
-pub fn plain_moves_as_recorded()
-    ensures { PlainMovesAsRecorded }
 {}
 
 /// Whatever the world: of a flight that an ask begins the core that asks is told, and no other; of one that a DMA begins

@@ -23,8 +23,8 @@ use Rattle.spec_play.specs.declared.used.Used.{Used}
 use Rattle.spec_play.specs.Verdicts.{LogVerdict, Goes, Fails, unless, interrupt_at, with_interrupted, ended, chunk_why, chunk_verdict, TakenRecord, given, serial_why, served_verdict, serial_verdict}
 use Rattle.spec_play.specs.Transfers.{DmaVerdict, DmaGoes, DmaFails, is_for, transferred, dma_unless, dma_verdict}
 use Rattle.spec_play.specs.Plays.{Played, size_or_standard, thread_verdict}
-use Rattle.spec_protocol.proofs.Memory.Covering.{Apart-store}
-use Rattle.spec_protocol.proofs.Moves.Granted.{bytes_apart, serve-apart}
+use Rattle.spec_play.proofs.Local.Joining.{Apart-store}
+use Rattle.spec_sphere.proofs.Moves.Granted.{bytes_apart, serve-apart}
 
 -- ---- a thread's commit
 

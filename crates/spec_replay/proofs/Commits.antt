@@ -1,5 +1,4 @@
 -- One commit of a replayed sphere, whole or in pieces, is its play's next.
-pub mod Joining
 pub mod Judging
 pub mod Standing
 pub mod Done

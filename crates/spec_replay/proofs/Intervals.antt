@@ -14,9 +14,9 @@ use Rattle.spec_play.specs.Resuming.{IsResumed}
 use Rattle.spec_play.specs.Intervals.{before, commits_in, begun, at_end_of_log, now_in, now_of}
 use Rattle.spec_play.proofs.Going.{plays-stay, GoesOn, EndsOr, Lives, turn-lives, plays-go, over-at}
 use Rattle.spec_play.proofs.Resuming.{plays_resume}
-use Rattle.spec_protocol.specs.machine.Spheres.{is_over}
-use Rattle.spec_protocol.specs.machine.Machine.{ReplaySetup, SphereSetup, first_played}
-use Rattle.spec_protocol.proofs.Replays.Turns.{interval-now}
+use Rattle.spec_sphere.specs.sphere.Spheres.{is_over}
+use Rattle.spec_sphere.specs.sphere.Setups.{ReplaySetup, SphereSetup, first_played}
+use Rattle.spec_sphere.proofs.Replays.Turns.{interval-now}
 
 -- ---- its turns are the log's
 

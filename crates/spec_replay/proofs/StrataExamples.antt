@@ -28,14 +28,15 @@ use Rattle.spec_engine.specs.Signatures.{meets}
 use Rattle.spec_protocol.specs.declared.event.Event.{Event}
 use Rattle.spec_protocol.specs.declared.reply.Reply.{Reply}
 use Rattle.spec_protocol.specs.machine.Asking.{grant_chunk, grant_serial, asking}
-use Rattle.spec_protocol.specs.machine.Commits.{chunk_moved, serial_moved, dma_moved, raised}
+use Rattle.spec_sphere.specs.sphere.Commits.{chunk_moved, serial_moved, dma_moved, raised}
 use Rattle.spec_protocol.specs.machine.Finishing.{next}
 use Rattle.spec_protocol.specs.machine.Flying.{draining, delivering, retiring}
-use Rattle.spec_protocol.specs.machine.Machine.{in_strata, IsReplayed, world_of, act, happens, world_after}
+use Rattle.spec_sphere.specs.sphere.Setups.{in_strata, IsReplayed}
+use Rattle.spec_protocol.specs.machine.Machine.{world_of, act, happens, world_after}
 use Rattle.spec_protocol.specs.machine.Placing.{placing, raising}
 use Rattle.spec_protocol.specs.machine.Serial.{do_point}
 use Rattle.spec_protocol.specs.machine.Shown.{shown}
-use Rattle.spec_protocol.specs.machine.Spheres.{head_of, turn_against, limit_of}
+use Rattle.spec_sphere.specs.sphere.Spheres.{head_of, turn_against, limit_of}
 use Rattle.spec_protocol.specs.machine.Stepping.{stepping, cutting}
 use Rattle.spec_protocol.specs.machine.Transferring.{transfer, transferring}
 use Rattle.spec_protocol.specs.machine.World.{World, sphere_at}

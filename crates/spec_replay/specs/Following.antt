@@ -11,8 +11,8 @@ use Rattle.spec_play.specs.Progress.{position}
 use Rattle.spec_play.specs.Turns.{TurnOrEnd, Turn, TurnOfDma, Ended}
 use Rattle.spec_play.specs.Plays.{Played, play_one}
 use Rattle.spec_play.specs.Intervals.{now_of}
-use Rattle.spec_protocol.specs.machine.Spheres.{Cursor, Replay, Sphere, whole_limit}
-use Rattle.spec_protocol.specs.machine.Machine.{ReplaySetup}
+use Rattle.spec_sphere.specs.sphere.Spheres.{Cursor, Replay, Sphere, whole_limit}
+use Rattle.spec_sphere.specs.sphere.Setups.{ReplaySetup}
 
 -- ---- the state
 

@@ -12,9 +12,9 @@ use Rattle.spec_strata.specs.Strata.{commits_in_all}
 use Rattle.spec_strata.specs.Canonical.{canonical}
 use Rattle.spec_strata.specs.InPlay.{in_stratum}
 use Rattle.spec_strata.specs.Standing.{Standing}
-use Rattle.spec_protocol.specs.machine.Spheres.{Cursor, Replay, Sphere}
-use Rattle.spec_protocol.specs.machine.Commits.{now_by}
-use Rattle.spec_protocol.specs.machine.Machine.{SphereSetup}
+use Rattle.spec_sphere.specs.sphere.Spheres.{Cursor, Replay, Sphere}
+use Rattle.spec_sphere.specs.sphere.Commits.{now_by}
+use Rattle.spec_sphere.specs.sphere.Setups.{SphereSetup}
 use Rattle.spec_replay.specs.Following.{IsWhole, IsMovedOn}
 
 -- how many chunks of a thread are done in the present stratum, and how many it has

@@ -7,11 +7,12 @@ use Rattle.spec_play.specs.Turns.{Ended}
 use Rattle.spec_play.specs.Plays.{Played, plays}
 use Rattle.spec_play.specs.Intervals.{now_of}
 use Rattle.spec_protocol.specs.declared.event.Event.{Event}
-use Rattle.spec_protocol.specs.machine.Spheres.{Cursor, Replay, Sphere, is_over}
-use Rattle.spec_protocol.specs.machine.Machine.{last_played, first_played, ReplaySetup, in_strata, IsReplayed, SphereSetup, Setup}
+use Rattle.spec_sphere.specs.sphere.Spheres.{Cursor, Replay, Sphere, is_over}
+use Rattle.spec_sphere.specs.sphere.Setups.{last_played, first_played, ReplaySetup, in_strata, IsReplayed, SphereSetup}
+use Rattle.spec_protocol.specs.machine.Machine.{Setup}
 use Rattle.spec_protocol.specs.machine.Shown.{shown_of}
 use Rattle.spec_protocol.specs.promises.Promises.{IsSetup, after}
-use Rattle.spec_protocol.specs.promises.Sound.{AreReplayableIf}
+use Rattle.spec_sphere.specs.promises.Sound.{AreReplayableIf}
 use Rattle.spec_strata.specs.declared.strata.StrataParts.{StrataParts}
 use Rattle.spec_replay.specs.Following.{Follows}
 use Rattle.spec_replay.specs.InStrata.{FollowsInStrata}

@@ -3,12 +3,15 @@ use Rattle.std.proofs.Common.{◌≡◌, ℕ, List, Option, Some, None, refl, ap
 use Rattle.dl_entry.specs.declared.Point.{Point}
 use Rattle.spec_kernel.specs.Devices.{devices_of}
 use Rattle.spec_protocol.specs.declared.event.Event.{Event}
-use Rattle.spec_protocol.specs.machine.Machine.{EpochSetup, RecordSetup, RoleSetup, IsPlain, IsRecorded, IsReplayed, SphereSetup, Setup, sphere_of}
+use Rattle.spec_sphere.specs.sphere.Setups.{EpochSetup, RecordSetup, RoleSetup, IsPlain, IsRecorded, IsReplayed, SphereSetup, sphere_of}
+use Rattle.spec_protocol.specs.machine.Machine.{Setup}
 use Rattle.spec_protocol.specs.machine.Serial.{SerialState, serial_start, do_points}
-use Rattle.spec_protocol.specs.machine.Logged.{sphere_in, supplied, logged, logged_since}
-use Rattle.spec_protocol.specs.machine.Kept.{points_until, points_since}
-use Rattle.spec_protocol.specs.machine.Spheres.{Sphere}
-use Rattle.spec_protocol.specs.promises.Sound.{image_at, no_image}
+use Rattle.spec_protocol.specs.machine.Logged.{sphere_in, supplied, logged_since}
+use Rattle.spec_sphere.specs.sphere.Logged.{logged}
+use Rattle.spec_sphere.specs.sphere.Kept.{points_until, points_since}
+use Rattle.spec_sphere.specs.sphere.Spheres.{Sphere}
+use Rattle.spec_protocol.specs.promises.Sound.{image_at}
+use Rattle.spec_sphere.specs.promises.Sound.{no_image}
 use Rattle.std.proofs.Common.{map}
 use Rattle.spec_log.specs.Bytes.{log_bytes}
 use Rattle.spec_run.specs.Runs.{points_of, executed}

@@ -12,28 +12,33 @@ use Rattle.spec_log.specs.Log.{IsLog}
 use Rattle.spec_log.specs.Versions.{new_threads}
 use Rattle.spec_play.specs.Progress.{position}
 use Rattle.spec_protocol.specs.declared.event.Event.{Event}
-use Rattle.spec_protocol.specs.machine.Kept.{epoch_of, points_until, points_since, serial_until, tail_log}
+use Rattle.spec_protocol.specs.machine.Kept.{epoch_of, serial_until, tail_log}
+use Rattle.spec_sphere.specs.sphere.Kept.{points_until, points_since}
 use Rattle.spec_protocol.specs.machine.Logged.{sphere_in, supplied}
-use Rattle.spec_protocol.specs.machine.Machine.{EpochSetup, RecordSetup, IsRecorded, SphereSetup, Setup, world_of, world_after}
+use Rattle.spec_sphere.specs.sphere.Setups.{EpochSetup, RecordSetup, IsRecorded, SphereSetup}
+use Rattle.spec_protocol.specs.machine.Machine.{Setup, world_of, world_after}
 use Rattle.spec_protocol.specs.machine.Serial.{SerialState, serial_start, serial, do_points, CanDoAll}
 use Rattle.spec_protocol.specs.machine.Shown.{shown}
-use Rattle.spec_protocol.specs.machine.Spheres.{Sphere, no_sphere}
+use Rattle.spec_sphere.specs.sphere.Spheres.{Sphere, no_sphere}
 use Rattle.spec_protocol.specs.machine.World.{World, moment, sphere_at}
 use Rattle.spec_protocol.specs.promises.Kept.{WillKeep}
 use Rattle.spec_protocol.specs.promises.LogsOfPoints.{log_of_points}
 use Rattle.spec_protocol.specs.promises.Promises.{WillRecord, after}
-use Rattle.spec_protocol.specs.promises.Sound.{AreEpochs, IsSoundIf, IsSoundSphere, IsSoundThread, IsWithinLimits, image_at, no_image}
+use Rattle.spec_sphere.specs.promises.Sound.{AreEpochs, IsSoundIf, IsSoundSphere, IsSoundThread, no_image}
+use Rattle.spec_protocol.specs.promises.Sound.{IsWithinLimits, image_at}
 use Rattle.spec_protocol.proofs.Invariants.Schedules.{sizes_kept}
-use Rattle.spec_protocol.proofs.Kept.Cutting.{commits_among, can-split, until-more, until-since}
+use Rattle.spec_sphere.proofs.Kept.Cutting.{commits_among, until-more, until-since}
+use Rattle.spec_protocol.proofs.Kept.Cutting.{can-split}
 use Rattle.spec_protocol.proofs.Kept.Base.{sphere-holds, kept-so}
 use Rattle.spec_protocol.proofs.Kept.Plays.{commits_at, points_grow}
 use Rattle.spec_protocol.proofs.Kept.Standing.{Stand, stands}
 use Rattle.spec_protocol.proofs.Kept.Tails.{done-among, tails_of_points}
 use Rattle.spec_protocol.proofs.PlayingBack.WholeLogs.{stands-so}
-use Rattle.spec_protocol.proofs.Points.KeptLogs.{Keeps}
+use Rattle.spec_sphere.proofs.Points.KeptLogs.{Keeps}
 use Rattle.spec_protocol.proofs.Points.Logs.{how_kept}
 use Rattle.spec_protocol.proofs.Points.Serial.{commits_are}
-use Rattle.spec_protocol.proofs.Sound.Between.{IsSaved as Saves, HasCause, IsPresent, KeepsResting, sphere-rests}
+use Rattle.spec_sphere.proofs.Sound.Between.{IsSaved as Saves, HasCause, IsPresent, KeepsResting}
+use Rattle.spec_protocol.proofs.Sound.Between.{sphere-rests}
 use Rattle.spec_protocol.proofs.Sound.Schedules.{setup-within, worlds_sound}
 use Rattle.std.proofs.lemmas.Option.{slice_get_within}
 use Rattle.spec_finishing.specs.Function.{finished, finishing_of}
@@ -41,7 +46,7 @@ use Rattle.spec_tail.specs.Tails.{Tail, IsStatus, IsSaved, IsThreadAt, IsSize, I
 use Rattle.spec_run.specs.Runs.{executed}
 use Rattle.spec_run.specs.Tails.{base_in, tail_at, tail_of_points}
 use Rattle.spec_run.specs.Promise.{HasWords, IsCode, TailsAreTails}
-use Rattle.spec_run.proofs.Described.{after_both}
+use Rattle.spec_finishing.proofs.Ending.Played.{after_both}
 use Rattle.spec_run.proofs.Tails.{base-within, epochs-so, keeps-some, sphere-then}
 
 -- ---- of each thread

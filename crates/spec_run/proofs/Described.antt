@@ -10,17 +10,17 @@ use Rattle.spec_play.specs.Progress.{position}
 use Rattle.spec_play.specs.Turns.{TurnOrEnd, Turn, TurnOfDma, Ended}
 use Rattle.spec_play.specs.Plays.{Played}
 use Rattle.spec_protocol.specs.declared.event.Event.{Event}
-use Rattle.spec_protocol.specs.machine.Spheres.{Recording, Role, Plain, Record, Replay, Cursor, Sphere, no_sphere, is_over}
-use Rattle.spec_protocol.specs.machine.Placing.{replays}
+use Rattle.spec_sphere.specs.sphere.Spheres.{Recording, Role, Plain, Record, Replay, Cursor, Sphere, no_sphere, is_over, replays}
 use Rattle.spec_protocol.specs.machine.World.{World, sphere_at}
-use Rattle.spec_protocol.specs.machine.Machine.{all_of, last_played, ReplaySetup, new_epochs, EpochSetup, RecordSetup, RoleSetup, IsPlain, IsRecorded, IsReplayed, SphereSetup, Setup, world_of, happens, world_after}
+use Rattle.spec_sphere.specs.sphere.Setups.{all_of, last_played, ReplaySetup, new_epochs, EpochSetup, RecordSetup, RoleSetup, IsPlain, IsRecorded, IsReplayed, SphereSetup}
+use Rattle.spec_protocol.specs.machine.Machine.{Setup, world_of}
 use Rattle.spec_protocol.specs.machine.Serial.{serial_start, serial, CanDoAll}
-use Rattle.spec_protocol.specs.machine.Logged.{sphere_in, supplied, logged}
-use Rattle.spec_protocol.specs.promises.Logs.{IsLogFresh}
+use Rattle.spec_protocol.specs.machine.Logged.{sphere_in, supplied}
+use Rattle.spec_sphere.specs.sphere.Logged.{logged}
+use Rattle.spec_sphere.specs.promises.Logs.{IsLogFresh}
 use Rattle.spec_protocol.specs.machine.Shown.{shown_of}
-use Rattle.spec_protocol.specs.machine.Finishing.{next, Finishes}
 use Rattle.spec_protocol.specs.promises.Promises.{IsSetup, after, WillRecord}
-use Rattle.spec_protocol.specs.promises.PlayingBack.{PlaysBack}
+use Rattle.spec_sphere.specs.promises.PlayingBack.{PlaysBack}
 use Rattle.spec_replay.specs.Promises.{IsPlayed}
 use Rattle.spec_replay.proofs.Intervals.{now_as}
 use Rattle.spec_finishing.specs.Ending.{Ends, CanFinish, IsAtEnd}
@@ -34,23 +34,14 @@ use Rattle.spec_finishing.proofs.Ending.Function.{function_finishes}
 use Rattle.spec_finishing.proofs.Ending.KindsKept.{is_replayed, AreOfKinds, kind-at}
 use Rattle.spec_finishing.proofs.Ending.Knowing.{within, there_is, kinds_after}
 use Rattle.spec_finishing.proofs.Next.All.{next-stands}
-use Rattle.spec_finishing.proofs.Ending.Played.{replays_finished}
+use Rattle.spec_finishing.proofs.Ending.Played.{replays_finished, last_next, after_both}
 use Rattle.spec_finishing.proofs.Next.Turns.{shown-itself}
 use Rattle.spec_run.specs.Runs.{points_of, executed, played, end_of, played_end}
 use Rattle.spec_run.specs.Texts.{account_as, executed_account, log_of_points, played_account, recorded_account}
 use Rattle.spec_run.specs.Promise.{end_as, account_held, HasRecorded, HasRole, IsDescribed, RecordingsAreReproduced}
+use Rattle.spec_replay.proofs.Strata.Stopping.{same_cursor}
 
 -- ---- lists of events
-
--- the last world has no next event
-last_next : (w : World) (es : List Event) → Finishes w es → next (world_after w es) ≡ None
-last_next w [] f = f
-last_next w (e ∷ es) f = last_next (happens w e).world es f.1
-
--- the events of two lists are those of one
-pub after_both : (w : World) (es fs : List Event) → world_after w (es ++ fs) ≡ world_after (world_after w es) fs
-after_both w [] fs = refl
-after_both w (e ∷ es) fs = after_both (happens w e).world es fs
 
 get_is : (ps : List Sphere) (i : ℕ) (p : Sphere) → slice_get ps i ≡ Some p → get_or ps i no_sphere ≡ p
 get_is [] i p e = absurd (none-some p e)
@@ -261,9 +252,6 @@ account_described s es i image p IsPlain can is t role none = live_described s e
 account_described s es i image p (IsRecorded asked) can is t role none =
     live_described s es i image p can t (t.kind ∙ ap is_replayed role) ∙ ap (recorded_account (sphere_in (executed s es) i)) (sym none)
 account_described s es i image p (IsReplayed asked) can is t role none = replayed_described s es i image asked p t (replayed-to s es i image asked p can is t role)
-
-same_cursor : (b c : Cursor) → Replay b ≡ Replay c → b ≡ c
-same_cursor b c e = cc
 
 played_to : (s : Setup) (es : List Event) (i : ℕ) (image : SphereSetup) (p : Sphere) (asked : ReplaySetup) (b : Cursor) → CanFinish s → slice_get s.spheres i ≡ Some image → IsThere s es i image p → image.role ≡ IsReplayed asked → (sphere_at (finished s es) i).role ≡ Replay b → b.now ≡ now_as asked (played asked image)
 played_to s es i image p asked b can is t role replay =

@@ -22,19 +22,22 @@ use Rattle.spec_engine.specs.declared.answers.Deliver.{Deliver}
 use Rattle.spec_engine.specs.Flights.{Flight, at, drain, deliver}
 use Rattle.spec_engine.specs.Chunks.{fresh}
 use Rattle.spec_protocol.specs.declared.event.Event.{Event}
-use Rattle.spec_protocol.specs.machine.Spheres.{Cursor, Role, Plain, Record, Replay, Sphere, no_sphere, limit_of, halves}
-use Rattle.spec_protocol.specs.machine.Commits.{MovedSphere, granted_as, by_verdict, joined, replayed_chunk, chunk_in, chunk_moved, serial_in, serial_moved, live_dma, dma_log, dma_by_verdict, dma_in, dma_moved, role_raised, raised}
+use Rattle.spec_sphere.specs.sphere.Spheres.{Cursor, Role, Plain, Record, Replay, Sphere, no_sphere, limit_of, halves}
+use Rattle.spec_sphere.specs.sphere.Commits.{MovedSphere, granted_as, by_verdict, joined, replayed_chunk, chunk_in, chunk_moved, serial_in, serial_moved, live_dma, dma_log, dma_by_verdict, dma_in, dma_moved, role_raised, raised}
 use Rattle.spec_protocol.specs.machine.World.{Numbers, Occupant, World, EventOutcome, moment, sphere_at, with_sphere, thread_afresh, core_of}
 use Rattle.spec_protocol.specs.machine.Flying.{drain_slot, reads_of, writes_of, told, delivering, retiring, younger_of, hits_younger}
-use Rattle.spec_protocol.specs.machine.Placing.{replays, with_renewed, raise_in}
-use Rattle.spec_protocol.specs.machine.Machine.{RoleSetup, IsPlain, IsRecorded, IsReplayed, SphereSetup, Setup, sphere_as, sphere_of, world_of, act, happens, world_after}
+use Rattle.spec_sphere.specs.sphere.Spheres.{replays}
+use Rattle.spec_protocol.specs.machine.Placing.{with_renewed, raise_in}
+use Rattle.spec_sphere.specs.sphere.Setups.{RoleSetup, IsPlain, IsRecorded, IsReplayed, SphereSetup, sphere_as, sphere_of}
+use Rattle.spec_protocol.specs.machine.Machine.{Setup, world_of, act, happens, world_after}
 use Rattle.spec_protocol.specs.promises.Invariants.{IsGood}
 use Rattle.spec_protocol.specs.promises.Promises.{after}
 use Rattle.spec_protocol.specs.promises.Sound.{IsWithinLimits}
-use Rattle.spec_protocol.proofs.Moves.AnyEvent.{branch, any-event}
+use Rattle.spec_play.proofs.Threads.{branch}
+use Rattle.spec_protocol.proofs.Moves.AnyEvent.{any-event}
 use Rattle.spec_protocol.proofs.Points.Counts.{act-untold}
 use Rattle.spec_protocol.proofs.Invariants.Schedules.{happens-preserved, first_held, start-good}
-use Rattle.spec_protocol.proofs.Sound.Commits.{next-position}
+use Rattle.spec_sphere.proofs.Sound.Commits.{next-position}
 use Rattle.spec_protocol.proofs.Sound.Schedules.{setup-within}
 use Rattle.spec_protocol.proofs.Sound.Changes.{Properties, Holds, Lands, Keeps, act-holds}
 use Rattle.spec_run.specs.Promise.{SchedulesLeaveRoom}

@@ -7,19 +7,21 @@ use Rattle.std.proofs.lemmas.Option.{none-some}
 use Rattle.dl_account.specs.Account.{account_of}
 use Rattle.dl_entry.specs.declared.End.{End}
 use Rattle.dl_entry.specs.declared.Point.{Point}
-use Rattle.spec_play.specs.Epochs.{Epoch}
+use Rattle.spec_play.specs.Epochs.{Epoch, is_due}
 use Rattle.spec_play.specs.Progress.{position}
 use Rattle.spec_protocol.specs.declared.event.Event.{Event}
 use Rattle.spec_protocol.specs.machine.Kept.{epoch_of, epochs_of, serial_until, tail_log}
 use Rattle.spec_protocol.specs.machine.Logged.{sphere_in}
-use Rattle.spec_protocol.specs.machine.Epochs.{base_of, is_due}
-use Rattle.spec_protocol.specs.machine.Machine.{EpochSetup, RecordSetup, ReplaySetup, RoleSetup, IsPlain, IsRecorded, IsReplayed, SphereSetup, Setup, world_of}
-use Rattle.spec_protocol.specs.machine.Placing.{replays}
+use Rattle.spec_sphere.specs.sphere.Epochs.{base_of}
+use Rattle.spec_sphere.specs.sphere.Setups.{EpochSetup, RecordSetup, ReplaySetup, RoleSetup, IsPlain, IsRecorded, IsReplayed, SphereSetup}
+use Rattle.spec_protocol.specs.machine.Machine.{Setup, world_of}
+use Rattle.spec_sphere.specs.sphere.Spheres.{replays, Role, Record, Sphere}
 use Rattle.spec_protocol.specs.machine.Serial.{serial}
-use Rattle.spec_protocol.specs.machine.Spheres.{Role, Record, Sphere}
 use Rattle.spec_protocol.specs.machine.World.{World, sphere_at}
-use Rattle.spec_protocol.specs.promises.Alike.{AreAlike, all_forgotten, epochs_in, forgotten}
-use Rattle.spec_protocol.specs.promises.Kept.{IsKept, IsKeptFrom, NoneIsDue, WillKeep, is_due_in}
+use Rattle.spec_protocol.specs.promises.Alike.{AreAlike, all_forgotten}
+use Rattle.spec_sphere.specs.promises.Alike.{epochs_in, forgotten}
+use Rattle.spec_protocol.specs.promises.Kept.{IsKept, IsKeptFrom, NoneIsDue, WillKeep}
+use Rattle.spec_sphere.specs.promises.Kept.{is_due_in}
 use Rattle.spec_protocol.specs.promises.Promises.{WillRecord, after}
 use Rattle.spec_protocol.specs.promises.Sound.{IsWithinLimits}
 use Rattle.spec_protocol.proofs.Alike.Good.{sphere-alike, spheres-alike}
@@ -33,7 +35,8 @@ use Rattle.spec_run.specs.Runs.{points_of, counts_of, executed}
 use Rattle.spec_run.specs.Tails.{base_in, tail_at, tail_of_points}
 use Rattle.spec_run.specs.Texts.{account_as, recorded_account}
 use Rattle.spec_run.specs.Promise.{ShowsRun, end_as, account_held, HoldsTail, HasRecorded, HasRole, IsDescribed, IsRunDescribed, RunsAreDescribed, SpheresAreDescribed}
-use Rattle.spec_run.proofs.Described.{after_both, epochs_asked, IsKnown, known, IsThere, sphere-there, executed-is, whole-described}
+use Rattle.spec_finishing.proofs.Ending.Played.{after_both}
+use Rattle.spec_run.proofs.Described.{epochs_asked, IsKnown, known, IsThere, sphere-there, executed-is, whole-described}
 use Rattle.spec_run.proofs.Tails.{base-within, has-size, keeps-some, sphere-then}
 
 -- it is alike to the world in which nothing was given up

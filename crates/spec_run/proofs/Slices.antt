@@ -21,7 +21,7 @@ use Rattle.spec_play.proofs.Going.{GoesOn, EndsOr, plays-stay, plays-first, play
 use Rattle.spec_play.proofs.Resuming.{plays_resume}
 use Rattle.spec_interval.specs.Slices.{slice_end}
 use Rattle.spec_interval.proofs.Slicing.{drop_over}
-use Rattle.spec_protocol.specs.machine.Spheres.{is_over}
+use Rattle.spec_sphere.specs.sphere.Spheres.{is_over}
 use Rattle.spec_replay.proofs.Intervals.{begun_is}
 use Rattle.spec_run.specs.Runs.{played, end_of}
 use Rattle.spec_run.specs.Promise.{IntervalsAreSlices}

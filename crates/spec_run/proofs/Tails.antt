@@ -22,27 +22,31 @@ use Rattle.spec_play.specs.Verdicts.{interrupt_at}
 use Rattle.spec_play.specs.Walks.{Walked}
 use Rattle.spec_protocol.specs.declared.event.Event.{Event}
 use Rattle.spec_protocol.specs.machine.Kept.{epoch_of, serial_until, tail_log}
-use Rattle.spec_protocol.specs.machine.Logged.{logged, sphere_in, supplied}
-use Rattle.spec_protocol.specs.machine.Machine.{EpochSetup, RecordSetup, RoleSetup, IsRecorded, SphereSetup, Setup, world_of, world_after}
-use Rattle.spec_protocol.specs.machine.Epochs.{base_of}
+use Rattle.spec_sphere.specs.sphere.Logged.{logged}
+use Rattle.spec_protocol.specs.machine.Logged.{sphere_in, supplied}
+use Rattle.spec_sphere.specs.sphere.Setups.{EpochSetup, RecordSetup, RoleSetup, IsRecorded, SphereSetup}
+use Rattle.spec_protocol.specs.machine.Machine.{Setup, world_of, world_after}
+use Rattle.spec_sphere.specs.sphere.Epochs.{base_of}
 use Rattle.spec_protocol.specs.machine.World.{World}
 use Rattle.spec_protocol.specs.machine.Serial.{serial_start, serial}
-use Rattle.spec_protocol.specs.machine.Spheres.{Sphere}
-use Rattle.spec_protocol.specs.promises.Kept.{HasComeTo, WillKeep, after_raise}
+use Rattle.spec_sphere.specs.sphere.Spheres.{Sphere}
+use Rattle.spec_sphere.specs.promises.Kept.{HasComeTo, after_raise}
+use Rattle.spec_protocol.specs.promises.Kept.{WillKeep}
 use Rattle.spec_protocol.specs.promises.LogsOfPoints.{log_of_points}
-use Rattle.spec_protocol.specs.promises.PlayingBack.{PlaysBack}
+use Rattle.spec_sphere.specs.promises.PlayingBack.{PlaysBack}
 use Rattle.spec_protocol.specs.promises.Promises.{WillRecord, after}
-use Rattle.spec_protocol.specs.promises.Sound.{AreEpochs, AreEpochsIf, IsRecordable, IsRole, IsWithinLimits}
-use Rattle.spec_protocol.specs.promises.Standing.{OrderStands, SizesStand, Stands}
+use Rattle.spec_sphere.specs.promises.Sound.{AreEpochs, AreEpochsIf, IsRecordable, IsRole}
+use Rattle.spec_protocol.specs.promises.Sound.{IsWithinLimits}
+use Rattle.spec_sphere.specs.promises.Standing.{OrderStands, SizesStand, Stands}
 use Rattle.spec_protocol.proofs.Kept.Events.{epoch-commits}
 use Rattle.spec_protocol.proofs.Kept.Plays.{epochs_of_plays}
 use Rattle.spec_protocol.proofs.Kept.Tails.{done-among, tails_of_points}
 use Rattle.spec_protocol.proofs.PlayingBack.All.{logs_play_back}
 use Rattle.spec_protocol.proofs.PlayingBack.WholeLogs.{IsShown, shown-so, stands-so}
-use Rattle.spec_protocol.proofs.Points.OneMore.{points_so}
+use Rattle.spec_sphere.proofs.Points.OneMore.{points_so}
 use Rattle.spec_protocol.proofs.Points.Rising.{recorded-rising}
 use Rattle.spec_protocol.proofs.Points.Serial.{commits_are}
-use Rattle.spec_protocol.proofs.Replays.Uses.{Later, Rising}
+use Rattle.spec_sphere.proofs.Replays.Uses.{Later, Rising}
 use Rattle.spec_protocol.proofs.Sound.Schedules.{setup-within}
 use Rattle.spec_finishing.specs.Function.{finished, finishing_of}
 use Rattle.spec_tail.specs.Cutting.{after_interrupt, after_interrupts, IsTailOf}
@@ -55,7 +59,7 @@ use Rattle.spec_tail.proofs.Along.Tallies.{Each, Before, Rising as TailRising}
 use Rattle.spec_run.specs.Runs.{executed}
 use Rattle.spec_run.specs.Tails.{base_in, tail_at}
 use Rattle.spec_run.specs.Promise.{IsTailPlayed, TailsArePlayed}
-use Rattle.spec_run.proofs.Described.{after_both}
+use Rattle.spec_finishing.proofs.Ending.Played.{after_both}
 
 -- ---- the whole log
 

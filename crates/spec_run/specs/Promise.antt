@@ -13,10 +13,10 @@ use Rattle.spec_play.specs.Plays.{FitsImage}
 use Rattle.spec_play.specs.Intervals.{IsWithin, now_of}
 use Rattle.spec_interval.specs.Slices.{slice}
 use Rattle.spec_protocol.specs.declared.event.Event.{Event}
-use Rattle.spec_protocol.specs.machine.Spheres.{Role, Plain, Record, Replay, Cursor, Sphere}
-use Rattle.spec_protocol.specs.machine.Placing.{replays}
+use Rattle.spec_sphere.specs.sphere.Spheres.{Role, Plain, Record, Replay, Cursor, Sphere, replays}
 use Rattle.spec_protocol.specs.machine.World.{World, sphere_at}
-use Rattle.spec_protocol.specs.machine.Machine.{ReplaySetup, all_of, EpochSetup, RecordSetup, RoleSetup, IsPlain, IsRecorded, IsReplayed, SphereSetup, Setup}
+use Rattle.spec_sphere.specs.sphere.Setups.{ReplaySetup, all_of, EpochSetup, RecordSetup, RoleSetup, IsPlain, IsRecorded, IsReplayed, SphereSetup}
+use Rattle.spec_protocol.specs.machine.Machine.{Setup}
 use Rattle.spec_protocol.specs.machine.Serial.{serial_start, CanDoAll}
 use Rattle.spec_protocol.specs.machine.Logged.{sphere_in}
 use Rattle.spec_protocol.specs.promises.Sound.{IsWithinLimits, image_at}

@@ -8,7 +8,8 @@ use Rattle.spec_play.specs.Turns.{TurnOrEnd, Turn, TurnOfDma, Ended}
 use Rattle.spec_play.specs.Plays.{Played}
 use Rattle.spec_play.specs.Intervals.{now_of}
 use Rattle.spec_protocol.specs.declared.event.Event.{Event}
-use Rattle.spec_protocol.specs.machine.Machine.{last_played, ReplaySetup, RoleSetup, IsPlain, IsRecorded, IsReplayed, SphereSetup, Setup}
+use Rattle.spec_sphere.specs.sphere.Setups.{last_played, ReplaySetup, RoleSetup, IsPlain, IsRecorded, IsReplayed, SphereSetup}
+use Rattle.spec_protocol.specs.machine.Machine.{Setup}
 use Rattle.spec_protocol.specs.machine.Serial.{SerialState, serial}
 use Rattle.spec_finishing.specs.Function.{finished}
 

@@ -5,11 +5,12 @@ use Rattle.std.specs.Option.{is_some}
 use Rattle.dl_entry.specs.declared.Point.{Point}
 use Rattle.spec_play.specs.Progress.{position}
 use Rattle.spec_protocol.specs.declared.event.Event.{Event}
-use Rattle.spec_protocol.specs.machine.Epochs.{base_of}
+use Rattle.spec_sphere.specs.sphere.Epochs.{base_of}
 use Rattle.spec_protocol.specs.machine.Kept.{serial_until, tail_log}
-use Rattle.spec_protocol.specs.machine.Machine.{EpochSetup, RecordSetup, RoleSetup, IsPlain, IsRecorded, IsReplayed, Setup}
+use Rattle.spec_sphere.specs.sphere.Setups.{EpochSetup, RecordSetup, RoleSetup, IsPlain, IsRecorded, IsReplayed}
+use Rattle.spec_protocol.specs.machine.Machine.{Setup}
 use Rattle.spec_protocol.specs.machine.Logged.{sphere_in}
-use Rattle.spec_protocol.specs.machine.Spheres.{Sphere}
+use Rattle.spec_sphere.specs.sphere.Spheres.{Sphere}
 use Rattle.spec_run.specs.Runs.{points_of, executed}
 use Rattle.spec_tail.specs.Tails.{Tail}
 

@@ -1,24 +1,12 @@
 -- The footprint of a chunk's commit: the words that it looks at or stores to; and when two commits conflict.
-use Rattle.std.specs.Prelude.{◌≡◌, ℕ, zero, suc, ◌<◌, ◌/◌, Bool, true, false, ◌&&◌, ◌||◌, nat_eq, List, [], ◌∷◌, length}
-use Rattle.std.specs.Prelude.{slice_index, Option, Some, None, IsSome}
+use Rattle.std.specs.Prelude.{◌≡◌, ℕ, zero, suc, ◌<◌, ◌/◌, Bool, false, ◌&&◌, ◌||◌, nat_eq, List, [], ◌∷◌, length, Option, Some, None, IsSome}
 use Rattle.spec_isa.specs.declared.thread.Parts.{Parts}
 use Rattle.spec_isa.specs.declared.thread.Kind.{Kind}
 use Rattle.spec_isa.specs.Words.{Stored, lays, holds, is_inside}
 use Rattle.spec_isa.specs.Instruction.{Serial, one, serial_of, loads_of}
 use Rattle.spec_isa.specs.Runs.{run}
 use Rattle.spec_kernel.specs.Needs.{fetched, next_kind}
-
--- ---- memories that agree
-
--- memory n has the size of m, and the same bytes in the words that are seen
-pub record Agree (seen : ℕ → Bool) (m n : List ℕ) : Type 0 where
-  pub size : length n ≡ length m
-  pub bytes : (i : ℕ) → seen (i / 4) ≡ true → slice_index n i ≡ slice_index m i
-
--- the words of these stores are not among those seen
-abbrev pub Unseen : (ℕ → Bool) → List Stored → Type 0
-Unseen seen [] = Unit {0}
-Unseen seen (w ∷ ws) = (seen w.number ≡ false) × Unseen seen ws
+use Rattle.spec_play.specs.Touching.{Agree}
 
 -- ---- the footprint
 

@@ -3,7 +3,8 @@ use Rattle.std.specs.Prelude.{◌≡◌, ℕ, zero, suc, ◌<◌, Bool, false, �
 use Rattle.spec_isa.specs.declared.thread.Parts.{Parts}
 use Rattle.spec_isa.specs.Words.{Stored, lays}
 use Rattle.spec_strata.specs.Shares.{counts_of, Share, stratum_start, bump, StratumState, Rule, commit_more, state_at, commits_more, next_seen, next_run, alone}
-use Rattle.spec_strata.specs.Footprints.{Unseen, meets}
+use Rattle.spec_play.specs.Touching.{Unseen}
+use Rattle.spec_strata.specs.Footprints.{meets}
 
 -- ---- one after the other
 

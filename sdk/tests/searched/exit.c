@@ -1,4 +1,4 @@
-/* exit in a thread ends the program with its code, although main waits; and of two that call it the first counts. */
+/* exit in a thread ends the program with its code, although main waits, for a signal or with HOLDING for a lock that the thread holds. */
 #include <assert.h>
 #include <pthread.h>
 #include <stdlib.h>
@@ -6,7 +6,12 @@
 static pthread_mutex_t mutex = PTHREAD_MUTEX_INITIALIZER;
 static pthread_cond_t cond = PTHREAD_COND_INITIALIZER;
 
-static void *work(void *argument) { exit((int)(long)argument); }
+static void *work(void *argument) {
+#ifdef HOLDING
+    pthread_mutex_lock(&mutex);
+#endif
+    exit((int)(long)argument);
+}
 
 int main(void) {
     pthread_t one, two;

@@ -1,4 +1,4 @@
-/* A spin lock lets one in at a time. */
+/* A spin lock lets one in at a time, and with TRIES one who only tries too. */
 #include <assert.h>
 #include <pthread.h>
 
@@ -16,7 +16,7 @@ static void visit(void) {
 static void *work(void *argument) {
     pthread_spin_lock(&lock);
     visit();
-    if (pthread_spin_trylock(&lock) == 0)
+    if (TRIES && pthread_spin_trylock(&lock) == 0)
         visit();
     return argument;
 }

@@ -10,15 +10,15 @@ use Rattle.spec_play.specs.Turns.{TurnOrEnd, Turn, TurnOfDma, Ended}
 use Rattle.spec_engine.specs.declared.answers.How.{How}
 use Rattle.spec_engine.specs.Chunks.{Chunk, is_serial}
 use Rattle.spec_engine.specs.Flights.{at}
-use Rattle.spec_protocol.specs.machine.Spheres.{other_than, turn_in, turn_against, Cursor, Role, Plain, Record, Replay, Sphere, actor_of, is_over, is_stopped, limit_in, limit_of, whole_limit}
-use Rattle.spec_protocol.specs.machine.Placing.{replays}
-use Rattle.spec_protocol.specs.machine.Asking.{asks_serial, is_short}
-use Rattle.spec_protocol.specs.machine.Commits.{is_piece}
+use Rattle.spec_sphere.specs.sphere.Spheres.{other_than, turn_in, turn_against, Cursor, Role, Plain, Record, Replay, Sphere, actor_of, is_over, is_stopped, limit_in, limit_of, whole_limit}
+use Rattle.spec_sphere.specs.sphere.Spheres.{replays}
+use Rattle.spec_protocol.specs.machine.Asking.{asks_serial}
+use Rattle.spec_engine.specs.Closing.{is_short, is_piece}
 use Rattle.spec_protocol.specs.machine.World.{Occupant, World, sphere_at}
 use Rattle.spec_protocol.specs.promises.Invariants.{Closes, LimitFits}
-use Rattle.spec_protocol.specs.promises.Sound.{IsSoundCursor}
-use Rattle.spec_protocol.proofs.Moves.Joining.{may_go, joins-whole}
-use Rattle.spec_protocol.proofs.Sound.Limits.{whole-positive}
+use Rattle.spec_sphere.specs.promises.Sound.{IsSoundCursor}
+use Rattle.spec_sphere.proofs.Moves.Joining.{may_go, joins-whole}
+use Rattle.spec_sphere.proofs.Sound.Limits.{whole-positive}
 use Rattle.dl_sphere.specs.Moving.{CanCommit, IsPartIn, IsTurnOf, IsTurnOfDma, MayCommit}
 use Rattle.dl_machine.specs.declared.one_core.Held.{Held as Seen}
 use Rattle.dl_machine.specs.Cores.{seen}

@@ -5,8 +5,8 @@ use Rattle.spec_isa.specs.declared.thread.Parts.{Parts}
 use Rattle.spec_kernel.specs.Devices.{Devices}
 use Rattle.spec_play.specs.Verdicts.{LogVerdict, Goes, Fails, serial_verdict}
 use Rattle.spec_play.specs.Transfers.{DmaVerdict, DmaGoes, DmaFails, dma_verdict}
-use Rattle.spec_protocol.specs.machine.Spheres.{Cursor, Role, Plain, Record, Replay, Sphere}
-use Rattle.spec_protocol.specs.machine.Commits.{CommitOutcome, Granted, Piece, Diverged, MovedSphere, by_verdict, serial_in, serial_moved, dma_by_verdict, live_dma, dma_in, dma_moved}
+use Rattle.spec_sphere.specs.sphere.Spheres.{Cursor, Role, Plain, Record, Replay, Sphere}
+use Rattle.spec_sphere.specs.sphere.Commits.{CommitOutcome, Granted, Piece, Diverged, MovedSphere, by_verdict, serial_in, serial_moved, dma_by_verdict, live_dma, dma_in, dma_moved}
 
 -- a move that diverges leaves the devices as they were, and none is a piece
 abbrev pub IsApart : Devices → MovedSphere → CommitOutcome → Type 0

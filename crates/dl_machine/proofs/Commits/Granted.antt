@@ -14,10 +14,11 @@ use Rattle.spec_engine.specs.declared.answers.How.{How}
 use Rattle.spec_engine.specs.Signatures.{Signature, nothing, signed}
 use Rattle.spec_engine.specs.Chunks.{Chunk}
 use Rattle.spec_engine.specs.Flights.{Flights, at}
-use Rattle.spec_protocol.specs.machine.Spheres.{Sphere}
-use Rattle.spec_protocol.specs.machine.Commits.{CommitOutcome, Granted, Piece, Diverged, MovedSphere, is_piece, chunk_moved, serial_moved}
+use Rattle.spec_sphere.specs.sphere.Spheres.{Sphere}
+use Rattle.spec_sphere.specs.sphere.Commits.{CommitOutcome, Granted, Piece, Diverged, MovedSphere, chunk_moved, serial_moved}
+use Rattle.spec_engine.specs.Closing.{is_piece, is_short}
 use Rattle.spec_protocol.specs.machine.World.{EventOutcome, Numbers, Occupant, World, OfChunk, OfSerial, moment, sphere_at, held_afresh, flown, with_core}
-use Rattle.spec_protocol.specs.machine.Asking.{CommitRequest, is_short, granted, grant_chunk, grant_serial, promoted}
+use Rattle.spec_protocol.specs.machine.Asking.{CommitRequest, granted, grant_chunk, grant_serial, promoted}
 use Rattle.spec_protocol.specs.machine.Flying.{younger_of}
 use Rattle.dl_machine.specs.declared.one_core.Held.{Held as Seen}
 use Rattle.dl_machine.specs.Cores.{given_up, goes_on, seen, writes_in}

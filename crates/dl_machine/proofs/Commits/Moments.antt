@@ -4,8 +4,8 @@ use Rattle.spec_isa.specs.declared.thread.Parts.{Parts}
 use Rattle.spec_kernel.specs.Devices.{Devices}
 use Rattle.spec_kernel.specs.Needs.{Need, Write, Read, Random, Clock, MomentWord, InputWord, need}
 use Rattle.spec_kernel.specs.Answers.{Answered, Taken, answer, answer_moment, taken}
-use Rattle.spec_protocol.specs.machine.Spheres.{Role, Plain, Record, Replay, Sphere}
-use Rattle.spec_protocol.specs.machine.Commits.{served_as, serial_noted, serial_in, serial_moved}
+use Rattle.spec_sphere.specs.sphere.Spheres.{Role, Plain, Record, Replay, Sphere}
+use Rattle.spec_sphere.specs.sphere.Commits.{served_as, serial_noted, serial_in, serial_moved}
 
 moment_cut : (d : Devices) (kind moment : ℕ) → answer_moment d kind (moment % 2 ^ 32) ≡ answer_moment d kind moment
 moment_cut d kind moment =

@@ -5,9 +5,8 @@ use Rattle.spec_isa.specs.Words.{Stored}
 use Rattle.spec_kernel.specs.Devices.{Devices}
 use Rattle.spec_engine.specs.Flights.{AreOfSize}
 use Rattle.spec_engine.specs.Signatures.{Signature, nothing, signed}
-use Rattle.spec_protocol.specs.machine.Spheres.{Role, Plain, Record, Replay, Sphere}
-use Rattle.spec_protocol.specs.machine.Placing.{replays}
-use Rattle.spec_protocol.specs.machine.Commits.{CommitOutcome, MovedSphere, live_dma, dma_in, dma_moved}
+use Rattle.spec_sphere.specs.sphere.Spheres.{Role, Plain, Record, Replay, Sphere, replays}
+use Rattle.spec_sphere.specs.sphere.Commits.{CommitOutcome, MovedSphere, live_dma, dma_in, dma_moved}
 use Rattle.spec_protocol.specs.machine.World.{World}
 use Rattle.spec_protocol.proofs.Memory.Covering.{bits-signed}
 use Rattle.dl_machine.specs.Ready.{IsReady}

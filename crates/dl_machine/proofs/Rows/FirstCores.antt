@@ -1,7 +1,7 @@
 -- The cores that a machine begins with are as many as were asked for, each with what it holds at first.
 use Rattle.std.proofs.Common.{◌≡◌, ℕ, zero, suc, ◌+◌, List, [], ◌∷◌, ◌++◌, length, Option, Some, None, refl, sym, ap, ◌∙◌, arith}
 use Rattle.std.specs.Prelude.{slice_get}
-use Rattle.spec_protocol.specs.machine.Spheres.{Sphere}
+use Rattle.spec_sphere.specs.sphere.Spheres.{Sphere}
 use Rattle.spec_protocol.specs.machine.World.{Occupant, Numbers}
 use Rattle.spec_protocol.specs.machine.Machine.{first_cores}
 use Rattle.dl_machine.specs.Setups.{first_held}

@@ -5,17 +5,20 @@ use Rattle.std.proofs.lemmas.Bool.{cases_Bool, cases_eq, cases_lt, eqb-true}
 use Rattle.std.proofs.lemmas.List.{get_or_past}
 use Rattle.spec_isa.specs.Words.{Stored}
 use Rattle.spec_log.specs.declared.LogParts.{LogParts}
-use Rattle.spec_play.specs.Epochs.{Epoch, Epochs, given_up, with_epoch}
+use Rattle.spec_play.specs.Epochs.{Epoch, Epochs, given_up, with_epoch, is_due}
 use Rattle.spec_play.specs.Progress.{position}
-use Rattle.spec_engine.specs.Flights.{AreInside, Flight, at}
+use Rattle.spec_isa.specs.Inside.{AreInside}
+use Rattle.spec_engine.specs.Flights.{Flight, at}
 use Rattle.spec_protocol.specs.declared.event.Event.{Event}
-use Rattle.spec_protocol.specs.machine.Epochs.{begun_at, begun_if, begun_in, epoch_at, epoch_begun, is_due, trimmed_by}
+use Rattle.spec_protocol.specs.machine.Epochs.{begun_at}
+use Rattle.spec_sphere.specs.sphere.Epochs.{begun_if, begun_in, epoch_at, epoch_begun, trimmed_by}
 use Rattle.spec_protocol.specs.machine.Machine.{Setup}
-use Rattle.spec_protocol.specs.machine.Shown.{flying, words_of}
-use Rattle.spec_protocol.specs.machine.Spheres.{Role, Plain, Record, Replay, Sphere, no_sphere}
+use Rattle.spec_engine.specs.Flying.{flying, words_of}
+use Rattle.spec_sphere.specs.sphere.Spheres.{Role, Plain, Record, Replay, Sphere, no_sphere}
 use Rattle.spec_protocol.specs.machine.World.{World, sphere_at}
 use Rattle.spec_protocol.specs.promises.Alike.{AreAlike}
-use Rattle.spec_protocol.specs.promises.Kept.{NoneIsDue, has_due}
+use Rattle.spec_protocol.specs.promises.Kept.{NoneIsDue}
+use Rattle.spec_sphere.specs.promises.Kept.{has_due}
 use Rattle.spec_protocol.proofs.Alike.Good.{spheres-alike}
 use Rattle.spec_protocol.proofs.Kept.One.{begun-one-alike, begun-one-ready, begun-one-shows, begun-others, begun-same}
 use Rattle.dl_sphere.specs.Setups.{standard_in}

@@ -4,15 +4,17 @@ use Rattle.std.specs.Prelude.{slice_get}
 use Rattle.std.proofs.lemmas.Grind.{common_steps}
 use Rattle.std.proofs.lemmas.Option.{same_Some}
 use Rattle.spec_protocol.specs.machine.Machine as protocol
+use Rattle.spec_sphere.specs.sphere.Setups as sphere
 use Rattle.spec_protocol.specs.machine.Machine.{world_of}
 use Rattle.spec_protocol.specs.promises.Promises.{IsSetup}
-use Rattle.spec_protocol.specs.promises.Sound.{IsImage, IsWithinLimits}
+use Rattle.spec_sphere.specs.promises.Sound.{IsImage}
+use Rattle.spec_protocol.specs.promises.Sound.{IsWithinLimits}
 use Rattle.dl_sphere.specs.declared.setup.SphereSetup.{SphereSetup}
 use Rattle.dl_sphere.specs.Setups.{setup_of}
 use Rattle.dl_machine.specs.declared.setup.Setup.{Setup}
 use Rattle.dl_machine.specs.Setups.{IsWithin, setup_in}
 
-image_at : (s : ℕ) (xs : List SphereSetup) → All (λ x. IsImage s (setup_of x)) xs → (i : ℕ) (image : protocol.SphereSetup) → slice_get (map setup_of xs) i ≡ Some image → IsImage s image
+image_at : (s : ℕ) (xs : List SphereSetup) → All (λ x. IsImage s (setup_of x)) xs → (i : ℕ) (image : sphere.SphereSetup) → slice_get (map setup_of xs) i ≡ Some image → IsImage s image
 image_at s [] all zero image e = cc
 image_at s [] all (suc i) image e = cc
 image_at s (x ∷ xs) all zero image e = subst (IsImage s) (same_Some _ _ e) (all 0 x (omega arith))

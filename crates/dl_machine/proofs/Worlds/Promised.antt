@@ -11,17 +11,19 @@ use Rattle.spec_replay.specs.Promises.{IsPlayed}
 use Rattle.spec_log.specs.Log.{IsLog}
 use Rattle.spec_protocol.specs.declared.event.Event.{Event}
 use Rattle.spec_protocol.specs.machine.World.{World, sphere_at}
-use Rattle.spec_protocol.specs.machine.Spheres.{Recording, Record, Sphere, no_sphere}
-use Rattle.spec_protocol.specs.machine.Placing.{replays}
+use Rattle.spec_sphere.specs.sphere.Spheres.{Recording, Record, Sphere, no_sphere, replays}
 use Rattle.spec_protocol.specs.machine.Shown.{shown, shown_from, shown_of}
-use Rattle.spec_protocol.specs.machine.Machine.{RecordSetup, first_played, last_played, new_epochs, ReplaySetup, RoleSetup, IsReplayed, Setup, SphereSetup, happens, in_strata, world_of}
+use Rattle.spec_sphere.specs.sphere.Setups.{RecordSetup, first_played, last_played, new_epochs, ReplaySetup, RoleSetup, IsReplayed, SphereSetup, in_strata}
+use Rattle.spec_protocol.specs.machine.Machine.{Setup, happens, world_of}
 use Rattle.spec_protocol.specs.promises.Promises.{WillRecord, after}
 use Rattle.spec_protocol.specs.promises.LogsOfPoints.{recording_of_points}
-use Rattle.spec_protocol.specs.promises.PlayingBack.{PlaysBack}
-use Rattle.spec_protocol.specs.promises.Alike.{epochs_in, forgotten, AreAlike}
+use Rattle.spec_sphere.specs.promises.PlayingBack.{PlaysBack}
+use Rattle.spec_sphere.specs.promises.Alike.{epochs_in, forgotten}
+use Rattle.spec_protocol.specs.promises.Alike.{AreAlike}
 use Rattle.spec_protocol.specs.promises.Kept.{IsKept, IsReady as IsReadyFor, NoneIsDue, Shows}
 use Rattle.spec_protocol.specs.promises.ConsoleBytes.{place_of}
-use Rattle.spec_protocol.specs.promises.Sound.{IsRole, IsWithinLimits}
+use Rattle.spec_sphere.specs.promises.Sound.{IsRole}
+use Rattle.spec_protocol.specs.promises.Sound.{IsWithinLimits}
 use Rattle.spec_protocol.proofs.Points.Serial.{commits_are}
 use Rattle.spec_protocol.proofs.PlayingBack.All.{logs_play_back}
 use Rattle.spec_replay.proofs.Replays.All.{replays_follow}
@@ -33,7 +35,8 @@ use Rattle.spec_protocol.proofs.Invariants.Schedules.{invariants_hold}
 use Rattle.spec_protocol.proofs.Sound.Schedules.{worlds_sound}
 use Rattle.spec_protocol.proofs.Alike.All.{events_alike}
 use Rattle.spec_protocol.proofs.Alike.Good.{sphere-alike, spheres-alike}
-use Rattle.spec_protocol.proofs.Alike.Shown.{position-alike, replays-alike, same-if-replayed, same-unless-epochs, shown-alike}
+use Rattle.spec_sphere.proofs.Alike.Shown.{position-alike, replays-alike, same-if-replayed, same-unless-epochs}
+use Rattle.spec_protocol.proofs.Alike.Shown.{shown-alike}
 use Rattle.spec_protocol.proofs.Alike.Sound.{sound-alike}
 use Rattle.spec_protocol.proofs.Kept.Worlds.{recordings_kept}
 use Rattle.spec_protocol.proofs.Moves.Quiet.{is_quiet, quiet-happens}

@@ -4,14 +4,16 @@ use Rattle.std.specs.Prelude.{IfSome, option_map, slice_get}
 use Rattle.std.proofs.lemmas.List.{length-map}
 use Rattle.spec_isa.specs.declared.thread.Parts.{Parts}
 use Rattle.spec_play.specs.Progress.{position}
-use Rattle.spec_protocol.specs.machine.Machine.{SphereSetup}
-use Rattle.spec_protocol.specs.machine.Spheres.{Cursor, Role, Replay, Sphere}
-use Rattle.spec_protocol.specs.promises.Alike.{epochs_in, role_without, forgotten}
-use Rattle.spec_protocol.specs.promises.Sound.{IsSoundCursor, IsSoundRole, IsSoundSphere, IsSoundThread, image_at}
+use Rattle.spec_sphere.specs.sphere.Setups.{SphereSetup}
+use Rattle.spec_sphere.specs.sphere.Spheres.{Cursor, Role, Replay, Sphere}
+use Rattle.spec_sphere.specs.promises.Alike.{epochs_in, role_without, forgotten}
+use Rattle.spec_sphere.specs.promises.Sound.{IsSoundCursor, IsSoundRole, IsSoundSphere, IsSoundThread}
+use Rattle.spec_protocol.specs.promises.Sound.{image_at}
 use Rattle.spec_protocol.proofs.Alike.Forgetting.{sphere-forgotten}
-use Rattle.spec_protocol.proofs.Alike.Sound.{position-without}
+use Rattle.spec_sphere.proofs.Alike.Sound.{position-without}
 use Rattle.std.proofs.lemmas.Option.{none-some, same_Some, slice_get_within}
-use Rattle.spec_engine.specs.Flights.{Flight, AreInside, AreOfSize, IsInside, IsOfSize, at}
+use Rattle.spec_engine.specs.Flights.{Flight, AreOfSize, IsInside, IsOfSize, at}
+use Rattle.spec_isa.specs.Inside.{AreInside}
 use Rattle.spec_engine.specs.Chunks.{Chunk}
 use Rattle.spec_protocol.specs.machine.Flying.{younger_of}
 use Rattle.spec_protocol.specs.machine.World.{Occupant, World, sphere_at}

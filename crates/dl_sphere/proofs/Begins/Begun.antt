@@ -11,10 +11,10 @@ use Rattle.spec_play.specs.Epochs.{Epoch, Epochs, with_epoch, given_up}
 use Rattle.spec_play.specs.Noted.{Recorded, as_log}
 use Rattle.spec_play.specs.Progress.{position}
 use Rattle.spec_play.specs.declared.used.Used.{Used}
-use Rattle.spec_protocol.specs.machine.Epochs as protocol
-use Rattle.spec_protocol.specs.machine.Epochs.{epoch_at, state_in, trimmed_by, epoch_begun}
-use Rattle.spec_protocol.specs.machine.Spheres.{Sphere, Role, Record}
-use Rattle.spec_protocol.specs.promises.Sound.{AreFresh}
+use Rattle.spec_sphere.specs.sphere.Epochs as protocol
+use Rattle.spec_sphere.specs.sphere.Epochs.{epoch_at, state_in, trimmed_by, epoch_begun}
+use Rattle.spec_sphere.specs.sphere.Spheres.{Sphere, Role, Record}
+use Rattle.spec_sphere.specs.promises.Sound.{AreFresh}
 use Rattle.dl_record.specs.Epochs as recorder
 use Rattle.dl_record.specs.Epochs.{InEpochs, base, due_in, left_of}
 use Rattle.dl_kernel.specs.declared.past.Past.{Past}
@@ -22,7 +22,6 @@ use Rattle.dl_sphere.specs.Pasts.{sphere_at, sphere_with}
 use Rattle.dl_sphere.specs.Recorded.{Recording, commits_of}
 use Rattle.dl_sphere.specs.Roles.{recording_of, role_in, HasRecorded}
 use Rattle.dl_sphere.specs.declared.part.Part.{Part}
-use Rattle.dl_sphere.proofs.Begins.Due.{due_same}
 use Rattle.dl_sphere.proofs.Begins.Fresh.{fresh-left}
 use Rattle.dl_sphere.proofs.Standing.Moves.{commits_are}
 
@@ -98,10 +97,6 @@ module _ (first : ℕ) (m : List ℕ) (ts : List Parts) (cs : List Commit) (last
     pub stands : HasRecorded s (from_first (base w.epochs) w) w
     pub counted : base w.epochs + length (drop (base w.epochs - first) cs) ≡ first + length cs
 
-  same_inputs : (es : List Epoch) → play.inputs_before es ≡ protocol.inputs_before es
-  same_inputs [] = refl
-  same_inputs (e ∷ es) = refl
-
   stands_from : (s : ℕ) (r w : InEpochs) → HasRecorded s (with_commits first cs r) r → Keeps r.recorded w.recorded → first ≤ base w.epochs → commits_of w ≡ first + length cs → HasRecorded s (from_first (base w.epochs) w) w
   stands_from s r w h k least all =
       let n = base w.epochs in
@@ -136,12 +131,11 @@ module _ (first : ℕ) (m : List ℕ) (ts : List Parts) (cs : List Commit) (last
       let given = given_up_is e.begun new x y refl is_first (omega (arith, same, all, count)) in
       let least = no_earlier up (base w.epochs) given in
       let done : commits_of w ≡ first + length cs = omega (arith, same, all) in
-      let is_due : protocol.is_due (position p.progress) e ≡ true = due_same (position p.progress) e ∙ ap (λ (n : ℕ). play.is_due n e) (sym all) ∙ due in
+      let is_due : play.is_due (position p.progress) e ≡ true = ap (λ (n : ℕ). play.is_due n e) (sym all) ∙ due in
       let begun : Epoch → Sphere = λ z. trimmed_by (given_up e.keep (e.begun ++ z ∷ [])) (as_log x) (with_epoch z e) p in
       record {
         sphere =
             left_is up x y p.role given
-            ∙ ap begun (λ i. record { state = here; inputs = same_inputs e.begun i + length x.inputs })
             ∙ sym (ap (λ (b : Bool). cond b (begun (epoch_at memory (as_log x) e p)) p) is_due);
         stands = stands_from s r w h (left_keeps up x y) least done;
         counted = still_at (base w.epochs) least (omega (arith, done));
@@ -159,7 +153,7 @@ module _ (first : ℕ) (m : List ℕ) (ts : List Parts) (cs : List Commit) (last
   none_in s memory x (Some e) h due =
       let r : InEpochs = record { recorded = x; epochs = Some e } in
       let p = with_commits first cs r in
-      let no : protocol.is_due (position p.progress) e ≡ false = due_same (position p.progress) e ∙ ap (λ (n : ℕ). play.is_due n e) (sym (commits_are s p r h)) ∙ due in
+      let no : play.is_due (position p.progress) e ≡ false = ap (λ (n : ℕ). play.is_due n e) (sym (commits_are s p r h)) ∙ due in
       ap (λ (b : Bool). cond b (protocol.trimmed (as_log x) (with_epoch (epoch_at memory (as_log x) e p) e) p) p) no
 
   -- if none was due, none begins

@@ -6,8 +6,8 @@ use Rattle.std.proofs.lemmas.Option.{none-some}
 use Rattle.spec_isa.specs.declared.thread.Parts.{Parts}
 use Rattle.spec_log.specs.declared.Interrupt.{Interrupt}
 use Rattle.spec_play.specs.Verdicts.{interrupt_at}
-use Rattle.spec_protocol.specs.promises.Sound.{AreFresh}
-use Rattle.spec_protocol.proofs.Logs.Lookups.{none-there}
+use Rattle.spec_sphere.specs.promises.Sound.{AreFresh}
+use Rattle.spec_sphere.proofs.Logs.Lookups.{none-there}
 
 module _ {X : Type 0} (p : X → Bool) where
   one-left : (x : X) (b c : Bool) (xs ys : List X) → p x ≡ b → (find p xs ≡ None → find p ys ≡ None) → cond b (Some x) (find p xs) ≡ None → find p (cond c (x ∷ ys) ys) ≡ None

@@ -2,7 +2,7 @@
 use Rattle.std.proofs.Common.{◌≡◌, ℕ, ◌∷◌, ◌++◌, [], List, length, ap, sym, subst}
 use Rattle.spec_isa.specs.Words.{Stored, lay, lays}
 use Rattle.spec_isa.proofs.MemoryLaws.{length_lay}
-use Rattle.spec_engine.specs.Flights.{AreInside}
+use Rattle.spec_isa.specs.Inside.{AreInside}
 
 -- ---- word by word
 

@@ -9,8 +9,8 @@ use Rattle.spec_kernel.specs.Devices.{Devices, HaveByteInput}
 use Rattle.spec_kernel.specs.Needs.{Need, need}
 use Rattle.spec_kernel.specs.Answers.{taken}
 use Rattle.spec_log.specs.Log.{IsInput}
-use Rattle.spec_protocol.specs.promises.Notable.{IsInputIf}
-use Rattle.spec_protocol.proofs.Sound.Devices.{taken-sound}
+use Rattle.spec_sphere.specs.promises.Notable.{IsInputIf}
+use Rattle.spec_sphere.proofs.Sound.Devices.{taken-sound}
 use Rattle.dl_kernel.specs.Outside.{record_left, devices_left}
 
 -- the input that is left for the log is the one that was taken

@@ -12,9 +12,9 @@ use Rattle.spec_kernel.specs.Copies.{dma_words}
 use Rattle.spec_kernel.specs.Serving.{StepResult, serve, console_written}
 use Rattle.spec_play.specs.Effects.{chunk_commit, counted, dma_commit, serial_commit}
 use Rattle.spec_play.specs.Recording.{noted, input_noted}
-use Rattle.spec_protocol.specs.machine.Spheres as protocol
-use Rattle.spec_protocol.specs.machine.Commits.{Granted, MovedSphere, chunk_moved, dma_moved, serial_moved}
-use Rattle.spec_protocol.proofs.Logs.Growing.{commits_if}
+use Rattle.spec_sphere.specs.sphere.Spheres as protocol
+use Rattle.spec_sphere.specs.sphere.Commits.{Granted, MovedSphere, chunk_moved, dma_moved, serial_moved}
+use Rattle.spec_sphere.specs.promises.Sound.{commits_if}
 use Rattle.spec_play.specs.declared.used.Used.{Used}
 use Rattle.dl_sphere.specs.Pasts.{sphere_with}
 use Rattle.spec_play.specs.Noted.{as_log}

@@ -22,8 +22,8 @@ use Rattle.spec_play.specs.Intervals.{at_end_of_log, now_in}
 use Rattle.spec_play.specs.Turns.{TurnOrEnd, Turn, TurnOfDma, Ended, at_end, has_left_over, now_at, turn_of, turn_of_thread}
 use Rattle.spec_play.specs.Transfers.{DmaGoes, DmaFails, DmaVerdict}
 use Rattle.spec_play.specs.Verdicts.{Goes, Fails, LogVerdict}
-use Rattle.spec_protocol.specs.machine.Commits.{now_by, with_commit}
-use Rattle.spec_protocol.specs.machine.Spheres.{Cursor, actor_of, joins_in}
+use Rattle.spec_sphere.specs.sphere.Commits.{now_by, with_commit}
+use Rattle.spec_sphere.specs.sphere.Spheres.{Cursor, actor_of, joins_in}
 use Rattle.spec_strata.specs.declared.stratum.Stratum.{Stratum}
 use Rattle.spec_strata.specs.declared.stratum.Stratum.TheVariants.{Chunks, Serial, Dma}
 use Rattle.spec_strata.specs.declared.strata.StrataParts.{StrataParts}

@@ -7,12 +7,12 @@ use Rattle.spec_isa.specs.declared.thread.Parts.{Parts}
 use Rattle.spec_log.specs.Log.{IsLog}
 use Rattle.spec_play.specs.Progress.{position}
 use Rattle.spec_play.specs.declared.used.Used.{Used}
-use Rattle.spec_protocol.specs.promises.Sound.{IsSoundIf, commits_in, commits_if}
-use Rattle.spec_protocol.specs.machine.Placing.{replays}
-use Rattle.spec_protocol.specs.machine.Spheres.{Cursor, Replay as IsReplay, Sphere, is_over, limit_in, pieces_of, whole_limit}
-use Rattle.spec_protocol.proofs.Moves.Joining.{MayGo, its_turn, own_pieces}
-use Rattle.spec_protocol.proofs.Sound.Commits.{set-all}
-use Rattle.spec_protocol.proofs.Sound.Limits.{whole-most}
+use Rattle.spec_sphere.specs.promises.Sound.{IsSoundIf, commits_in, commits_if}
+use Rattle.spec_sphere.specs.sphere.Spheres.{replays}
+use Rattle.spec_sphere.specs.sphere.Spheres.{Cursor, Replay as IsReplay, Sphere, is_over, limit_in, pieces_of, whole_limit}
+use Rattle.spec_sphere.proofs.Moves.Joining.{MayGo, its_turn, own_pieces}
+use Rattle.spec_sphere.proofs.Sound.Commits.{set-all}
+use Rattle.spec_sphere.proofs.Sound.Limits.{whole-most}
 use Rattle.dl_kernel.specs.declared.past.Past.{Past}
 use Rattle.dl_kernel.specs.States.{PlayState as State}
 use Rattle.dl_kernel.specs.InOrder.{listed}

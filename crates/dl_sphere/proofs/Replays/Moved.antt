@@ -16,8 +16,8 @@ use Rattle.spec_play.specs.Turns.{TurnOrEnd, Ended}
 use Rattle.spec_log.specs.declared.LogParts.{LogParts}
 use Rattle.spec_strata.specs.Standing.{Standing, place_of}
 use Rattle.spec_play.specs.Verdicts.{LogVerdict, Goes, Fails}
-use Rattle.spec_protocol.specs.machine.Commits.{Diverged, Granted, MovedSphere, by_verdict, dma_by_verdict}
-use Rattle.spec_protocol.specs.machine.Spheres.{Replay, Role, Sphere}
+use Rattle.spec_sphere.specs.sphere.Commits.{Diverged, Granted, MovedSphere, by_verdict, dma_by_verdict}
+use Rattle.spec_sphere.specs.sphere.Spheres.{Replay, Role, Sphere}
 use Rattle.dl_kernel.specs.declared.past.Past.{Past}
 use Rattle.dl_kernel.specs.States.{PlayState as State}
 use Rattle.dl_kernel.specs.InOrder.{listed}

@@ -4,7 +4,7 @@ use Rattle.spec_isa.specs.Words.{Stored}
 use Rattle.spec_isa.proofs.MemoryLaws.{length_lay}
 use Rattle.spec_engine.specs.Flights.{Flight, drain, drain_words}
 use Rattle.dl_kernel.specs.declared.past.Past.{Past}
-use Rattle.spec_protocol.specs.promises.Sound.{IsSoundIf}
+use Rattle.spec_sphere.specs.promises.Sound.{IsSoundIf}
 use Rattle.dl_sphere.specs.Roles.{Keeping, Plain, Recording, Replaying, IsKeepingOf, IsSphere}
 
 words_length : (m : List ℕ) (f : Flight) (ws : List Stored) → length (drain_words m f ws).memory ≡ length m

@@ -17,13 +17,13 @@ use Rattle.spec_play.specs.Progress.{Progress, position}
 use Rattle.spec_play.specs.Recording.{noted, input_noted, dma_noted}
 use Rattle.spec_play.proofs.Keeping.{grows-alike}
 use Rattle.spec_log.specs.declared.LogParts.{LogParts}
-use Rattle.spec_protocol.specs.machine.Spheres.{Sphere, Record}
-use Rattle.spec_protocol.specs.machine.Commits.{role_raised}
-use Rattle.spec_protocol.proofs.Moves.Threads.{AreNew}
-use Rattle.spec_protocol.specs.promises.Sound.{AreFresh}
-use Rattle.spec_protocol.proofs.Logs.Growing.{commits_in, commits_if, commits-other, commits-same}
-use Rattle.spec_protocol.proofs.Logs.Fresh.{fresh-commit, fresh-raise}
-use Rattle.spec_protocol.proofs.Logs.Lookups.{none-there}
+use Rattle.spec_sphere.specs.sphere.Spheres.{Sphere, Record}
+use Rattle.spec_sphere.specs.sphere.Commits.{role_raised}
+use Rattle.spec_sphere.proofs.Moves.Threads.{AreNew}
+use Rattle.spec_sphere.specs.promises.Sound.{AreFresh, commits_in, commits_if}
+use Rattle.spec_sphere.proofs.Logs.Growing.{commits-other, commits-same}
+use Rattle.spec_sphere.proofs.Logs.Fresh.{fresh-commit, fresh-raise}
+use Rattle.spec_sphere.proofs.Logs.Lookups.{none-there}
 use Rattle.spec_play.specs.Noted.{as_log}
 use Rattle.dl_record.specs.Epochs.{InEpochs, IsBegun}
 use Rattle.dl_sphere.specs.Recorded.{commits_of, with_commit}

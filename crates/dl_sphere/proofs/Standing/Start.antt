@@ -19,17 +19,16 @@ use Rattle.spec_play.specs.States.{State, state_after, state_of, resumed}
 use Rattle.spec_play.specs.Turns.{TurnOrEnd, Ended}
 use Rattle.spec_play.proofs.Bounds.{after-bounded}
 use Rattle.spec_play.proofs.Resuming.{plays_resume}
-use Rattle.spec_protocol.specs.machine.Machine.{EpochSetup, ReplaySetup, RoleSetup, IsPlain, IsRecorded, IsReplayed, SphereSetup}
-use Rattle.spec_protocol.specs.machine.Machine.{first_played, first_standing, first_threads, in_strata, new_epochs, sphere_as}
-use Rattle.spec_protocol.specs.machine.Spheres as machine
-use Rattle.spec_protocol.specs.machine.Spheres.{Sphere}
-use Rattle.spec_protocol.specs.promises.Sound.{AreReplayableIf, IsChunkSize, IsImage, IsRole, IsSoundIf}
+use Rattle.spec_sphere.specs.sphere.Setups.{EpochSetup, ReplaySetup, RoleSetup, IsPlain, IsRecorded, IsReplayed, SphereSetup}
+use Rattle.spec_sphere.specs.sphere.Setups.{first_played, first_standing, first_threads, in_strata, new_epochs, sphere_as}
+use Rattle.spec_sphere.specs.sphere.Spheres as machine
+use Rattle.spec_sphere.specs.sphere.Spheres.{Sphere}
+use Rattle.spec_sphere.specs.promises.Sound.{AreReplayableIf, IsChunkSize, IsImage, IsRole, IsSoundIf, commits_in}
 use Rattle.spec_strata.specs.declared.stratum.Stratum.{Stratum}
 use Rattle.spec_strata.specs.declared.strata.StrataParts.{StrataParts}
 use Rattle.spec_strata.specs.Standing.{stratum_begun}
-use Rattle.spec_protocol.proofs.Logs.Fresh.{fresh-none}
-use Rattle.spec_protocol.proofs.Logs.Growing.{commits_in}
-use Rattle.spec_protocol.proofs.Sound.Plays.{replay-sound}
+use Rattle.spec_sphere.proofs.Logs.Fresh.{fresh-none}
+use Rattle.spec_sphere.proofs.Sound.Plays.{replay-sound}
 use Rattle.dl_kernel.specs.States.{state_in}
 use Rattle.dl_kernel.specs.InOrder.{NoneWaits, listed}
 use Rattle.dl_sphere.specs.Setups.{HasCome, IsBegunAs, IsBegunIf, IsFirstIf, IsParallelAs, begun_as, begun_of, diverged_in, interval_in, log_of, replay_setup, role_setup, strata_as, strata_in, strata_of}

@@ -7,10 +7,11 @@ use Rattle.spec_play.specs.Plays.{Played}
 use Rattle.spec_strata.specs.declared.stratum.Stratum.{Stratum}
 use Rattle.spec_strata.specs.Standing.{stratum_begun}
 use Rattle.spec_protocol.specs.declared.event.Event.{Event}
-use Rattle.spec_protocol.specs.machine.Spheres.{Cursor}
+use Rattle.spec_sphere.specs.sphere.Spheres.{Cursor}
 use Rattle.spec_protocol.specs.machine.World.{Numbers, World, Move}
-use Rattle.spec_protocol.specs.machine.Commits.{between}
-use Rattle.spec_protocol.specs.machine.Machine.{first_played, first_standing, RoleSetup, IsPlain, IsRecorded, IsReplayed, SphereSetup, Setup, sphere_as, sphere_of, world_of, happens, world_after, with_move, moves}
+use Rattle.spec_sphere.specs.sphere.Commits.{between}
+use Rattle.spec_sphere.specs.sphere.Setups.{first_played, first_standing, RoleSetup, IsPlain, IsRecorded, IsReplayed, SphereSetup, sphere_as, sphere_of}
+use Rattle.spec_protocol.specs.machine.Machine.{Setup, world_of, happens, world_after, with_move, moves}
 use Rattle.spec_protocol.specs.machine.Serial.{SerialState, serial_start}
 use Rattle.spec_protocol.specs.machine.Shown.{shown_of}
 use Rattle.spec_protocol.specs.machine.Moves.{do_if}

@@ -9,13 +9,13 @@ use Rattle.spec_kernel.specs.Devices.{Devices}
 use Rattle.spec_play.specs.Verdicts.{LogVerdict, Goes, Fails}
 use Rattle.spec_play.specs.Transfers.{DmaVerdict, DmaGoes, DmaFails}
 use Rattle.spec_engine.specs.declared.answers.How.{How}
-use Rattle.spec_protocol.specs.machine.Spheres.{Cursor, Role, Plain, Record, Replay, Sphere}
-use Rattle.spec_protocol.specs.machine.Commits.{MovedSphere, by_verdict, chunk_in, chunk_moved, is_piece, serial_in, serial_moved, live_dma, dma_log, dma_by_verdict, dma_in, dma_moved, role_raised, raised}
-use Rattle.spec_protocol.specs.machine.Placing.{replays}
+use Rattle.spec_sphere.specs.sphere.Spheres.{Cursor, Role, Plain, Record, Replay, Sphere, replays}
+use Rattle.spec_sphere.specs.sphere.Commits.{MovedSphere, by_verdict, chunk_in, chunk_moved, serial_in, serial_moved, live_dma, dma_log, dma_by_verdict, dma_in, dma_moved, role_raised, raised}
+use Rattle.spec_engine.specs.Closing.{is_piece, is_short}
 use Rattle.spec_protocol.specs.machine.World.{Numbers, MoveKind, OfChunk, OfSerial, OfDma, OfRaise, Move}
-use Rattle.spec_protocol.specs.machine.Asking.{is_short}
-use Rattle.spec_protocol.specs.machine.Machine.{RoleSetup, IsPlain, IsRecorded, IsReplayed, SphereSetup, sphere_as, sphere_of}
-use Rattle.spec_protocol.specs.machine.Serial.{SerialState, laid, do_serial, do_dma, do_raise}
+use Rattle.spec_sphere.specs.sphere.Commits.{laid}
+use Rattle.spec_sphere.specs.sphere.Setups.{RoleSetup, IsPlain, IsRecorded, IsReplayed, SphereSetup, sphere_as, sphere_of}
+use Rattle.spec_protocol.specs.machine.Serial.{SerialState, do_serial, do_dma, do_raise}
 use Rattle.spec_protocol.specs.machine.Moves.{move_chunk, do_by_kind, do_at, do_move, do_moves}
 
 -- ---- one sphere

@@ -4,16 +4,16 @@ use Rattle.std.specs.Prelude.{slice_get}
 use Rattle.std.proofs.lemmas.Bool.{true≢false}
 use Rattle.std.proofs.lemmas.Option.{none-some}
 use Rattle.spec_protocol.specs.declared.event.Event.{Event}
-use Rattle.spec_protocol.specs.machine.Spheres.{Cursor, Replay, Sphere, is_over}
-use Rattle.spec_protocol.specs.machine.Placing.{replays}
+use Rattle.spec_sphere.specs.sphere.Spheres.{Cursor, Replay, Sphere, is_over, replays}
 use Rattle.spec_protocol.specs.machine.World.{World}
-use Rattle.spec_protocol.specs.machine.Machine.{ReplaySetup, in_strata, RoleSetup, IsPlain, IsRecorded, IsReplayed, SphereSetup, Setup, world_of, happens, world_after, moves}
+use Rattle.spec_sphere.specs.sphere.Setups.{ReplaySetup, in_strata, RoleSetup, IsPlain, IsRecorded, IsReplayed, SphereSetup}
+use Rattle.spec_protocol.specs.machine.Machine.{Setup, world_of, happens, world_after, moves}
 use Rattle.spec_protocol.specs.machine.Serial.{SerialState, serial_start}
 use Rattle.spec_protocol.specs.machine.Shown.{shown_of}
 use Rattle.spec_protocol.specs.promises.Invariants.{IsGood}
 use Rattle.spec_protocol.specs.promises.Promises.{IsSetup, after, AreSizesKept}
 use Rattle.spec_protocol.proofs.Invariants.Schedules.{start-good, after-good, sizes_kept, moves_are}
-use Rattle.spec_protocol.specs.promises.Sound.{AreReplayable, AreReplayableIf}
+use Rattle.spec_sphere.specs.promises.Sound.{AreReplayable, AreReplayableIf}
 use Rattle.spec_strata.specs.declared.stratum.Stratum.{Stratum}
 use Rattle.spec_replay.specs.Promises.{IsReplay}
 use Rattle.spec_replay.proofs.Replays.All.{replays_reach}

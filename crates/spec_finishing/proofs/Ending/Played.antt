@@ -2,9 +2,10 @@
 use Rattle.std.proofs.Common.{◌≡◌, ℕ, ◌<◌, true, List, [], ◌∷◌, ◌++◌, length, Some, None, refl, ap, ◌∙◌, subst, arith}
 use Rattle.std.specs.Prelude.{slice_get}
 use Rattle.spec_protocol.specs.declared.event.Event.{Event}
-use Rattle.spec_protocol.specs.machine.Spheres.{Sphere, is_over}
+use Rattle.spec_sphere.specs.sphere.Spheres.{Sphere, is_over}
 use Rattle.spec_protocol.specs.machine.World.{World}
-use Rattle.spec_protocol.specs.machine.Machine.{ReplaySetup, in_strata, IsReplayed, SphereSetup, Setup, world_of, happens, world_after}
+use Rattle.spec_sphere.specs.sphere.Setups.{ReplaySetup, in_strata, IsReplayed, SphereSetup}
+use Rattle.spec_protocol.specs.machine.Machine.{Setup, world_of, happens, world_after}
 use Rattle.spec_protocol.specs.machine.Shown.{shown_of}
 use Rattle.spec_protocol.specs.machine.Finishing.{next, Finishes}
 use Rattle.spec_protocol.specs.promises.Promises.{after}
@@ -19,11 +20,11 @@ use Rattle.spec_finishing.proofs.Next.Turns.{shown-itself}
 use Rattle.spec_finishing.proofs.Next.All.{next-none, next-stands}
 
 -- the last world has no next event
-last_next : (w : World) (es : List Event) → Finishes w es → next (world_after w es) ≡ None
+pub last_next : (w : World) (es : List Event) → Finishes w es → next (world_after w es) ≡ None
 last_next w [] f = f
 last_next w (e ∷ es) f = last_next (happens w e).world es f.1
 
-after_both : (w : World) (es fs : List Event) → world_after w (es ++ fs) ≡ world_after (world_after w es) fs
+pub after_both : (w : World) (es fs : List Event) → world_after w (es ++ fs) ≡ world_after (world_after w es) fs
 after_both w [] fs = refl
 after_both w (e ∷ es) fs = after_both (happens w e).world es fs
 

@@ -28,10 +28,10 @@ use Rattle.spec_play.specs.Verdicts.{LogVerdict, Goes, Fails, unless, interrupt_
 use Rattle.spec_play.specs.Transfers.{DmaVerdict, DmaGoes, DmaFails, is_for, transferred, dma_unless, dma_verdict}
 use Rattle.spec_play.specs.Plays.{Played, size_or_standard, plays}
 use Rattle.spec_kernel.specs.Records.{fits}
-use Rattle.spec_protocol.proofs.Invariants.Cores.{branch}
-use Rattle.spec_protocol.proofs.Moves.Granted.{either_serve}
-use Rattle.spec_protocol.proofs.Sound.Words.{put-length}
-use Rattle.spec_protocol.proofs.Sound.Limits.{all-in, get-in, size-most}
+use Rattle.spec_play.proofs.Threads.{branch}
+use Rattle.spec_sphere.proofs.Moves.Granted.{either_serve}
+use Rattle.spec_sphere.proofs.Sound.Words.{put-length}
+use Rattle.spec_sphere.proofs.Sound.Limits.{all-in, get-in, size-most}
 use Rattle.spec_finishing.specs.Work.{stored as words_stored, dma_stored, thread_work, turn_work, next_work, commit_work, commits_work}
 use Rattle.spec_finishing.proofs.Paying.Runs.{run-most}
 

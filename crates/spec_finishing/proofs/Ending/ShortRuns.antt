@@ -16,26 +16,28 @@ use Rattle.spec_play.specs.Intervals.{commits_in, IsWithinIf}
 use Rattle.spec_engine.specs.declared.answers.How.{How}
 use Rattle.spec_engine.specs.Flights.{Flight, at}
 use Rattle.spec_protocol.specs.declared.event.Event.{Event}
-use Rattle.spec_protocol.specs.machine.Spheres.{Role, Plain, Record, Replay, Sphere, limit_of}
-use Rattle.spec_protocol.specs.machine.Commits.{serial_in, serial_moved, live_dma, dma_log, dma_in, dma_moved}
-use Rattle.spec_protocol.specs.machine.Placing.{replays}
+use Rattle.spec_sphere.specs.sphere.Spheres.{Role, Plain, Record, Replay, Sphere, limit_of, replays}
+use Rattle.spec_sphere.specs.sphere.Commits.{serial_in, serial_moved, live_dma, dma_log, dma_in, dma_moved}
 use Rattle.spec_protocol.specs.machine.World.{Numbers, World, MoveKind, OfChunk, OfSerial, OfDma, OfRaise, Move, sphere_at}
-use Rattle.spec_protocol.specs.machine.Machine.{first_played, RoleSetup, IsPlain, IsRecorded, IsReplayed, SphereSetup, Setup, world_of, happens, moves}
+use Rattle.spec_sphere.specs.sphere.Setups.{first_played, RoleSetup, IsPlain, IsRecorded, IsReplayed, SphereSetup}
+use Rattle.spec_protocol.specs.machine.Machine.{Setup, world_of, happens, moves}
 use Rattle.spec_protocol.specs.machine.Serial.{SerialState}
-use Rattle.spec_protocol.specs.machine.Shown.{words_of, flying, shown_of}
+use Rattle.spec_engine.specs.Flying.{words_of, flying}
+use Rattle.spec_protocol.specs.machine.Shown.{shown_of}
 use Rattle.spec_protocol.specs.machine.Moves.{ChunkFits, FitsChunk, FitsWhat, FitsAt, FitsIf}
 use Rattle.spec_protocol.specs.promises.Invariants.{current}
 use Rattle.spec_protocol.specs.promises.Promises.{after}
-use Rattle.spec_protocol.specs.promises.Notable.{IsInputIf}
-use Rattle.spec_protocol.specs.promises.Sound.{IsRole, IsImage, IsWithinLimits, HaveBytes, IsSoundRequest, IsSoundIf, IsSoundRole, image_at, IsSound}
+use Rattle.spec_sphere.specs.promises.Notable.{IsInputIf}
+use Rattle.spec_sphere.specs.promises.Sound.{IsRole, IsImage, HaveBytes, IsSoundRequest, IsSoundIf, IsSoundRole}
+use Rattle.spec_protocol.specs.promises.Sound.{IsWithinLimits, image_at, IsSound}
 use Rattle.spec_protocol.proofs.Invariants.Schedules.{happens-preserved, start-shown}
 use Rattle.spec_protocol.proofs.Invariants.Asks.{shown_at, shown_over}
-use Rattle.spec_protocol.proofs.Moves.AnyMemory.{over}
-use Rattle.spec_protocol.proofs.Invariants.Cores.{branch}
+use Rattle.spec_sphere.proofs.Moves.AnyMemory.{over}
+use Rattle.spec_play.proofs.Threads.{branch}
 use Rattle.spec_protocol.proofs.Points.Serial.{shown_length}
-use Rattle.spec_protocol.proofs.Sound.Words.{lay-bytes}
-use Rattle.spec_protocol.proofs.Sound.Devices.{IsSoundTaken, taken-sound, dma-few}
-use Rattle.spec_protocol.proofs.Sound.Limits.{limit-most}
+use Rattle.spec_sphere.proofs.Sound.Words.{lay-bytes}
+use Rattle.spec_sphere.proofs.Sound.Devices.{IsSoundTaken, taken-sound, dma-few}
+use Rattle.spec_sphere.proofs.Sound.Limits.{limit-most}
 use Rattle.spec_protocol.proofs.Sound.Schedules.{setup-within, worlds_sound}
 use Rattle.spec_finishing.specs.Work.{setup_work, plays_work, serial_work, dma_work, kind_work, role_work, sphere_work, moves_work}
 use Rattle.spec_finishing.specs.Rank.{price}

@@ -7,16 +7,18 @@ use Rattle.spec_engine.specs.declared.answers.How.{How}
 use Rattle.spec_engine.specs.Signatures.{Signature, nothing, signed}
 use Rattle.spec_engine.specs.Flights.{Flight, at, first_slot, is_of_sphere}
 use Rattle.spec_engine.proofs.Searches.{first_none}
-use Rattle.spec_protocol.specs.machine.Spheres.{Sphere}
-use Rattle.spec_protocol.specs.machine.Commits.{CommitOutcome, Granted, Piece, Diverged, MovedSphere, is_piece, chunk_moved, serial_moved, dma_moved}
+use Rattle.spec_sphere.specs.sphere.Spheres.{Sphere}
+use Rattle.spec_sphere.specs.sphere.Commits.{CommitOutcome, Granted, Piece, Diverged, MovedSphere, chunk_moved, serial_moved, dma_moved}
+use Rattle.spec_engine.specs.Closing.{is_piece}
 use Rattle.spec_protocol.specs.machine.World.{World, Occupant, Move, moment, sphere_at}
 use Rattle.spec_protocol.specs.machine.Asking.{CommitRequest, move_at, granted, chunk_request, grant_chunk, serial_request, grant_serial, asking}
 use Rattle.spec_protocol.specs.machine.Transferring.{dma_move, transferring}
-use Rattle.spec_protocol.specs.machine.Shown.{flying, shown_of}
+use Rattle.spec_engine.specs.Flying.{flying}
+use Rattle.spec_protocol.specs.machine.Shown.{shown_of}
 use Rattle.spec_protocol.specs.promises.Invariants.{IsGoodHeld, IsGood, current}
 use Rattle.spec_protocol.proofs.Memory.Slots.{words-other}
-use Rattle.spec_protocol.proofs.Moves.Granted.{chunk-stores}
-use Rattle.spec_protocol.proofs.Moves.AnyMemory.{over, relaid, dma-relaid}
+use Rattle.spec_sphere.proofs.Moves.Granted.{chunk-stores}
+use Rattle.spec_sphere.proofs.Moves.AnyMemory.{over, relaid, dma-relaid}
 use Rattle.spec_protocol.proofs.Invariants.Asks.{shown_at, shown_over}
 use Rattle.spec_protocol.proofs.Moves.AnyEvent.{any-ask, any-transfer}
 use Rattle.spec_finishing.proofs.Left.Slots.{flown-most}

@@ -5,7 +5,7 @@ use Rattle.spec_protocol.specs.declared.reply.Reply.{Reply}
 use Rattle.spec_protocol.specs.machine.World.{World, Move, EventOutcome, sphere_at, with_sphere, core_of, answered}
 use Rattle.spec_protocol.specs.machine.Serial.{SerialState}
 use Rattle.spec_protocol.specs.machine.Shown.{shown_of}
-use Rattle.spec_protocol.specs.machine.Commits.{raised}
+use Rattle.spec_sphere.specs.sphere.Commits.{raised}
 use Rattle.spec_protocol.specs.machine.Stepping.{stepping, cutting}
 use Rattle.spec_protocol.specs.machine.Flying.{draining, delivering, retiring}
 use Rattle.spec_protocol.specs.machine.Placing.{placing, with_renewed, raise_in, raising}

@@ -8,7 +8,7 @@ use Rattle.spec_engine.specs.Flights.{Flight, at, told_at, tell, meets_chunk, dr
 use Rattle.spec_protocol.specs.machine.World.{World, Occupant, EventOutcome, sphere_at, with_slot}
 use Rattle.spec_protocol.specs.machine.Flying.{drain_slot, draining, reads_of, writes_of, told, deliver_to, delivering, retiring, younger_of, hits_younger}
 use Rattle.spec_protocol.proofs.Memory.Slots.{at_within}
-use Rattle.spec_protocol.proofs.Invariants.Cores.{branch}
+use Rattle.spec_play.proofs.Threads.{branch}
 use Rattle.spec_finishing.specs.Rank.{flight_rank, flights_rank}
 use Rattle.spec_finishing.proofs.Left.Slots.{flights-set, untold-less}
 

@@ -4,9 +4,8 @@ use Rattle.std.specs.Prelude.{slice_get}
 use Rattle.std.proofs.lemmas.Bool.{true≢false}
 use Rattle.std.proofs.lemmas.Option.{none-some}
 use Rattle.spec_engine.specs.Flights.{Flight}
-use Rattle.spec_protocol.specs.machine.Spheres.{Role, Plain, Record, Replay, Sphere}
-use Rattle.spec_protocol.specs.machine.Placing.{replays}
-use Rattle.spec_protocol.specs.machine.Machine.{SphereSetup}
+use Rattle.spec_sphere.specs.sphere.Spheres.{Role, Plain, Record, Replay, Sphere, replays}
+use Rattle.spec_sphere.specs.sphere.Setups.{SphereSetup}
 use Rattle.spec_protocol.specs.machine.Shown.{shown, shown_from}
 use Rattle.spec_finishing.specs.Rank.{role_rank, spheres_rank}
 

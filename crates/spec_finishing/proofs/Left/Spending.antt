@@ -3,7 +3,7 @@ use Rattle.std.proofs.Common.{◌≡◌, ℕ, ◌+◌, ◌<◌, ◌≤◌, Optio
 use Rattle.std.specs.Prelude.{slice_get}
 use Rattle.std.proofs.lemmas.Option.{none-some}
 use Rattle.spec_protocol.specs.declared.event.Event.{Event}
-use Rattle.spec_protocol.specs.machine.Spheres.{Cursor, Replay, Sphere}
+use Rattle.spec_sphere.specs.sphere.Spheres.{Cursor, Replay, Sphere}
 use Rattle.spec_protocol.specs.machine.World.{Numbers, World, Move, EventOutcome}
 use Rattle.spec_protocol.specs.machine.Machine.{Setup, core_no, sphere_no, slot_no, act, happens}
 use Rattle.spec_protocol.specs.machine.Serial.{SerialState}

@@ -14,7 +14,7 @@ use Rattle.spec_engine.proofs.Choosing.{keep_option, keep_choose}
 use Rattle.spec_engine.proofs.Searches.{first_some}
 use Rattle.spec_protocol.specs.declared.event.Event.{Event}
 use Rattle.spec_protocol.specs.declared.reply.Reply.{Reply}
-use Rattle.spec_protocol.specs.machine.Spheres.{is_stopped}
+use Rattle.spec_sphere.specs.sphere.Spheres.{is_stopped}
 use Rattle.spec_protocol.specs.machine.World.{World, Occupant, EventOutcome, sphere_at, runs, core_of, answered}
 use Rattle.spec_protocol.specs.machine.Stepping.{reply_of_step, stepped, step_held, stepping, younger_for, step_younger}
 use Rattle.spec_protocol.specs.machine.Machine.{core_no, act, with_event, happens}

@@ -10,8 +10,7 @@ use Rattle.spec_engine.specs.Flights.{Flight, at}
 use Rattle.spec_engine.specs.Chunks.{Chunk, is_open}
 use Rattle.spec_engine.proofs.Searches.{first_some}
 use Rattle.spec_protocol.specs.declared.event.Event.{Event}
-use Rattle.spec_protocol.specs.machine.Spheres.{Sphere}
-use Rattle.spec_protocol.specs.machine.Placing.{replays}
+use Rattle.spec_sphere.specs.sphere.Spheres.{Sphere, replays}
 use Rattle.spec_protocol.specs.machine.World.{World, Occupant, EventOutcome, sphere_at, core_of}
 use Rattle.spec_protocol.specs.machine.Stepping.{stepping}
 use Rattle.spec_protocol.specs.machine.Asking.{asking}

@@ -10,8 +10,9 @@ use Rattle.spec_engine.specs.Asking.{ask, ask_serial, denied_by, busy_by}
 use Rattle.spec_engine.proofs.Searches.{full_at}
 use Rattle.spec_play.specs.Transfers.{dma_verdict}
 use Rattle.spec_protocol.specs.declared.reply.Reply.{Reply}
-use Rattle.spec_protocol.specs.machine.Spheres.{other_than, takes_turns, turn_in, turn_against, Cursor, Role, Replay, Sphere, is_stopped, actor_of}
-use Rattle.spec_protocol.specs.machine.Commits.{CommitOutcome, Granted, Piece, Diverged, MovedSphere, is_piece, chunk_moved, serial_moved, dma_by_verdict, dma_in, dma_moved}
+use Rattle.spec_sphere.specs.sphere.Spheres.{other_than, takes_turns, turn_in, turn_against, Cursor, Role, Replay, Sphere, is_stopped, actor_of}
+use Rattle.spec_sphere.specs.sphere.Commits.{CommitOutcome, Granted, Piece, Diverged, MovedSphere, chunk_moved, serial_moved, dma_by_verdict, dma_in, dma_moved}
+use Rattle.spec_engine.specs.Closing.{is_piece}
 use Rattle.spec_protocol.specs.machine.World.{World, Occupant, Move, EventOutcome, moment, sphere_at, answered}
 use Rattle.spec_protocol.specs.machine.Asking.{CommitRequest, move_at, granted, chunk_request, grant_chunk, serial_request, grant_serial, unless_denied, unless_busy, asks_serial, ask_arbiter, unless_turn, ask_closed, ask_held, asking}
 use Rattle.spec_protocol.specs.machine.Transferring.{dma_move, dma_done, transfer, dma_with, dma_if, transferring}

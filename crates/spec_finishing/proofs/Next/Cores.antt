@@ -10,7 +10,7 @@ use Rattle.spec_engine.specs.Flights.{at, passes, first_slot}
 use Rattle.spec_engine.specs.Chunks.{step, is_open, fresh}
 use Rattle.spec_engine.proofs.Searches.{first_least, first_is}
 use Rattle.spec_protocol.specs.declared.reply.Reply.{Reply}
-use Rattle.spec_protocol.specs.machine.Spheres.{Sphere, is_stopped, limit_of, halves}
+use Rattle.spec_sphere.specs.sphere.Spheres.{Sphere, is_stopped, limit_of, halves}
 use Rattle.spec_protocol.specs.machine.World.{World, Occupant, EventOutcome, sphere_at, with_core, thread_afresh, held_afresh, runs, core_of, answered}
 use Rattle.spec_protocol.specs.machine.Stepping.{stepped, step_held, stepping, younger_for, step_younger}
 use Rattle.spec_protocol.specs.machine.Placing.{unless_elsewhere, place_thread, placing}

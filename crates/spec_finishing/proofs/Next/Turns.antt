@@ -8,10 +8,12 @@ use Rattle.spec_isa.specs.Words.{lays}
 use Rattle.spec_engine.specs.Flights.{Flight, at}
 use Rattle.spec_engine.proofs.Searches.{first_none}
 use Rattle.spec_play.specs.Turns.{TurnOrEnd, Turn, TurnOfDma, Ended}
-use Rattle.spec_protocol.specs.machine.Spheres.{Cursor, Role, Plain, Record, Replay, Sphere, no_sphere, is_over, actor_of}
+use Rattle.spec_sphere.specs.sphere.Spheres.{Cursor, Role, Plain, Record, Replay, Sphere, no_sphere, is_over, actor_of}
 use Rattle.spec_protocol.specs.machine.World.{World, sphere_at}
-use Rattle.spec_protocol.specs.machine.Machine.{SphereSetup, Setup}
-use Rattle.spec_protocol.specs.machine.Shown.{flying, shown, shown_from, shown_of}
+use Rattle.spec_sphere.specs.sphere.Setups.{SphereSetup}
+use Rattle.spec_protocol.specs.machine.Machine.{Setup}
+use Rattle.spec_engine.specs.Flying.{flying}
+use Rattle.spec_protocol.specs.machine.Shown.{shown, shown_from, shown_of}
 use Rattle.spec_protocol.specs.machine.Finishing.{SphereTurn, named_turn, turn_of_role, least, standing}
 use Rattle.spec_finishing.specs.Ending.{IsAtEnd}
 use Rattle.spec_finishing.proofs.Paying.GoingOn.{GoesOn}

@@ -10,15 +10,14 @@ use Rattle.spec_engine.specs.declared.answers.How.{How}
 use Rattle.spec_engine.specs.Flights.{at}
 use Rattle.spec_engine.specs.Chunks.{Chunk, is_open}
 use Rattle.spec_engine.proofs.Searches.{first_some}
-use Rattle.spec_protocol.specs.machine.Spheres.{Role, Replay, Sphere, is_stopped, limit_of}
-use Rattle.spec_protocol.specs.machine.Placing.{replays}
+use Rattle.spec_sphere.specs.sphere.Spheres.{Role, Replay, Sphere, is_stopped, limit_of, replays}
 use Rattle.spec_protocol.specs.machine.World.{World, Occupant, sphere_at, runs, core_of}
 use Rattle.spec_protocol.specs.machine.Machine.{Setup}
-use Rattle.spec_protocol.specs.machine.Shown.{flying}
+use Rattle.spec_engine.specs.Flying.{flying}
 use Rattle.spec_protocol.specs.promises.Invariants.{Closes, current}
 use Rattle.spec_protocol.specs.promises.Currency.{IsCurrent}
 use Rattle.spec_protocol.specs.machine.Finishing.{SphereTurn, least, standing}
-use Rattle.spec_protocol.proofs.Moves.Joining.{its_turn}
+use Rattle.spec_sphere.proofs.Moves.Joining.{its_turn}
 use Rattle.spec_finishing.specs.Rank.{spheres_rank, potential, held_under_way, core_under_way, actor_under_way, turn_under_way, standing_under_way, under_way}
 use Rattle.spec_finishing.proofs.Left.Slots.{one_at_most}
 use Rattle.spec_finishing.proofs.Left.Pricing.{price-least}

@@ -11,8 +11,8 @@ use Rattle.spec_log.specs.declared.LogParts.{LogParts}
 use Rattle.spec_log.specs.Size.{size_in}
 use Rattle.spec_kernel.specs.Needs.{next_kind}
 use Rattle.spec_play.specs.Plays.{Played, size_or_standard}
-use Rattle.spec_protocol.specs.machine.Spheres.{whole_limit, pieces_of, limit_of, Cursor, Replay}
-use Rattle.spec_protocol.proofs.Moves.Threads.{run-keeps}
+use Rattle.spec_sphere.specs.sphere.Spheres.{whole_limit, pieces_of, limit_of, Cursor, Replay}
+use Rattle.spec_sphere.proofs.Moves.Threads.{run-keeps}
 use Rattle.spec_finishing.specs.Work.{thread_work, turn_work}
 use Rattle.spec_finishing.proofs.Paying.Runs.{run-longer, run-joined, run-serial}
 

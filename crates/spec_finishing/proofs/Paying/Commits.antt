@@ -12,12 +12,12 @@ use Rattle.spec_play.specs.Verdicts.{LogVerdict, Goes, Fails, chunk_verdict}
 use Rattle.spec_play.specs.Plays.{with_threads}
 use Rattle.spec_strata.specs.Standing.{after_thread}
 use Rattle.spec_engine.specs.declared.answers.How.{How}
-use Rattle.spec_protocol.specs.machine.Spheres.{Cursor, Role, Replay, Sphere, limit_of}
-use Rattle.spec_protocol.specs.machine.Commits.{with_commit, turned, is_piece, joined, by_verdict, replayed_chunk, chunk_in, chunk_moved}
-use Rattle.spec_protocol.specs.machine.Placing.{replays}
+use Rattle.spec_sphere.specs.sphere.Spheres.{Cursor, Role, Replay, Sphere, limit_of, replays}
+use Rattle.spec_sphere.specs.sphere.Commits.{with_commit, turned, joined, by_verdict, replayed_chunk, chunk_in, chunk_moved}
+use Rattle.spec_engine.specs.Closing.{is_piece}
 use Rattle.spec_protocol.specs.machine.World.{Numbers}
-use Rattle.spec_protocol.specs.machine.Machine.{SphereSetup}
-use Rattle.spec_protocol.specs.machine.Serial.{laid}
+use Rattle.spec_sphere.specs.sphere.Setups.{SphereSetup}
+use Rattle.spec_sphere.specs.sphere.Commits.{laid}
 use Rattle.spec_protocol.specs.machine.Moves.{ChunkFits}
 use Rattle.spec_finishing.specs.Rank.{replay_left, price}
 use Rattle.spec_finishing.proofs.Paying.Affording.{Afforded, Enough, Lone}

@@ -5,11 +5,11 @@ use Rattle.spec_isa.specs.declared.thread.Parts.{Parts}
 use Rattle.spec_isa.specs.Runs.{run}
 use Rattle.spec_kernel.specs.Interrupts.{lives, is_live}
 use Rattle.spec_play.specs.Turns.{Turn, TurnOfDma}
-use Rattle.spec_protocol.specs.machine.Spheres.{Cursor, Replay, Sphere, limit_of}
-use Rattle.spec_protocol.specs.machine.Machine.{SphereSetup}
-use Rattle.spec_protocol.proofs.Moves.Granted.{get-set_same}
-use Rattle.spec_protocol.proofs.Moves.Joining.{MayGo, its_turn}
-use Rattle.spec_protocol.proofs.Moves.Threads.{run-status}
+use Rattle.spec_sphere.specs.sphere.Spheres.{Cursor, Replay, Sphere, limit_of}
+use Rattle.spec_sphere.specs.sphere.Setups.{SphereSetup}
+use Rattle.spec_strata.proofs.Shares.Steps.{get-set_same}
+use Rattle.spec_sphere.proofs.Moves.Joining.{MayGo, its_turn}
+use Rattle.spec_sphere.proofs.Moves.Threads.{run-status}
 use Rattle.spec_finishing.proofs.Paying.Affording.{Afforded, afforded, part-limit}
 use Rattle.spec_finishing.proofs.Paying.NextCommits.{ThreadNext, DmaNext}
 use Rattle.spec_finishing.proofs.Paying.Logs.{BesideLog, log-thread_next, log-dma_next}

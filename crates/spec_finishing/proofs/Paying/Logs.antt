@@ -10,10 +10,10 @@ use Rattle.spec_play.specs.Turns.{TurnOrEnd, Turn, TurnOfDma, now_at}
 use Rattle.spec_play.specs.Transfers.{dma_verdict}
 use Rattle.spec_play.specs.Plays.{Played, plays, with_threads}
 use Rattle.spec_strata.specs.Standing.{Standing, after_thread, after_dma}
-use Rattle.spec_protocol.specs.machine.Spheres.{Cursor, Replay, Sphere, is_over}
-use Rattle.spec_protocol.specs.machine.Commits.{with_commit, between, turned}
-use Rattle.spec_protocol.specs.machine.Machine.{first_played, ReplaySetup, SphereSetup}
-use Rattle.spec_protocol.proofs.Moves.Joining.{MayGo, its_turn, own_pieces, turn_in_order}
+use Rattle.spec_sphere.specs.sphere.Spheres.{Cursor, Replay, Sphere, is_over}
+use Rattle.spec_sphere.specs.sphere.Commits.{with_commit, between, turned}
+use Rattle.spec_sphere.specs.sphere.Setups.{first_played, ReplaySetup, SphereSetup}
+use Rattle.spec_sphere.proofs.Moves.Joining.{MayGo, its_turn, own_pieces, turn_in_order}
 use Rattle.spec_replay.specs.Following.{IsWhole, StandsAt, Follows}
 use Rattle.spec_replay.proofs.Intervals.{now_as, turn-in, is-start, room-left}
 use Rattle.spec_replay.proofs.Commits.Done.{done_in, one_more, InOrder, Reaches}

@@ -5,13 +5,12 @@ use Rattle.spec_isa.specs.declared.thread.Parts.{Parts}
 use Rattle.spec_isa.specs.Runs.{run}
 use Rattle.spec_kernel.specs.Devices.{Devices}
 use Rattle.spec_engine.specs.declared.answers.How.{How}
-use Rattle.spec_protocol.specs.machine.Spheres.{Cursor, Replay, Sphere, is_over, is_stopped}
-use Rattle.spec_protocol.specs.machine.Commits.{MovedSphere, is_piece, chunk_moved, serial_moved, dma_moved, raised}
-use Rattle.spec_protocol.specs.machine.Placing.{replays}
+use Rattle.spec_sphere.specs.sphere.Spheres.{Cursor, Replay, Sphere, is_over, is_stopped, replays}
+use Rattle.spec_sphere.specs.sphere.Commits.{MovedSphere, chunk_moved, serial_moved, dma_moved, raised, laid}
+use Rattle.spec_engine.specs.Closing.{is_piece, is_short}
 use Rattle.spec_protocol.specs.machine.World.{Numbers, MoveKind, OfChunk, OfSerial, OfDma, OfRaise, Move}
-use Rattle.spec_protocol.specs.machine.Asking.{is_short}
-use Rattle.spec_protocol.specs.machine.Machine.{SphereSetup}
-use Rattle.spec_protocol.specs.machine.Serial.{SerialState, laid, do_serial, do_dma, do_raise}
+use Rattle.spec_sphere.specs.sphere.Setups.{SphereSetup}
+use Rattle.spec_protocol.specs.machine.Serial.{SerialState, do_serial, do_dma, do_raise}
 use Rattle.spec_protocol.specs.machine.Moves.{move_chunk, do_by_kind, FitsChunk, FitsSerial}
 use Rattle.spec_replay.proofs.Replays.Moved.{may-go}
 use Rattle.spec_finishing.specs.Work.{serial_work, dma_work, kind_work}

@@ -10,9 +10,9 @@ use Rattle.spec_play.specs.Turns.{Turn}
 use Rattle.spec_play.specs.Transfers.{dma_verdict}
 use Rattle.spec_play.specs.Plays.{Played, with_threads}
 use Rattle.spec_strata.specs.Standing.{after_thread, after_dma}
-use Rattle.spec_protocol.specs.machine.Spheres.{Cursor, Sphere, pieces_of}
-use Rattle.spec_protocol.specs.machine.Commits.{with_commit, turned}
-use Rattle.spec_protocol.specs.machine.Machine.{SphereSetup}
+use Rattle.spec_sphere.specs.sphere.Spheres.{Cursor, Sphere, pieces_of}
+use Rattle.spec_sphere.specs.sphere.Commits.{with_commit, turned}
+use Rattle.spec_sphere.specs.sphere.Setups.{SphereSetup}
 use Rattle.spec_replay.specs.Following.{IsMovedOn}
 use Rattle.spec_replay.proofs.Commits.Done.{done_in}
 use Rattle.spec_finishing.specs.Work.{dma_stored, turn_work}

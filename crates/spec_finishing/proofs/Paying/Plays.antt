@@ -5,9 +5,9 @@ use Rattle.spec_log.specs.declared.LogParts.{LogParts}
 use Rattle.spec_play.specs.declared.used.Used.{Used}
 use Rattle.spec_play.specs.Turns.{TurnOrEnd}
 use Rattle.spec_play.specs.Plays.{Played, plays}
-use Rattle.spec_protocol.specs.machine.Spheres.{Cursor, is_over}
-use Rattle.spec_protocol.specs.machine.Commits.{between}
-use Rattle.spec_protocol.specs.machine.Machine.{first_played, SphereSetup}
+use Rattle.spec_sphere.specs.sphere.Spheres.{Cursor, is_over}
+use Rattle.spec_sphere.specs.sphere.Commits.{between}
+use Rattle.spec_sphere.specs.sphere.Setups.{first_played, SphereSetup}
 use Rattle.spec_replay.proofs.Intervals.{commits_of}
 use Rattle.spec_finishing.specs.Work.{commit_work, commits_work}
 use Rattle.spec_finishing.specs.Rank.{play_left, asked_of, left_in, replay_left, price}

@@ -8,8 +8,8 @@ use Rattle.spec_isa.specs.Instruction.{InstructionOutcome, Next, Serial, one}
 use Rattle.spec_isa.specs.Runs.{Run, run_start, with_store, followed, more, run}
 use Rattle.spec_isa.proofs.BufferLaws.{lays_put}
 use Rattle.spec_kernel.specs.Needs.{next_kind, fetched}
-use Rattle.spec_protocol.proofs.Memory.Running.{one-outcome, serial_outcome}
-use Rattle.spec_replay.proofs.Commits.Joining.{apart_followed}
+use Rattle.spec_play.proofs.Local.Running.{one-outcome, serial_outcome}
+use Rattle.spec_play.proofs.Local.Joining.{apart_followed}
 
 -- ---- how many
 

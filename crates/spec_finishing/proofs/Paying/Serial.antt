@@ -15,11 +15,11 @@ use Rattle.spec_play.specs.Verdicts.{LogVerdict, Goes, Fails, serial_verdict}
 use Rattle.spec_play.specs.Transfers.{DmaVerdict, DmaGoes, DmaFails, dma_verdict}
 use Rattle.spec_play.specs.Plays.{Played}
 use Rattle.spec_strata.specs.Standing.{after_dma}
-use Rattle.spec_protocol.specs.machine.Spheres.{Cursor, Role, Replay, Sphere, is_in_pieces}
-use Rattle.spec_protocol.specs.machine.Commits.{MovedSphere, turned, by_verdict, serial_in, serial_moved, dma_by_verdict, dma_in, dma_moved}
-use Rattle.spec_protocol.specs.machine.Machine.{SphereSetup}
-use Rattle.spec_protocol.specs.machine.Serial.{laid}
-use Rattle.spec_protocol.specs.machine.Moves.{SerialFits}
+use Rattle.spec_sphere.specs.sphere.Spheres.{Cursor, Role, Replay, Sphere, is_in_pieces}
+use Rattle.spec_sphere.specs.sphere.Commits.{MovedSphere, turned, by_verdict, serial_in, serial_moved, dma_by_verdict, dma_in, dma_moved}
+use Rattle.spec_sphere.specs.sphere.Setups.{SphereSetup}
+use Rattle.spec_sphere.specs.sphere.Commits.{laid}
+use Rattle.spec_sphere.specs.sphere.Moves.{SerialFits}
 use Rattle.spec_finishing.specs.Work.{stored, dma_stored, thread_work}
 use Rattle.spec_finishing.specs.Rank.{replay_left, price}
 use Rattle.spec_finishing.proofs.Paying.Plays.{left-over, words-paid, whole-pays}

@@ -4,11 +4,12 @@ use Rattle.std.specs.Prelude.{slice_get, IsSome}
 use Rattle.std.proofs.lemmas.Bool.{true≢false}
 use Rattle.std.proofs.lemmas.Option.{none-some}
 use Rattle.spec_kernel.specs.Devices.{Devices}
-use Rattle.spec_protocol.specs.machine.Spheres.{Cursor, Role, Plain, Record, Replay, Sphere, is_over, is_stopped}
-use Rattle.spec_protocol.specs.machine.Commits.{dma_moved}
-use Rattle.spec_protocol.specs.machine.Placing.{replays}
+use Rattle.spec_sphere.specs.sphere.Spheres.{Cursor, Role, Plain, Record, Replay, Sphere, is_over, is_stopped}
+use Rattle.spec_sphere.specs.sphere.Commits.{dma_moved}
+use Rattle.spec_sphere.specs.sphere.Spheres.{replays}
 use Rattle.spec_protocol.specs.machine.World.{Numbers, MoveKind, OfChunk, OfSerial, OfDma, OfRaise, Move}
-use Rattle.spec_protocol.specs.machine.Machine.{SphereSetup, Setup}
+use Rattle.spec_sphere.specs.sphere.Setups.{SphereSetup}
+use Rattle.spec_protocol.specs.machine.Machine.{Setup}
 use Rattle.spec_protocol.specs.machine.Serial.{SerialState}
 use Rattle.spec_protocol.specs.machine.Moves.{do_by_kind, do_at, do_move, FitsWhat, FitsAt, Fits}
 use Rattle.spec_replay.proofs.Replays.Moved.{turn_of_dma}
@@ -17,7 +18,7 @@ use Rattle.spec_finishing.specs.Rank.{price, spheres_rank}
 use Rattle.spec_finishing.proofs.Paying.GoingOn.{GoesOn, dma-next}
 use Rattle.spec_finishing.proofs.Paying.Serial.{dma-pays}
 use Rattle.spec_finishing.proofs.Paying.Moves.{what_most, sphere_most, move_most, what_more, what_own, chunk_paid, serial_paid, dma_paid}
-use Rattle.spec_protocol.proofs.Replays.Pieces.{no_raise}
+use Rattle.spec_sphere.proofs.Replays.Turns.{no_raise}
 
 -- every sphere has its image, and every replay that goes on is beside its play
 pub record AllGoOn (s : Setup) (x : SerialState) : Type 0 where

@@ -8,10 +8,10 @@ use Rattle.spec_play.specs.Plays.{with_threads}
 use Rattle.spec_strata.specs.declared.strata.StrataParts.{StrataParts}
 use Rattle.spec_strata.specs.Canonical.{canonical}
 use Rattle.spec_strata.specs.Standing.{Standing, after_thread, after_dma}
-use Rattle.spec_protocol.specs.machine.Spheres.{Cursor, Replay, Sphere, is_over}
-use Rattle.spec_protocol.specs.machine.Commits.{with_commit, now_by, between}
-use Rattle.spec_protocol.specs.machine.Machine.{SphereSetup}
-use Rattle.spec_protocol.proofs.Moves.Joining.{MayGo}
+use Rattle.spec_sphere.specs.sphere.Spheres.{Cursor, Replay, Sphere, is_over}
+use Rattle.spec_sphere.specs.sphere.Commits.{with_commit, now_by, between}
+use Rattle.spec_sphere.specs.sphere.Setups.{SphereSetup}
+use Rattle.spec_sphere.proofs.Moves.Joining.{MayGo}
 use Rattle.spec_replay.specs.InStrata.{stratum_at}
 use Rattle.spec_replay.proofs.Commits.Done.{done_in}
 use Rattle.spec_replay.proofs.Strata.Coming.{Comes}

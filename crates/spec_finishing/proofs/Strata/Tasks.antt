@@ -24,8 +24,8 @@ use Rattle.spec_strata.specs.Costs.{stratum_cost}
 use Rattle.spec_strata.specs.Standing.{Standing, stratum_begun, with_one_done, after_thread, after_dma}
 use Rattle.spec_strata.proofs.Plays.Strata.{strata_step}
 use Rattle.spec_strata.proofs.Plays.Pieces.{costs_grow, costs_step}
-use Rattle.spec_protocol.specs.machine.Spheres.{Cursor, Sphere}
-use Rattle.spec_protocol.specs.machine.Machine.{SphereSetup}
+use Rattle.spec_sphere.specs.sphere.Spheres.{Cursor, Sphere}
+use Rattle.spec_sphere.specs.sphere.Setups.{SphereSetup}
 use Rattle.spec_replay.specs.InStrata.{stratum_from, stratum_at}
 use Rattle.spec_strata.proofs.Standing.Counts.{count_at, counts-rising, done-more, within}
 use Rattle.spec_replay.proofs.Strata.Coming.{Comes, opened_by, none-in, few-bumped}

@@ -20,17 +20,20 @@ use Rattle.spec_engine.specs.Chunks.{Chunk, step, cut, is_open, is_empty_serial}
 use Rattle.spec_engine.specs.Asking.{ask, ask_serial}
 use Rattle.spec_protocol.specs.declared.event.Event.{Event}
 use Rattle.spec_protocol.specs.declared.reply.Reply.{Reply}
-use Rattle.spec_protocol.specs.machine.Spheres.{Sphere, no_sphere, is_stopped, turn_against, is_in_pieces}
-use Rattle.spec_protocol.specs.machine.Commits.{CommitOutcome, Granted, Piece, Diverged, MovedSphere, is_piece, chunk_moved, serial_moved, dma_moved, raised}
+use Rattle.spec_sphere.specs.sphere.Spheres.{Sphere, no_sphere, is_stopped, turn_against, is_in_pieces, replays}
+use Rattle.spec_sphere.specs.sphere.Commits.{CommitOutcome, Granted, Piece, Diverged, MovedSphere, chunk_moved, serial_moved, dma_moved, raised}
+use Rattle.spec_engine.specs.Closing.{is_piece}
 use Rattle.spec_protocol.specs.machine.World.{Numbers, World, Occupant, flown, OfRaise, EventOutcome, moment, sphere_at, with_sphere, with_core, with_slot, with_memory, thread_afresh, held_afresh, core_of, answered}
 use Rattle.spec_protocol.specs.machine.Stepping.{stepped, stepped_younger, younger_for, step_younger, step_held, stepping, cut_to, cut_in, cut_held, cutting}
 use Rattle.spec_protocol.specs.machine.Flying.{reply_of_drain, drain_slot, draining, told, reads_of, writes_of, younger_of, hits_younger, deliver_to, delivering, reply_of_retire, retiring}
 use Rattle.spec_protocol.specs.machine.Asking.{CommitRequest, point_at, move_at, was_interrupted, promoted, goes_on_with, granted, chunk_request, grant_chunk, serial_request, grant_serial, unless_denied, unless_busy, asks_serial, ask_arbiter, unless_turn, ask_closed, ask_held, asking}
 use Rattle.spec_protocol.specs.machine.Transferring.{dma_move, dma_done, transfer, dma_with, dma_if, transferring}
-use Rattle.spec_protocol.specs.machine.Placing.{unless_elsewhere, place_thread, placing, replays, with_renewed, raise_in, raise_thread, raising}
+use Rattle.spec_protocol.specs.machine.Placing.{unless_elsewhere, place_thread, placing, with_renewed, raise_in, raise_thread, raising}
 use Rattle.spec_protocol.specs.machine.Machine.{core_no, sphere_no, slot_no, act, with_event, happens}
-use Rattle.spec_protocol.specs.promises.Alike.{forgotten, all_forgotten, AreAlike, EndAlike}
-use Rattle.spec_protocol.proofs.Alike.Forgetting.{sphere-forgotten, set-forgotten, forgotten-twice, rows-twice, put-alike, all-twice, stopped-without, replays-without, pieces-without, turn-forgotten, younger-without, thread_afresh-forgotten, held_afresh-forgotten, moved_forgotten, chunk-forgotten, serial-forgotten, dma-forgotten, raise-forgotten}
+use Rattle.spec_sphere.specs.promises.Alike.{forgotten}
+use Rattle.spec_protocol.specs.promises.Alike.{all_forgotten, AreAlike, EndAlike}
+use Rattle.spec_protocol.proofs.Alike.Forgetting.{sphere-forgotten, all-twice, younger-without, thread_afresh-forgotten, held_afresh-forgotten}
+use Rattle.spec_sphere.proofs.Alike.Forgetting.{set-forgotten, forgotten-twice, rows-twice, put-alike, stopped-without, replays-without, pieces-without, turn-forgotten, moved_forgotten, chunk-forgotten, serial-forgotten, dma-forgotten, raise-forgotten}
 
 -- what an event has come to, in a world that has forgotten
 abbrev pub end_forgotten : EventOutcome → EventOutcome

@@ -6,13 +6,15 @@ use Rattle.spec_isa.specs.declared.thread.Parts.{Parts}
 use Rattle.spec_isa.specs.Words.{lays, Stored}
 use Rattle.spec_engine.specs.Flights.{at}
 use Rattle.spec_engine.specs.Chunks.{Chunk, may_follow}
-use Rattle.spec_protocol.specs.machine.Spheres.{Role, Sphere, no_sphere, is_stopped, limit_of, limit_after, halves}
-use Rattle.spec_protocol.specs.machine.Placing.{replays}
-use Rattle.spec_protocol.specs.machine.Shown.{flying}
+use Rattle.spec_sphere.specs.sphere.Spheres.{Role, Sphere, no_sphere, is_stopped, limit_of, limit_after, halves}
+use Rattle.spec_sphere.specs.sphere.Spheres.{replays}
+use Rattle.spec_engine.specs.Flying.{flying}
 use Rattle.spec_protocol.specs.machine.World.{Numbers, World, Occupant, sphere_at}
 use Rattle.spec_protocol.specs.promises.Invariants.{LimitFits, IsGoodChunk, IsOfThread, Follows, IsGoodHeld, IsGood}
-use Rattle.spec_protocol.specs.promises.Alike.{forgotten, all_forgotten, AreAlike}
-use Rattle.spec_protocol.proofs.Alike.Forgetting.{sphere-forgotten, stopped-without, replays-without, halves-without, limit-without, limit_after-without}
+use Rattle.spec_sphere.specs.promises.Alike.{forgotten}
+use Rattle.spec_protocol.specs.promises.Alike.{all_forgotten, AreAlike}
+use Rattle.spec_protocol.proofs.Alike.Forgetting.{sphere-forgotten}
+use Rattle.spec_sphere.proofs.Alike.Forgetting.{stopped-without, replays-without, halves-without, limit-without, limit_after-without}
 
 -- ---- of two spheres
 

@@ -13,19 +13,21 @@ use Rattle.spec_engine.specs.declared.answers.How.{How}
 use Rattle.spec_play.specs.Epochs.{Epochs}
 use Rattle.spec_play.specs.Progress.{Progress, position}
 use Rattle.spec_protocol.specs.declared.event.Event.{Event}
-use Rattle.spec_protocol.specs.machine.Spheres.{Recording, Role, Plain, Record, Replay, Sphere}
-use Rattle.spec_protocol.specs.machine.Asking.{is_short}
-use Rattle.spec_protocol.specs.machine.Commits.{MovedSphere, is_piece, chunk_in, chunk_moved, serial_in, serial_moved, dma_as, live_dma, dma_in, dma_moved, role_raised, raised}
-use Rattle.spec_protocol.specs.machine.Machine.{IsPlain, RoleSetup, SphereSetup, Setup, sphere_as, world_of, moves}
+use Rattle.spec_sphere.specs.sphere.Spheres.{Recording, Role, Plain, Record, Replay, Sphere}
+use Rattle.spec_engine.specs.Closing.{is_short, is_piece}
+use Rattle.spec_sphere.specs.sphere.Commits.{MovedSphere, chunk_in, chunk_moved, serial_in, serial_moved, dma_as, live_dma, dma_in, dma_moved, role_raised, raised}
+use Rattle.spec_sphere.specs.sphere.Setups.{IsPlain, RoleSetup, SphereSetup, sphere_as}
+use Rattle.spec_protocol.specs.machine.Machine.{Setup, world_of, moves}
 use Rattle.spec_protocol.specs.machine.Moves.{move_chunk, do_by_kind, do_at, do_move, do_moves}
-use Rattle.spec_protocol.specs.machine.Serial.{SerialState, serial_start, laid, do_moved, do_serial, do_dma, do_raise}
+use Rattle.spec_protocol.specs.machine.Serial.{SerialState, serial_start, do_moved, do_serial, do_dma, do_raise}
+use Rattle.spec_sphere.specs.sphere.Commits.{laid}
 use Rattle.spec_protocol.specs.machine.Shown.{shown_of}
 use Rattle.spec_protocol.specs.machine.World.{Numbers, MoveKind, OfChunk, OfSerial, OfDma, OfRaise, Move}
-use Rattle.spec_protocol.specs.promises.Alike.{epochs_in, epochs_without, log_without, progress_without, role_without, forgotten}
+use Rattle.spec_sphere.specs.promises.Alike.{epochs_in, epochs_without, log_without, progress_without, role_without, forgotten}
 use Rattle.spec_protocol.specs.promises.Promises.{IsSetup, after}
 use Rattle.spec_protocol.proofs.Invariants.Schedules.{moves_are, start-sphere}
 use Rattle.spec_protocol.proofs.Moves.Elsewhere.{at-away}
-use Rattle.spec_protocol.proofs.Moves.Granted.{get-set_same}
+use Rattle.spec_strata.proofs.Shares.Steps.{get-set_same}
 
 -- ---- nothing is forgotten
 

@@ -12,9 +12,10 @@ use Rattle.spec_log.specs.declared.LogParts.{LogParts}
 use Rattle.spec_play.specs.Recording.{new_log}
 use Rattle.spec_play.specs.Epochs.{Epoch, Epochs}
 use Rattle.spec_protocol.specs.declared.event.Event.{Event}
-use Rattle.spec_protocol.specs.machine.Spheres.{Role, Plain, Record, Replay, Sphere}
+use Rattle.spec_sphere.specs.sphere.Spheres.{Role, Plain, Record, Replay, Sphere, head_of, turn_against, limit_of}
 use Rattle.spec_protocol.specs.machine.World.{World, sphere_at}
-use Rattle.spec_protocol.specs.machine.Machine.{RecordSetup, IsRecorded, Setup, world_of, world_after}
+use Rattle.spec_sphere.specs.sphere.Setups.{RecordSetup, IsRecorded}
+use Rattle.spec_protocol.specs.machine.Machine.{Setup, world_of, world_after, act, happens}
 use Rattle.spec_isa.specs.Instruction.{serial_of, loads_of, next_of, load_of, store_of, one}
 use Rattle.spec_isa.specs.Words.{lay, read, merged}
 use Rattle.spec_kernel.specs.Answers.{answer}
@@ -27,13 +28,12 @@ use Rattle.spec_engine.specs.Chunks.{at_limit, reading, storing, loading, runnin
 use Rattle.spec_engine.specs.Flights.{first_slot, free_slot}
 use Rattle.spec_engine.specs.Signatures.{meets}
 use Rattle.spec_protocol.specs.machine.Asking.{grant_chunk, grant_serial, asking}
-use Rattle.spec_protocol.specs.machine.Commits.{chunk_moved, serial_moved, raised}
-use Rattle.spec_protocol.specs.machine.Machine.{act, happens}
+use Rattle.spec_sphere.specs.sphere.Commits.{chunk_moved, serial_moved, raised}
 use Rattle.spec_protocol.specs.machine.Placing.{raising}
 use Rattle.spec_protocol.specs.machine.Serial.{do_point}
-use Rattle.spec_protocol.specs.machine.Spheres.{head_of, turn_against, limit_of}
 use Rattle.spec_protocol.specs.machine.Stepping.{stepping, cutting}
-use Rattle.spec_protocol.specs.machine.Epochs.{epoch_begun, epochs_begun, base_of}
+use Rattle.spec_sphere.specs.sphere.Epochs.{epoch_begun, base_of}
+use Rattle.spec_protocol.specs.machine.Epochs.{epochs_begun}
 use Rattle.spec_protocol.specs.machine.Kept.{tail_log}
 use Rattle.spec_protocol.proofs.Examples.Scenes.{alone}
 

@@ -6,8 +6,10 @@ use Rattle.std.proofs.lemmas.List.{length-replicate}
 use Rattle.spec_log.specs.declared.ModeName.{ModeName}
 use Rattle.spec_log.specs.Log.{IsSection, IsLog}
 use Rattle.spec_play.specs.Recording.{new_log}
-use Rattle.spec_protocol.specs.machine.Machine.{ReplaySetup, all_of, RoleSetup, IsPlain, IsRecorded, IsReplayed, SphereSetup, Setup}
-use Rattle.spec_protocol.specs.promises.Sound.{AreReplayableIf, IsRole, IsImage, IsWithinLimits}
+use Rattle.spec_sphere.specs.sphere.Setups.{ReplaySetup, all_of, RoleSetup, IsPlain, IsRecorded, IsReplayed, SphereSetup}
+use Rattle.spec_protocol.specs.machine.Machine.{Setup}
+use Rattle.spec_sphere.specs.promises.Sound.{AreReplayableIf, IsRole, IsImage}
+use Rattle.spec_protocol.specs.promises.Sound.{IsWithinLimits}
 
 abbrev with_role : RoleSetup → SphereSetup
 with_role role = record { memory = replicate 4096 0; entry = 0; role = role }

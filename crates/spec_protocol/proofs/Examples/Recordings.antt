@@ -7,7 +7,8 @@ use Rattle.spec_log.specs.declared.ModeName.{ModeName}
 use Rattle.spec_engine.specs.declared.answers.How.{How}
 use Rattle.spec_protocol.specs.declared.event.Event.{Event}
 use Rattle.spec_protocol.specs.declared.reply.Reply.{Reply}
-use Rattle.spec_protocol.specs.machine.Machine.{IsRecorded, Setup, world_of, world_after}
+use Rattle.spec_sphere.specs.sphere.Setups.{IsRecorded}
+use Rattle.spec_protocol.specs.machine.Machine.{Setup, world_of, world_after, act, happens}
 use Rattle.spec_isa.specs.Instruction.{serial_of, loads_of, next_of, load_of, store_of, one}
 use Rattle.spec_isa.specs.Words.{lay, read, merged}
 use Rattle.spec_kernel.specs.Answers.{answer}
@@ -26,14 +27,13 @@ use Rattle.spec_engine.specs.Chunks.{at_limit, reading, storing, loading, runnin
 use Rattle.spec_engine.specs.Flights.{first_slot, free_slot}
 use Rattle.spec_engine.specs.Signatures.{meets}
 use Rattle.spec_protocol.specs.machine.Asking.{grant_chunk, grant_serial, asking}
-use Rattle.spec_protocol.specs.machine.Commits.{chunk_moved, serial_moved, dma_moved, raised}
+use Rattle.spec_sphere.specs.sphere.Commits.{chunk_moved, serial_moved, dma_moved, raised}
 use Rattle.spec_protocol.specs.machine.Finishing.{next}
 use Rattle.spec_protocol.specs.machine.Flying.{draining, delivering, retiring}
-use Rattle.spec_protocol.specs.machine.Machine.{act, happens}
 use Rattle.spec_protocol.specs.machine.Placing.{placing, raising}
 use Rattle.spec_protocol.specs.machine.Serial.{do_point}
 use Rattle.spec_protocol.specs.machine.Shown.{shown}
-use Rattle.spec_protocol.specs.machine.Spheres.{head_of, turn_against, limit_of}
+use Rattle.spec_sphere.specs.sphere.Spheres.{head_of, turn_against, limit_of}
 use Rattle.spec_protocol.specs.machine.Stepping.{stepping, cutting}
 use Rattle.spec_protocol.specs.machine.Transferring.{transfer, transferring}
 use Rattle.spec_protocol.proofs.Examples.Scenes.{alone, replies, log_in}

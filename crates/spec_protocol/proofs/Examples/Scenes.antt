@@ -1,12 +1,13 @@
 -- Small machines for worked examples.
 use Rattle.std.proofs.Common.{ℕ, List, [], ◌∷◌}
 use Rattle.spec_log.specs.Bytes.{log_bytes}
-use Rattle.spec_protocol.specs.machine.Spheres.{Role, Plain, Record, Replay}
+use Rattle.spec_sphere.specs.sphere.Spheres.{Role, Plain, Record, Replay}
 use Rattle.spec_play.proofs.Programs.{image}
 use Rattle.spec_protocol.specs.declared.event.Event.{Event}
 use Rattle.spec_protocol.specs.declared.reply.Reply.{Reply}
 use Rattle.spec_protocol.specs.machine.World.{World, sphere_at}
-use Rattle.spec_protocol.specs.machine.Machine.{RoleSetup, Setup, happens}
+use Rattle.spec_sphere.specs.sphere.Setups.{RoleSetup}
+use Rattle.spec_protocol.specs.machine.Machine.{Setup, happens}
 
 -- one sphere on so many cores, with chunks of 100, buffers of 16, a window of 2 and signatures of 64
 abbrev pub alone : (cores : ℕ) → RoleSetup → (size : ℕ) → List ℕ → Setup

@@ -22,10 +22,12 @@ use Rattle.spec_play.specs.Plays.{Played, play_one, play}
 use Rattle.spec_play.specs.Transfers.{dma_verdict}
 use Rattle.spec_play.specs.Turns.{Ended, has_left_over, now_at}
 use Rattle.spec_play.specs.Verdicts.{chunk_verdict, serial_verdict}
-use Rattle.spec_protocol.specs.machine.Commits.{chunk_moved, serial_moved, dma_moved}
-use Rattle.spec_protocol.specs.machine.Machine.{IsRecorded, Setup}
+use Rattle.spec_sphere.specs.sphere.Commits.{chunk_moved, serial_moved, dma_moved}
+use Rattle.spec_sphere.specs.sphere.Setups.{IsRecorded}
+use Rattle.spec_protocol.specs.machine.Machine.{Setup}
 use Rattle.spec_protocol.specs.machine.Serial.{serial_start, do_point}
-use Rattle.spec_protocol.specs.machine.Logged.{supplied, logged}
+use Rattle.spec_protocol.specs.machine.Logged.{supplied}
+use Rattle.spec_sphere.specs.sphere.Logged.{logged}
 use Rattle.spec_play.proofs.Programs.{image}
 use Rattle.spec_protocol.proofs.Examples.Scenes.{alone}
 

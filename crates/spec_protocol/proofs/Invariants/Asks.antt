@@ -15,24 +15,28 @@ use Rattle.spec_engine.specs.Flights.{Flight, at, first_slot, is_full, meets_chu
 use Rattle.spec_engine.specs.Chunks.{Chunk, is_serial, is_empty_serial, may_follow}
 use Rattle.spec_engine.specs.Laws.{CoversWords}
 use Rattle.spec_engine.proofs.Searches.{first_none}
-use Rattle.spec_protocol.specs.machine.Spheres.{other_than, takes_turns, turn_against, Role, Plain, Record, Replay, Sphere, is_stopped, recording_turn, head_in, is_in_pieces}
-use Rattle.spec_protocol.specs.machine.Commits.{MovedSphere, is_piece, chunk_moved, serial_moved}
+use Rattle.spec_sphere.specs.sphere.Spheres.{other_than, takes_turns, turn_against, Role, Plain, Record, Replay, Sphere, is_stopped, recording_turn, head_in, is_in_pieces}
+use Rattle.spec_sphere.specs.sphere.Commits.{MovedSphere, chunk_moved, serial_moved}
+use Rattle.spec_engine.specs.Closing.{is_piece, is_short}
 use Rattle.spec_protocol.specs.machine.World.{Occupant, World, moment, sphere_at, answered}
-use Rattle.spec_protocol.specs.machine.Asking.{move_at, is_short, chunk_request, grant_chunk, serial_request, grant_serial, asks_serial, asking}
+use Rattle.spec_protocol.specs.machine.Asking.{move_at, chunk_request, grant_chunk, serial_request, grant_serial, asks_serial, asking}
 use Rattle.spec_protocol.specs.machine.Serial.{do_moved, do_serial}
-use Rattle.spec_protocol.specs.machine.Shown.{flying, shown, shown_of}
-use Rattle.spec_protocol.specs.machine.Moves.{move_chunk, do_at, do_move, ChunkFits, SerialFits, FitsChunk, FitsSerial, FitsAt, Fits}
-use Rattle.spec_protocol.proofs.Memory.Laying.{AllLack_nil, AllLack_flip}
+use Rattle.spec_engine.specs.Flying.{flying}
+use Rattle.spec_protocol.specs.machine.Shown.{shown, shown_of}
+use Rattle.spec_protocol.specs.machine.Moves.{move_chunk, do_at, do_move, ChunkFits, FitsChunk, FitsSerial, FitsAt, Fits}
+use Rattle.spec_sphere.specs.sphere.Moves.{SerialFits}
+use Rattle.spec_sphere.proofs.Memory.Laying.{AllLack_nil, AllLack_flip}
 use Rattle.spec_protocol.proofs.Memory.Slots.{words-other}
 use Rattle.spec_protocol.proofs.Memory.Covering.{bits-signed, CoversWords-signed, apart-covered, flying-all_lack}
-use Rattle.spec_protocol.proofs.Moves.Granted.{HasTurn, chunk-stores, chunk-lives, serial-lives, chunk-moves, serial-moves, MovesOnly, Leaves, chunk-leaves, piece-replayed}
-use Rattle.spec_protocol.proofs.Moves.AnyMemory.{over, relaid, chunk-relaid}
+use Rattle.spec_sphere.proofs.Moves.Granted.{HasTurn, chunk-stores, chunk-lives, serial-lives, chunk-moves, serial-moves, MovesOnly, Leaves, chunk-leaves, piece-replayed}
+use Rattle.spec_sphere.proofs.Moves.AnyMemory.{over, relaid, chunk-relaid}
 use Rattle.spec_protocol.proofs.Invariants.Preserved.{Preserved, shown-get, unchanged-preserved}
 use Rattle.spec_protocol.proofs.Moves.AnyEvent.{any-ask}
 use Rattle.spec_protocol.proofs.Invariants.Granting.{Grants, granted-preserved, GoesOn}
-use Rattle.spec_protocol.specs.promises.Currency.{seen_by, Meets, IsCurrent, AllLack}
+use Rattle.spec_protocol.specs.promises.Currency.{seen_by, Meets, IsCurrent}
+use Rattle.spec_play.specs.Touching.{AllLack}
 use Rattle.spec_protocol.specs.promises.Invariants.{current, IsGoodHeld, IsGood, IsGoodOver}
-use Rattle.spec_protocol.specs.machine.Placing.{replays}
+use Rattle.spec_sphere.specs.sphere.Spheres.{replays}
 use Rattle.spec_protocol.proofs.Invariants.Held.{fits-stays}
 
 -- ---- what is shown of the sphere that asks

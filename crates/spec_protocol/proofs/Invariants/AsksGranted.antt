@@ -15,18 +15,20 @@ use Rattle.spec_engine.proofs.Marking.{covers_hit}
 use Rattle.spec_engine.proofs.Searches.{first_none, first_some, full_at}
 use Rattle.spec_protocol.specs.declared.event.Event.{Event}
 use Rattle.spec_protocol.specs.declared.reply.Reply.{Reply}
-use Rattle.spec_protocol.specs.machine.Spheres.{other_than, turn_in, turn_against, Role, Plain, Record, Replay, Sphere, is_stopped, recording_turn}
-use Rattle.spec_protocol.specs.machine.Placing.{replays}
-use Rattle.spec_protocol.specs.machine.Commits.{CommitOutcome, Granted, Piece, Diverged, MovedSphere, is_piece, chunk_moved, serial_moved}
+use Rattle.spec_sphere.specs.sphere.Spheres.{other_than, turn_in, turn_against, Role, Plain, Record, Replay, Sphere, is_stopped, recording_turn}
+use Rattle.spec_sphere.specs.sphere.Spheres.{replays}
+use Rattle.spec_sphere.specs.sphere.Commits.{CommitOutcome, Granted, Piece, Diverged, MovedSphere, chunk_moved, serial_moved}
+use Rattle.spec_engine.specs.Closing.{is_piece}
 use Rattle.spec_protocol.specs.machine.World.{Occupant, World, moment, sphere_at, EventOutcome, answered}
 use Rattle.spec_protocol.specs.machine.Asking.{CommitRequest, chunk_request, granted, grant_chunk, unless_denied, serial_request, grant_serial, unless_busy, asks_serial, ask_arbiter, unless_turn, ask_closed, ask_held, asking}
 use Rattle.spec_protocol.specs.machine.Machine.{world_of, core_no, act, happens, world_after}
 use Rattle.spec_protocol.specs.promises.Invariants.{IsGoodHeld, IsGood}
 use Rattle.spec_protocol.specs.promises.Replying.{makes_point, IsInTurns, IsGranted, AsksAreGranted, LoadsLack, IsClearOf, GrantsAreClear}
-use Rattle.spec_protocol.proofs.Memory.Laying.{AllLack_flip}
+use Rattle.spec_sphere.proofs.Memory.Laying.{AllLack_flip}
 use Rattle.spec_protocol.proofs.Memory.Covering.{uncovered-lacks, apart-covered}
-use Rattle.spec_protocol.proofs.Moves.Granted.{chunk-lives, serial-lives}
-use Rattle.spec_protocol.proofs.Moves.AnyEvent.{branch, any-closed}
+use Rattle.spec_sphere.proofs.Moves.Granted.{chunk-lives, serial-lives}
+use Rattle.spec_play.proofs.Threads.{branch}
+use Rattle.spec_protocol.proofs.Moves.AnyEvent.{any-closed}
 use Rattle.spec_protocol.proofs.Invariants.Asks.{never_hits}
 use Rattle.spec_protocol.proofs.Invariants.Schedules.{start-good, after-good, sizes_kept}
 

@@ -10,7 +10,8 @@ use Rattle.spec_engine.specs.declared.answers.CutReply.{CutReply}
 use Rattle.spec_engine.specs.Flights.{Flight, at}
 use Rattle.spec_engine.specs.Chunks.{Chunk, step, Cutting, cut_open}
 use Rattle.spec_protocol.specs.machine.World.{Occupant, World, Move, EventOutcome, sphere_at, with_core, answered}
-use Rattle.spec_protocol.specs.machine.Shown.{shown_of, flying}
+use Rattle.spec_protocol.specs.machine.Shown.{shown_of}
+use Rattle.spec_engine.specs.Flying.{flying}
 use Rattle.spec_protocol.specs.machine.Moves.{do_if, FitsIf}
 use Rattle.spec_protocol.proofs.Moves.AnyEvent.{any-step, any-cut}
 use Rattle.spec_protocol.specs.machine.Stepping.{with_chunk, stepped, stepping, cut_to, cutting, with_younger, stepped_younger, cut_younger}
@@ -21,7 +22,7 @@ use Rattle.spec_protocol.proofs.Invariants.Preserved.{SameSizes, PointIs, Preser
 use Rattle.spec_protocol.specs.promises.Currency.{IsCurrent}
 use Rattle.spec_protocol.proofs.Invariants.Held.{thread-same, follows-same, open-alone, IsYounger, younger-good}
 use Rattle.spec_protocol.specs.promises.Invariants.{IsGoodChunk, current, IsGoodOver, IsOfThread, IsGoodHeld, IsAlone, IsGood, Follows}
-pub use Rattle.spec_protocol.proofs.Moves.AnyEvent.{branch}
+pub use Rattle.spec_play.proofs.Threads.{branch}
 
 -- ---- rows of cores and slots
 

@@ -14,16 +14,18 @@ use Rattle.spec_engine.specs.Chunks.{Chunk, squash, is_fourth, halved, next_squa
 use Rattle.spec_engine.specs.Laws.{CoversWords}
 use Rattle.spec_engine.proofs.Searches.{told-tell_other, all_told-at}
 use Rattle.spec_protocol.specs.declared.reply.Reply.{Reply}
-use Rattle.spec_protocol.specs.machine.Spheres.{Role, Plain, Record, Replay, Sphere, halves}
-use Rattle.spec_protocol.specs.machine.Placing.{replays}
+use Rattle.spec_sphere.specs.sphere.Spheres.{Role, Plain, Record, Replay, Sphere, halves, replays}
 use Rattle.spec_protocol.specs.machine.World.{Occupant, World, Move, EventOutcome, sphere_at, with_memory, with_core, with_slot, answered, Numbers}
-use Rattle.spec_protocol.specs.machine.Shown.{words_of, flying, shown, shown_of}
+use Rattle.spec_engine.specs.Flying.{words_of, flying}
+use Rattle.spec_protocol.specs.machine.Shown.{shown, shown_of}
 use Rattle.spec_protocol.specs.machine.Moves.{do_if, FitsIf}
 use Rattle.spec_protocol.specs.machine.Flying.{reply_of_drain, drain_slot, draining, reads_of, writes_of, squashed, told, delivering, reply_of_retire, retiring, younger_of, hits_younger, squashed_younger}
-use Rattle.spec_protocol.proofs.Memory.Laying.{lays_append, AllLack_flip, Apart_lack, Apart_first, Apart_last, Apart-append, lays-lay}
+use Rattle.spec_play.proofs.Local.Laying.{lays_append, lays-lay}
+use Rattle.spec_sphere.proofs.Memory.Laying.{AllLack_flip, Apart_lack, Apart_first, Apart_last, Apart-append}
 use Rattle.spec_protocol.proofs.Memory.Slots.{at-set_same, at-set_other, at_within, before, behind, flying-at, flying-set, flying_same, words-same, words-other}
 use Rattle.spec_protocol.proofs.Invariants.Preserved.{SameSizes, PointIs, Preserved, sphere-same, sphere-other, shown_from-same, shown-unmoved, set-itself, unchanged-preserved}
-use Rattle.spec_protocol.proofs.Invariants.Cores.{set-cases, alone-set, held_there, others-differ, branch}
+use Rattle.spec_protocol.proofs.Invariants.Cores.{set-cases, alone-set, held_there, others-differ}
+use Rattle.spec_play.proofs.Threads.{branch}
 use Rattle.spec_protocol.proofs.Invariants.Held.{chunk-beside, Beside, held-beside, begun-good}
 use Rattle.spec_protocol.specs.promises.Currency.{IsQuiet}
 use Rattle.spec_protocol.specs.promises.Invariants.{IsFlightCovered, IsGoodChunk, current, IsGoodOver, IsOfThread, IsGoodHeld, IsGood, Follows}

@@ -12,24 +12,24 @@ use Rattle.spec_kernel.specs.Interrupts.{is_live}
 use Rattle.spec_engine.specs.Signatures.{Signature, nothing}
 use Rattle.spec_engine.specs.Flights.{Flight, at, is_full}
 use Rattle.spec_engine.specs.Chunks.{Chunk}
-use Rattle.spec_protocol.specs.machine.Spheres.{Sphere, is_stopped, halves, limit_of}
-use Rattle.spec_protocol.specs.machine.Placing.{replays}
-use Rattle.spec_protocol.specs.machine.Commits.{CommitOutcome, Granted, Piece, Diverged, MovedSphere}
+use Rattle.spec_sphere.specs.sphere.Spheres.{Sphere, is_stopped, halves, limit_of, replays}
+use Rattle.spec_sphere.specs.sphere.Commits.{CommitOutcome, Granted, Piece, Diverged, MovedSphere}
 use Rattle.spec_protocol.specs.machine.World.{Numbers, Occupant, World, moment, sphere_at, with_sphere, flown, thread_afresh}
 use Rattle.spec_protocol.specs.machine.Asking.{CommitRequest, goes_on_with, point_at, move_at, world_with, granted, was_interrupted, promoted}
 use Rattle.spec_protocol.specs.machine.Serial.{do_moved}
-use Rattle.spec_protocol.specs.machine.Shown.{flying, shown_of}
+use Rattle.spec_engine.specs.Flying.{flying}
+use Rattle.spec_protocol.specs.machine.Shown.{shown_of}
 use Rattle.spec_protocol.specs.machine.Moves.{do_move, Fits}
 use Rattle.spec_protocol.proofs.Memory.Slots.{Flew, flown-flew}
-use Rattle.spec_protocol.proofs.Moves.Granted.{Divergence, MovesOnly}
-use Rattle.spec_protocol.proofs.Moves.AnyMemory.{relaid}
+use Rattle.spec_sphere.proofs.Moves.Granted.{Divergence, MovesOnly}
+use Rattle.spec_sphere.proofs.Moves.AnyMemory.{relaid}
 use Rattle.spec_protocol.proofs.Invariants.Preserved.{SameSizes, point_for, PointOf, Preserved, point-made, point-other, sphere-same}
 use Rattle.spec_protocol.proofs.Invariants.Cores.{set-cases, alone-set}
 use Rattle.spec_protocol.proofs.Invariants.Landing.{afresh-begins, afresh-held, moved_world, Lands, landed-held, elsewhere-held, moved-shown, IsAfresh}
 use Rattle.spec_protocol.proofs.Invariants.Held.{KeepsThread, thread-stays, follows-stays, chunk-beside}
 use Rattle.spec_protocol.specs.promises.Invariants.{IsFlightCovered, IsGoodChunk, current, IsOfThread, IsGoodHeld, IsGood, IsGoodOver, LimitFits, Follows}
-use Rattle.spec_protocol.specs.promises.Currency.{AllLack}
-use Rattle.spec_protocol.proofs.Moves.AnyEvent.{branch}
+use Rattle.spec_play.specs.Touching.{AllLack}
+use Rattle.spec_play.proofs.Threads.{branch}
 
 -- ---- a request that is granted, or diverges
 

@@ -10,14 +10,14 @@ use Rattle.spec_play.specs.Effects.{counted}
 use Rattle.spec_engine.specs.Signatures.{Signature}
 use Rattle.spec_engine.specs.Flights.{Flight}
 use Rattle.spec_engine.specs.Chunks.{Chunk, fresh, may_follow}
-use Rattle.spec_protocol.specs.machine.Spheres.{Role, Sphere, is_stopped, limit_of, halves, Plain, Record, Replay, limit_after}
-use Rattle.spec_protocol.specs.machine.Placing.{replays}
+use Rattle.spec_sphere.specs.sphere.Spheres.{Role, Sphere, is_stopped, limit_of, halves, Plain, Record, Replay, limit_after}
+use Rattle.spec_sphere.specs.sphere.Spheres.{replays}
 use Rattle.spec_protocol.specs.machine.World.{Numbers, Occupant, World, sphere_at}
 use Rattle.spec_protocol.proofs.Memory.Steps.{SameBase}
 use Rattle.spec_protocol.specs.promises.Currency.{IsCurrent, IsQuiet}
 use Rattle.spec_protocol.specs.promises.Invariants.{IsGoodChunk, current, IsGoodOver, LimitFits, IsOfThread, IsGoodHeld, Follows}
 use Rattle.spec_protocol.specs.machine.Stepping.{younger_afresh, younger_for}
-use Rattle.spec_protocol.proofs.Moves.AnyEvent.{branch}
+use Rattle.spec_play.proofs.Threads.{branch}
 
 -- ---- what is said of the thread
 

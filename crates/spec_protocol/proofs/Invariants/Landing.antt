@@ -14,15 +14,17 @@ use Rattle.spec_engine.specs.Flights.{Flight, told_at}
 use Rattle.spec_engine.specs.Chunks.{Chunk, fresh}
 use Rattle.spec_engine.specs.Laws.{CoversWords}
 use Rattle.spec_engine.proofs.Marking.{covers_hit}
-use Rattle.spec_protocol.specs.machine.Spheres.{Role, Plain, Record, Replay, Sphere, limit_of, halves}
-use Rattle.spec_protocol.specs.machine.Commits.{MovedSphere}
+use Rattle.spec_sphere.specs.sphere.Spheres.{Role, Plain, Record, Replay, Sphere, limit_of, halves}
+use Rattle.spec_sphere.specs.sphere.Commits.{MovedSphere}
 use Rattle.spec_protocol.specs.machine.World.{Numbers, Occupant, World, sphere_at, thread_afresh, held_afresh}
 use Rattle.spec_protocol.specs.machine.Serial.{do_moved}
-use Rattle.spec_protocol.specs.machine.Shown.{flying, shown, shown_from, shown_of}
-use Rattle.spec_protocol.proofs.Memory.Laying.{Agree-lays, Agree-unseen, Unseen}
+use Rattle.spec_engine.specs.Flying.{flying}
+use Rattle.spec_protocol.specs.machine.Shown.{shown, shown_from, shown_of}
+use Rattle.spec_play.proofs.Local.Laying.{Agree-lays, Agree-unseen}
+use Rattle.spec_play.specs.Touching.{Unseen}
 use Rattle.spec_protocol.proofs.Memory.Slots.{Flew}
 use Rattle.spec_protocol.proofs.Memory.Running.{Live_local}
-use Rattle.spec_protocol.proofs.Moves.AnyMemory.{relaid}
+use Rattle.spec_sphere.proofs.Moves.AnyMemory.{relaid}
 use Rattle.spec_protocol.proofs.Invariants.Preserved.{sphere-same, sphere-other, shown-set}
 use Rattle.spec_protocol.proofs.Invariants.Held.{KeepsThread, thread-stays, held-beside, follows-stays, begun-good}
 use Rattle.spec_protocol.specs.promises.Currency.{seen_by}

@@ -20,20 +20,23 @@ use Rattle.spec_play.specs.Progress.{Progress, last_thread, with_effect, with_dm
 use Rattle.spec_play.proofs.Lasts.{IsOf, last-effect, last-dma, chunk-of, serial-of}
 use Rattle.spec_strata.specs.Standing.{Standing, after_thread, after_dma}
 use Rattle.spec_engine.specs.declared.answers.How.{How}
-use Rattle.spec_protocol.specs.machine.Spheres.{Cursor, Role, Plain, Record, Replay, Sphere, no_sphere}
-use Rattle.spec_protocol.specs.machine.Commits.{MovedSphere, with_commit, by_verdict, joined, replayed_chunk, chunk_in, chunk_moved, is_piece, serial_in, serial_moved, live_dma, dma_log, dma_by_verdict, dma_in, dma_moved, role_raised, raised}
+use Rattle.spec_sphere.specs.sphere.Spheres.{Cursor, Role, Plain, Record, Replay, Sphere, no_sphere}
+use Rattle.spec_sphere.specs.sphere.Commits.{MovedSphere, with_commit, by_verdict, joined, replayed_chunk, chunk_in, chunk_moved, serial_in, serial_moved, live_dma, dma_log, dma_by_verdict, dma_in, dma_moved, role_raised, raised}
+use Rattle.spec_engine.specs.Closing.{is_piece, is_short}
 use Rattle.spec_protocol.specs.machine.World.{Numbers, World, Move, MoveKind, OfChunk, OfSerial, OfDma, OfRaise, sphere_at}
-use Rattle.spec_protocol.specs.machine.Asking.{is_short}
-use Rattle.spec_protocol.specs.machine.Machine.{RoleSetup, IsPlain, IsRecorded, IsReplayed, SphereSetup, Setup, sphere_as, sphere_of, world_of, moves}
-use Rattle.spec_protocol.specs.machine.Serial.{SerialState, serial_start, laid, do_serial, do_dma, do_raise}
+use Rattle.spec_sphere.specs.sphere.Commits.{laid}
+use Rattle.spec_sphere.specs.sphere.Setups.{RoleSetup, IsPlain, IsRecorded, IsReplayed, SphereSetup, sphere_as, sphere_of}
+use Rattle.spec_protocol.specs.machine.Machine.{Setup, world_of, moves}
+use Rattle.spec_protocol.specs.machine.Serial.{SerialState, serial_start, do_serial, do_dma, do_raise}
 use Rattle.spec_protocol.specs.machine.Shown.{shown, shown_of}
 use Rattle.spec_protocol.specs.machine.Moves.{move_chunk, do_by_kind, do_at, do_move, do_moves}
 use Rattle.spec_protocol.specs.promises.Promises.{after}
-use Rattle.spec_protocol.specs.promises.Lasts.{IsInOrder, IsLastSince, last_before, SpheresKeepLasts}
+use Rattle.spec_sphere.specs.promises.Lasts.{IsInOrder, IsLastSince, last_before}
+use Rattle.spec_protocol.specs.promises.Lasts.{SpheresKeepLasts}
 use Rattle.spec_protocol.proofs.Invariants.Preserved.{shown-get}
-use Rattle.spec_protocol.proofs.Moves.Granted.{get-set_other, get-set_same}
+use Rattle.spec_strata.proofs.Shares.Steps.{get-set_other, get-set_same}
 use Rattle.spec_protocol.proofs.Invariants.Schedules.{moves_are}
-use Rattle.spec_protocol.proofs.Moves.Joining.{none-mapped}
+use Rattle.spec_sphere.proofs.Moves.Joining.{none-mapped}
 
 -- ---- one more commit
 

@@ -3,14 +3,13 @@ use Rattle.std.proofs.Common.{◌≡◌, ℕ, ◌≤◌, ◌&&◌, Option, Some,
 use Rattle.std.specs.Prelude.{nat_lt}
 use Rattle.std.proofs.lemmas.Bool.{and_parts, ltb-true}
 use Rattle.spec_engine.specs.Chunks.{Chunk, may_follow}
-use Rattle.spec_protocol.specs.machine.Spheres.{Role}
-use Rattle.spec_protocol.specs.machine.Placing.{replays}
+use Rattle.spec_sphere.specs.sphere.Spheres.{Role, replays}
 use Rattle.spec_protocol.specs.machine.World.{Numbers, Occupant, World, sphere_at}
 use Rattle.spec_protocol.specs.machine.Stepping.{younger_afresh, younger_for}
 use Rattle.spec_protocol.specs.promises.Invariants.{IsGoodHeld}
 use Rattle.spec_protocol.specs.promises.OneChunk.{CoresHaveOneChunk}
 use Rattle.spec_protocol.specs.promises.Promises.{after}
-use Rattle.spec_protocol.proofs.Moves.AnyEvent.{branch}
+use Rattle.spec_play.proofs.Threads.{branch}
 use Rattle.spec_protocol.proofs.Invariants.Schedules.{invariants_hold, sizes_kept}
 
 alone_if : (w : World) (c : ℕ) (h : Occupant) (o : Option Chunk) → h.younger ≡ o → w.numbers.depth ≤ 1 → IsGoodHeld w c h → h.younger ≡ None

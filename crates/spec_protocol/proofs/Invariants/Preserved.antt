@@ -4,13 +4,13 @@ use Rattle.std.specs.Prelude.{slice_get}
 use Rattle.dl_entry.specs.declared.Actor.{Actor}
 use Rattle.dl_entry.specs.declared.CommitKind.{CommitKind}
 use Rattle.dl_entry.specs.declared.Point.{Point}
-use Rattle.spec_protocol.specs.machine.Asking.{is_short}
+use Rattle.spec_engine.specs.Closing.{is_short}
 use Rattle.spec_isa.specs.Words.{lays}
 use Rattle.spec_engine.specs.Flights.{Flight}
-use Rattle.spec_protocol.specs.machine.Spheres.{Sphere, no_sphere}
-use Rattle.spec_protocol.specs.machine.Placing.{replays}
+use Rattle.spec_sphere.specs.sphere.Spheres.{Sphere, no_sphere, replays}
 use Rattle.spec_protocol.specs.machine.World.{Numbers, World, MoveKind, OfChunk, OfSerial, OfDma, OfRaise, Move, EventOutcome, sphere_at}
-use Rattle.spec_protocol.specs.machine.Shown.{flying, shown, shown_from, shown_of}
+use Rattle.spec_engine.specs.Flying.{flying}
+use Rattle.spec_protocol.specs.machine.Shown.{shown, shown_from, shown_of}
 use Rattle.spec_protocol.specs.machine.Moves.{do_if, FitsIf}
 use Rattle.spec_protocol.specs.promises.Invariants.{IsGood}
 

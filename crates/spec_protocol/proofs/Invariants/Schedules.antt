@@ -4,11 +4,13 @@ use Rattle.std.proofs.lemmas.Option.{none-some}
 use Rattle.spec_isa.specs.Words.{lays, Apart}
 use Rattle.spec_engine.specs.Flights.{Flight, at}
 use Rattle.spec_protocol.specs.declared.event.Event.{Event}
-use Rattle.spec_protocol.specs.machine.Spheres.{Sphere, no_sphere}
+use Rattle.spec_sphere.specs.sphere.Spheres.{Sphere, no_sphere}
 use Rattle.spec_protocol.specs.machine.World.{Numbers, Occupant, World, Move, EventOutcome, held_afresh, sphere_at}
-use Rattle.spec_protocol.specs.machine.Machine.{SphereSetup, Setup, first_cores, world_of, core_no, sphere_no, slot_no, act, with_event, happens, world_after, with_move, moves, sphere_of}
+use Rattle.spec_sphere.specs.sphere.Setups.{SphereSetup, sphere_of}
+use Rattle.spec_protocol.specs.machine.Machine.{Setup, first_cores, world_of, core_no, sphere_no, slot_no, act, with_event, happens, world_after, with_move, moves}
 use Rattle.spec_protocol.specs.machine.Serial.{SerialState, serial_start}
-use Rattle.spec_protocol.specs.machine.Shown.{flying, shown, shown_from, shown_of}
+use Rattle.spec_engine.specs.Flying.{flying}
+use Rattle.spec_protocol.specs.machine.Shown.{shown, shown_from, shown_of}
 use Rattle.spec_protocol.specs.machine.Moves.{do_if, do_moves, FitsIf, FitAll}
 use Rattle.spec_protocol.specs.promises.Promises.{IsSetup, MovesAreSerial, InvariantsHold, SizesAreKept}
 use Rattle.spec_protocol.proofs.Invariants.Preserved.{Preserved, SameSizes, same_sizes}

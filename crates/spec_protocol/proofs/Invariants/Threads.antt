@@ -11,15 +11,18 @@ use Rattle.spec_kernel.specs.Interrupts.{is_live, has_handler, takes_interrupt, 
 use Rattle.spec_engine.specs.Signatures.{nothing}
 use Rattle.spec_engine.specs.Flights.{Flight, at}
 use Rattle.spec_engine.proofs.Searches.{first_none, first_some}
-use Rattle.spec_protocol.specs.machine.Spheres.{Role, Plain, Record, Replay, Sphere, no_sphere, is_stopped, limit_of, halves, limit_after}
-use Rattle.spec_protocol.specs.machine.Commits.{role_raised, raised}
+use Rattle.spec_sphere.specs.sphere.Spheres.{Role, Plain, Record, Replay, Sphere, no_sphere, is_stopped, limit_of, halves, limit_after}
+use Rattle.spec_sphere.specs.sphere.Commits.{role_raised, raised}
 use Rattle.spec_protocol.specs.machine.World.{Occupant, World, moment, sphere_at, with_sphere, with_core, held_afresh, runs, core_of, OfRaise, answered}
-use Rattle.spec_protocol.specs.machine.Placing.{placing, replays, with_renewed, raise_in, raising}
+use Rattle.spec_protocol.specs.machine.Placing.{placing, with_renewed, raise_in, raising}
+use Rattle.spec_sphere.specs.sphere.Spheres.{replays}
 use Rattle.spec_protocol.specs.machine.Serial.{do_raise}
-use Rattle.spec_protocol.specs.machine.Shown.{flying, shown, shown_of}
-use Rattle.spec_protocol.specs.machine.Moves.{do_at, do_move, FitsRaise, FitsAt, Fits}
-use Rattle.spec_protocol.proofs.Moves.Granted.{get-set_other}
-use Rattle.spec_protocol.proofs.Moves.AnyMemory.{over}
+use Rattle.spec_engine.specs.Flying.{flying}
+use Rattle.spec_protocol.specs.machine.Shown.{shown, shown_of}
+use Rattle.spec_protocol.specs.machine.Moves.{do_at, do_move, FitsAt, Fits}
+use Rattle.spec_sphere.specs.sphere.Moves.{FitsRaise}
+use Rattle.spec_strata.proofs.Shares.Steps.{get-set_other}
+use Rattle.spec_sphere.proofs.Moves.AnyMemory.{over}
 use Rattle.spec_protocol.proofs.Moves.AnyEvent.{Raises, any-place, any-raise}
 use Rattle.spec_protocol.proofs.Invariants.Preserved.{SameSizes, Preserved, point-made, sphere-same, shown-set, unchanged-preserved}
 use Rattle.spec_protocol.proofs.Invariants.Cores.{set-cases, alone-set, held_there, core-good, core-preserved}

@@ -11,25 +11,26 @@ use Rattle.spec_engine.specs.Signatures.{Signature, hits, nothing, signed}
 use Rattle.spec_engine.specs.Flights.{Flight, first_slot, is_full, meets_chunk}
 use Rattle.spec_engine.specs.Laws.{CoversWords}
 use Rattle.spec_engine.proofs.Searches.{first_none, told-zero}
-use Rattle.spec_protocol.specs.machine.Commits.{Granted, Diverged, MovedSphere}
+use Rattle.spec_sphere.specs.sphere.Commits.{Granted, Diverged, MovedSphere}
 use Rattle.spec_protocol.specs.machine.World.{World, sphere_at, flown, answered}
 use Rattle.spec_protocol.specs.machine.Transferring.{dma_move, dma_done, dma_with, transferring}
-use Rattle.spec_protocol.specs.machine.Placing.{replays}
+use Rattle.spec_sphere.specs.sphere.Spheres.{replays}
 use Rattle.spec_protocol.specs.machine.Serial.{do_moved, do_dma}
-use Rattle.spec_protocol.specs.machine.Shown.{flying, shown_of}
+use Rattle.spec_engine.specs.Flying.{flying}
+use Rattle.spec_protocol.specs.machine.Shown.{shown_of}
 use Rattle.spec_protocol.specs.machine.Moves.{do_at, do_move, FitsAt, Fits}
-use Rattle.spec_protocol.proofs.Memory.Laying.{AllLack_flip}
+use Rattle.spec_sphere.proofs.Memory.Laying.{AllLack_flip}
 use Rattle.spec_protocol.proofs.Memory.Slots.{flown-flew}
 use Rattle.spec_protocol.proofs.Memory.Covering.{bits-signed, CoversWords-signed, apart-covered, flying-all_lack}
-use Rattle.spec_protocol.proofs.Moves.Granted.{Divergence}
-use Rattle.spec_protocol.proofs.Moves.AnyMemory.{relaid, dma-relaid}
-use Rattle.spec_protocol.proofs.Moves.Transfers.{DmaMoves, dma-lives, dma-moves}
+use Rattle.spec_sphere.proofs.Moves.Granted.{Divergence}
+use Rattle.spec_sphere.proofs.Moves.AnyMemory.{relaid, dma-relaid}
+use Rattle.spec_sphere.proofs.Moves.Transfers.{DmaMoves, dma-lives, dma-moves}
 use Rattle.spec_protocol.proofs.Invariants.Preserved.{Preserved, point-made, point-other, unchanged-preserved}
 use Rattle.spec_protocol.proofs.Moves.AnyEvent.{Transfers, any-transfer}
 use Rattle.spec_protocol.proofs.Invariants.Landing.{landed-held, elsewhere-held, moved-shown}
 use Rattle.spec_protocol.proofs.Invariants.Granting.{stopped-good, stopped-shown}
 use Rattle.spec_protocol.proofs.Invariants.Asks.{shown_at, shown_over, turn_over}
-use Rattle.spec_protocol.specs.promises.Currency.{AllLack}
+use Rattle.spec_play.specs.Touching.{AllLack}
 use Rattle.spec_protocol.specs.promises.Invariants.{IsFlightCovered, current, IsGood}
 
 moves_of : (w : World) (i : ℕ) (v : MovedSphere) → Transfers w i v → DmaMoves w.devices (sphere_at w i) v

@@ -13,23 +13,25 @@ use Rattle.spec_log.specs.declared.Interrupt.{Interrupt}
 use Rattle.spec_play.specs.Progress.{position}
 use Rattle.spec_play.specs.Verdicts.{interrupt_at}
 use Rattle.spec_play.specs.Epochs.{commits_of as done_by, is_masked, log_from}
-use Rattle.spec_protocol.specs.machine.Spheres.{Recording, Record, Sphere, no_sphere}
-use Rattle.spec_protocol.specs.machine.Machine.{RecordSetup, IsRecorded, SphereSetup, Setup}
+use Rattle.spec_sphere.specs.sphere.Spheres.{Recording, Record, Sphere, no_sphere}
+use Rattle.spec_sphere.specs.sphere.Setups.{RecordSetup, IsRecorded, SphereSetup}
+use Rattle.spec_protocol.specs.machine.Machine.{Setup}
 use Rattle.spec_protocol.specs.machine.Serial.{SerialState, serial_start, do_points, CanDoAll}
-use Rattle.spec_protocol.specs.machine.Logged.{Supplied, actors_of, interrupts_of, inputs_of, sphere_in, supplied, done_in, logged_since, all_interrupts}
-use Rattle.spec_protocol.specs.machine.Epochs.{state_in}
-use Rattle.spec_protocol.specs.promises.Sound.{AreFresh}
-use Rattle.spec_protocol.proofs.Logs.Inserting.{is_of_moment}
-use Rattle.spec_protocol.proofs.Logs.Lookups.{none-there, count_of, count-append}
-use Rattle.spec_protocol.proofs.Logs.Entries.{find_parts, part-none}
-use Rattle.spec_protocol.proofs.Logs.Growing.{commits_in}
-use Rattle.spec_protocol.proofs.Points.OneMore.{points_so, commits_of, actors-append, interrupts-append}
+use Rattle.spec_sphere.specs.sphere.Logged.{Supplied, actors_of, interrupts_of, inputs_of, all_interrupts}
+use Rattle.spec_protocol.specs.machine.Logged.{sphere_in, supplied, done_in, logged_since}
+use Rattle.spec_sphere.specs.sphere.Epochs.{state_in}
+use Rattle.spec_sphere.specs.promises.Sound.{AreFresh, commits_in}
+use Rattle.spec_sphere.proofs.Logs.Inserting.{is_of_moment}
+use Rattle.spec_sphere.proofs.Logs.Lookups.{none-there, count-append}
+use Rattle.spec_sphere.specs.promises.Standing.{count_of}
+use Rattle.spec_sphere.proofs.Logs.Entries.{find_parts, part-none}
+use Rattle.spec_sphere.proofs.Points.OneMore.{points_so, commits_of, actors-append, interrupts-append}
 use Rattle.spec_protocol.proofs.Points.OneByOne.{HoldsIn, points-kept}
-use Rattle.spec_protocol.proofs.Points.KeptLogs.{Keeping, log_by, keeping, Keeps, keeps-by-points}
+use Rattle.spec_sphere.proofs.Points.KeptLogs.{Keeping, log_by, keeping, Keeps, keeps-by-points}
 use Rattle.spec_protocol.proofs.Points.Logs.{how_kept, start-kept}
 use Rattle.spec_protocol.proofs.Kept.Cutting.{do-append, can-split, supplied-append}
-use Rattle.spec_protocol.proofs.Kept.Shortening.{IntsFrom, Cuts, log-cut}
-use Rattle.spec_protocol.proofs.Kept.Masked.{Handles, Waits, waits-by-points}
+use Rattle.spec_sphere.proofs.Kept.Shortening.{IntsFrom, Cuts, log-cut}
+use Rattle.spec_sphere.proofs.Kept.Masked.{Handles, Waits, waits-by-points}
 
 handles_of : (k : ℕ) (ts : List Parts) (o : Option Parts) → slice_get ts k ≡ o → is_masked o ≡ true → Handles k ts
 handles_of k ts None e m = absurd (true≢false (sym m))

@@ -14,16 +14,22 @@ use Rattle.spec_play.specs.Progress.{Progress, position, nothing_used}
 use Rattle.spec_play.specs.States.{State}
 use Rattle.spec_play.specs.Epochs.{Epoch, Epochs, log_from, with_epoch, given_up, without_first}
 use Rattle.spec_protocol.specs.declared.event.Event.{Event}
-use Rattle.spec_protocol.specs.machine.Spheres.{Recording, Role, Record, Sphere, no_sphere}
+use Rattle.spec_sphere.specs.sphere.Spheres.{Recording, Role, Record, Sphere, no_sphere}
 use Rattle.spec_protocol.specs.machine.World.{World, sphere_at}
-use Rattle.spec_protocol.specs.machine.Machine.{EpochSetup, RecordSetup, IsRecorded, SphereSetup, Setup}
+use Rattle.spec_sphere.specs.sphere.Setups.{EpochSetup, RecordSetup, IsRecorded, SphereSetup}
+use Rattle.spec_protocol.specs.machine.Machine.{Setup}
 use Rattle.spec_protocol.specs.machine.Serial.{SerialState, serial_start, do_points, serial, CanDoAll}
-use Rattle.spec_protocol.specs.machine.Logged.{Supplied, sphere_in, supplied, listed, inputs_of}
-use Rattle.spec_protocol.specs.machine.Epochs.{state_in, inputs_before, epoch_at, is_due, progress_after, as_recorded, trimmed_by, trimmed, begun_if, begun_in, epoch_begun}
-use Rattle.spec_protocol.specs.machine.Kept.{points_until, points_since, serial_until, epoch_of, epochs_of, supplied_since, tail_log}
+use Rattle.spec_sphere.specs.sphere.Logged.{Supplied, listed, inputs_of}
+use Rattle.spec_protocol.specs.machine.Logged.{sphere_in, supplied}
+use Rattle.spec_sphere.specs.sphere.Epochs.{state_in, epoch_at, progress_after, as_recorded, trimmed_by, trimmed, begun_if, begun_in, epoch_begun}
+use Rattle.spec_play.specs.Epochs.{inputs_before, is_due}
+use Rattle.spec_sphere.specs.sphere.Kept.{points_until, points_since}
+use Rattle.spec_protocol.specs.machine.Kept.{serial_until, epoch_of, epochs_of, supplied_since, tail_log}
 use Rattle.spec_protocol.specs.promises.Promises.{after}
-use Rattle.spec_protocol.specs.promises.Kept.{IsKeptFrom, has_due, is_due_in}
-use Rattle.spec_protocol.proofs.Kept.Cutting.{commits_among, until-since, do-append, supplied-append, since-later, none-told}
+use Rattle.spec_protocol.specs.promises.Kept.{IsKeptFrom}
+use Rattle.spec_sphere.specs.promises.Kept.{has_due, is_due_in}
+use Rattle.spec_sphere.proofs.Kept.Cutting.{commits_among, until-since, since-later}
+use Rattle.spec_protocol.proofs.Kept.Cutting.{do-append, supplied-append, none-told}
 use Rattle.spec_protocol.proofs.Kept.Tails.{until-state, inputs-until, tail-next}
 use Rattle.spec_protocol.proofs.Kept.Due.{IsInLast, not-due, is-due}
 use Rattle.spec_protocol.proofs.Kept.Dropping.{cut_at}

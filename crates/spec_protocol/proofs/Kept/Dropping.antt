@@ -16,12 +16,13 @@ use Rattle.spec_kernel.specs.Answers.{taken}
 use Rattle.spec_kernel.specs.Serving.{serve}
 use Rattle.spec_play.specs.Effects.{chunk_effect, serial_effect, dma_commit}
 use Rattle.spec_play.specs.Progress.{Progress}
-use Rattle.spec_protocol.specs.machine.Spheres.{Recording, Record, Sphere}
-use Rattle.spec_protocol.specs.machine.Commits.{MovedSphere, live_dma, dma_log, chunk_moved, serial_moved, dma_moved, raised}
-use Rattle.spec_protocol.specs.machine.Serial.{SerialState, laid, do_moved, do_chunk, do_serial, do_dma, do_raise, do_kind, do_commit, do_interrupt, do_point}
-use Rattle.spec_protocol.proofs.Moves.Granted.{get-set_same}
+use Rattle.spec_sphere.specs.sphere.Spheres.{Recording, Record, Sphere}
+use Rattle.spec_sphere.specs.sphere.Commits.{MovedSphere, live_dma, dma_log, chunk_moved, serial_moved, dma_moved, raised}
+use Rattle.spec_protocol.specs.machine.Serial.{SerialState, do_moved, do_chunk, do_serial, do_dma, do_raise, do_kind, do_commit, do_interrupt, do_point}
+use Rattle.spec_sphere.specs.sphere.Commits.{laid}
+use Rattle.spec_strata.proofs.Shares.Steps.{get-set_same}
 use Rattle.spec_protocol.proofs.Invariants.Preserved.{sphere_of_point}
-use Rattle.spec_protocol.proofs.PlayingBack.Moves.{recorded_dma}
+use Rattle.spec_sphere.proofs.PlayingBack.Moves.{recorded_dma}
 
 -- without the first b commits
 abbrev pub cut_at : (b : ℕ) → Progress → Progress

@@ -1,13 +1,14 @@
 -- When an epoch is due: after each whole number of them, once.
-use Rattle.std.proofs.Common.{◌≡◌, ◌≢◌, ℕ, zero, suc, ◌+◌, ◌-◌, ◌*◌, ◌/◌, ◌%◌, ◌<◌, ◌≤◌, inl, inr, Bool, true, false, not, ◌&&◌, ◌||◌, eqb, List, [], ◌∷◌, ◌++◌, length, refl, sym, ap, ◌∙◌, subst, arith}
-use Rattle.std.proofs.lemmas.Bool.{true≢false, cases_eq, cases_lt, eq-eqb, ne_eqb, eqb-true, and_parts, or_right}
+use Rattle.std.proofs.Common.{◌≡◌, ◌≢◌, ℕ, zero, suc, ◌+◌, ◌-◌, ◌*◌, ◌/◌, ◌%◌, ◌<◌, ◌≤◌, inl, inr, Bool, true, false, not, ◌&&◌, ◌||◌, eqb, List, refl, sym, ap, ◌∙◌, arith}
+use Rattle.std.proofs.lemmas.Bool.{true≢false, cases_eq, cases_lt, eq-eqb, ne_eqb, eqb-true, and_parts}
 use Rattle.std.proofs.Math.Nat.{suc-mul, add-mul, mul-mod_left, div-add-mod, mul_comm, zero-mul}
 use Rattle.std.proofs.lemmas.Nat.{div-mul-add}
 use Rattle.dl_entry.specs.declared.Point.{Point}
-use Rattle.spec_play.specs.Epochs.{Epoch, Epochs}
 use Rattle.spec_protocol.specs.machine.Machine.{Setup}
-use Rattle.spec_protocol.specs.machine.Epochs.{begins_at, is_due, base_of}
+use Rattle.spec_play.specs.Epochs.{begins_at, is_due}
+use Rattle.spec_sphere.specs.sphere.Epochs.{base_of}
 use Rattle.spec_protocol.specs.machine.Kept.{epoch_of, epochs_of}
+use Rattle.spec_sphere.proofs.Moves.Answering.{or_second}
 
 -- ---- numbers
 
@@ -38,10 +39,6 @@ base-is given kept size keep commits some few all is less =
     ap (λ (n : ℕ). n * size) e
 
 -- ---- where epochs begin
-
-or_second : (x y : Bool) → y ≡ true → (x || y) ≡ true
-or_second true y e = refl
-or_second false y e = e
 
 -- of points of which sphere i has so many commits, in each state has as many as it should
 module _ (s : Setup) (ps : List Point) (i size commits : ℕ) (some : 0 < size) (at_ : (n : ℕ) → n ≤ commits → (epoch_of s ps i n).state.commits ≡ n) where

@@ -7,27 +7,33 @@ use Rattle.std.proofs.Math.Nat.{add-mul}
 use Rattle.dl_entry.specs.declared.Point.{Point}
 use Rattle.spec_play.specs.Progress.{Progress, position}
 use Rattle.spec_protocol.specs.declared.event.Event.{Event}
-use Rattle.spec_protocol.specs.machine.Spheres.{Role, Record, Sphere, no_sphere}
+use Rattle.spec_sphere.specs.sphere.Spheres.{Role, Record, Sphere, no_sphere}
 use Rattle.spec_protocol.specs.machine.World.{World, EventOutcome, sphere_at}
-use Rattle.spec_protocol.specs.machine.Machine.{EpochSetup, RecordSetup, IsRecorded, SphereSetup, Setup, with_point, happens, world_of, world_after}
+use Rattle.spec_sphere.specs.sphere.Setups.{EpochSetup, RecordSetup, IsRecorded, SphereSetup}
+use Rattle.spec_protocol.specs.machine.Machine.{Setup, with_point, happens, world_of, world_after}
 use Rattle.spec_protocol.specs.machine.Serial.{SerialState, serial_start, do_points, serial, CanDoAll}
 use Rattle.spec_protocol.specs.machine.Shown.{shown, shown_of}
 use Rattle.spec_protocol.specs.machine.Moves.{do_if}
-use Rattle.spec_protocol.specs.machine.Logged.{Supplied, sphere_in, is_of, supplied, logged_since}
-use Rattle.spec_protocol.specs.machine.Kept.{is_commit_of, points_until, points_since, serial_until, epoch_of, epochs_of, supplied_since, tail_log}
+use Rattle.spec_sphere.specs.sphere.Logged.{Supplied, is_of}
+use Rattle.spec_protocol.specs.machine.Logged.{sphere_in, supplied, logged_since}
+use Rattle.spec_sphere.specs.sphere.Kept.{is_commit_of, points_until, points_since}
+use Rattle.spec_protocol.specs.machine.Kept.{serial_until, epoch_of, epochs_of, supplied_since, tail_log}
 use Rattle.spec_protocol.specs.promises.Promises.{IsSetup, after}
-use Rattle.spec_protocol.specs.promises.Sound.{AreEpochs, IsWithinLimits}
+use Rattle.spec_sphere.specs.promises.Sound.{AreEpochs}
+use Rattle.spec_protocol.specs.promises.Sound.{IsWithinLimits}
 use Rattle.spec_protocol.specs.promises.Alike.{AreAlike}
-use Rattle.spec_protocol.specs.promises.Kept.{IsKeptFrom, IsKept, WillKeep, Shows, has_due, is_due_in, IsReady}
+use Rattle.spec_protocol.specs.promises.Kept.{IsKeptFrom, IsKept, WillKeep, Shows, IsReady}
+use Rattle.spec_sphere.specs.promises.Kept.{has_due, is_due_in}
 use Rattle.spec_protocol.proofs.Invariants.Preserved.{sphere_of_point}
 use Rattle.spec_protocol.proofs.Invariants.Schedules.{happens-preserved}
 use Rattle.spec_protocol.proofs.Points.Counts.{points_made}
 use Rattle.spec_protocol.proofs.Points.Serial.{Agrees, agrees_itself, do_if_point, CanIf, event_follows}
 use Rattle.spec_protocol.proofs.Points.OneByOne.{HoldsIn, of-sphere, one-more}
-use Rattle.spec_protocol.proofs.Points.KeptLogs.{Keeping, log_by, keeping, Keeps}
+use Rattle.spec_sphere.proofs.Points.KeptLogs.{Keeping, log_by, keeping, Keeps}
 use Rattle.spec_protocol.proofs.Sound.Schedules.{setup-within}
 use Rattle.spec_protocol.proofs.Alike.Events.{happen-alike}
-use Rattle.spec_protocol.proofs.Kept.Cutting.{commits_among, among-append, until-since, among-until, can-split, other_commit, since-all}
+use Rattle.spec_sphere.proofs.Kept.Cutting.{commits_among, among-append, until-since, among-until, other_commit, since-all}
+use Rattle.spec_protocol.proofs.Kept.Cutting.{can-split}
 use Rattle.spec_protocol.proofs.Kept.Tails.{done-among}
 use Rattle.spec_protocol.proofs.Kept.Due.{IsInLast, not-due}
 use Rattle.spec_protocol.proofs.Kept.Dropping.{cut_at}

@@ -12,19 +12,24 @@ use Rattle.spec_log.specs.Versions.{new_threads}
 use Rattle.spec_play.specs.Progress.{position}
 use Rattle.spec_play.specs.Epochs.{commits_of as done_by}
 use Rattle.spec_play.specs.Verdicts.{interrupt_at}
-use Rattle.spec_protocol.specs.machine.Spheres.{Record, Sphere}
-use Rattle.spec_protocol.specs.machine.Machine.{EpochSetup, RecordSetup, IsRecorded, SphereSetup, Setup}
+use Rattle.spec_sphere.specs.sphere.Spheres.{Record, Sphere}
+use Rattle.spec_sphere.specs.sphere.Setups.{EpochSetup, RecordSetup, IsRecorded, SphereSetup}
+use Rattle.spec_protocol.specs.machine.Machine.{Setup}
 use Rattle.spec_protocol.specs.machine.Serial.{SerialState, serial_start, do_points, CanDoAll}
-use Rattle.spec_protocol.specs.machine.Logged.{Supplied, actors_of, interrupts_of, sphere_in, supplied, done_in, threads, all_interrupts}
-use Rattle.spec_protocol.specs.machine.Kept.{points_until, points_since, serial_until, epochs_of, supplied_since}
-use Rattle.spec_protocol.specs.promises.Sound.{AreFresh}
-use Rattle.spec_protocol.proofs.Logs.Inserting.{is_of_moment, found_first}
-use Rattle.spec_protocol.proofs.Logs.Lookups.{none-there, count_of, count-append}
-use Rattle.spec_protocol.proofs.Logs.Entries.{find_parts, part-none, threads_from}
-use Rattle.spec_protocol.proofs.Points.OneMore.{points_so, commits_of, actors-append, interrupts-append}
-use Rattle.spec_protocol.proofs.Points.KeptLogs.{Keeping, log_by, keeping, Keeps}
+use Rattle.spec_sphere.specs.sphere.Logged.{Supplied, actors_of, interrupts_of, threads, all_interrupts}
+use Rattle.spec_protocol.specs.machine.Logged.{sphere_in, supplied, done_in}
+use Rattle.spec_sphere.specs.sphere.Kept.{points_until, points_since}
+use Rattle.spec_protocol.specs.machine.Kept.{serial_until, epochs_of, supplied_since}
+use Rattle.spec_sphere.specs.promises.Sound.{AreFresh}
+use Rattle.spec_sphere.proofs.Logs.Inserting.{is_of_moment, found_first}
+use Rattle.spec_sphere.proofs.Logs.Lookups.{none-there, count-append}
+use Rattle.spec_sphere.specs.promises.Standing.{count_of}
+use Rattle.spec_sphere.proofs.Logs.Entries.{find_parts, part-none, threads_from}
+use Rattle.spec_sphere.proofs.Points.OneMore.{points_so, commits_of, actors-append, interrupts-append}
+use Rattle.spec_sphere.proofs.Points.KeptLogs.{Keeping, log_by, keeping, Keeps}
 use Rattle.spec_protocol.proofs.Points.Logs.{how_kept}
-use Rattle.spec_protocol.proofs.Kept.Cutting.{until-since, can-split, supplied-append}
+use Rattle.spec_sphere.proofs.Kept.Cutting.{until-since}
+use Rattle.spec_protocol.proofs.Kept.Cutting.{can-split, supplied-append}
 use Rattle.spec_protocol.proofs.Kept.Base.{kept-so, sphere-holds}
 
 -- ---- not found

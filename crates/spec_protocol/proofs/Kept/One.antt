@@ -10,15 +10,19 @@ use Rattle.spec_play.specs.Progress.{position}
 use Rattle.spec_play.specs.Epochs.{Epochs}
 use Rattle.spec_play.specs.Epochs as epochs
 use Rattle.spec_protocol.specs.declared.event.Event.{Event}
-use Rattle.spec_protocol.specs.machine.Spheres.{Recording, Role, Plain, Record, Replay, Sphere, no_sphere}
+use Rattle.spec_sphere.specs.sphere.Spheres.{Recording, Role, Plain, Record, Replay, Sphere, no_sphere}
 use Rattle.spec_protocol.specs.machine.World.{World, sphere_at}
-use Rattle.spec_protocol.specs.machine.Shown.{flying}
-use Rattle.spec_protocol.specs.machine.Machine.{EpochSetup, RecordSetup, SphereSetup, Setup}
-use Rattle.spec_protocol.specs.machine.Epochs.{begun_at, begun_if, begun_in, epoch_begun, epochs_begun}
+use Rattle.spec_engine.specs.Flying.{flying}
+use Rattle.spec_sphere.specs.sphere.Setups.{EpochSetup, RecordSetup, SphereSetup}
+use Rattle.spec_protocol.specs.machine.Machine.{Setup}
+use Rattle.spec_protocol.specs.machine.Epochs.{begun_at, epochs_begun}
+use Rattle.spec_sphere.specs.sphere.Epochs.{begun_if, begun_in, epoch_begun}
 use Rattle.spec_protocol.specs.promises.Promises.{after}
 use Rattle.spec_protocol.specs.promises.Sound.{IsWithinLimits}
-use Rattle.spec_protocol.specs.promises.Alike.{forgotten, all_forgotten, AreAlike}
-use Rattle.spec_protocol.specs.promises.Kept.{IsKept, WillKeep, Shows, has_due, is_due_in, NoneIsDue}
+use Rattle.spec_sphere.specs.promises.Alike.{forgotten}
+use Rattle.spec_protocol.specs.promises.Alike.{all_forgotten, AreAlike}
+use Rattle.spec_protocol.specs.promises.Kept.{IsKept, WillKeep, Shows, NoneIsDue}
+use Rattle.spec_sphere.specs.promises.Kept.{has_due, is_due_in}
 use Rattle.spec_protocol.proofs.Sound.Schedules.{setup-within}
 use Rattle.spec_protocol.proofs.Invariants.Schedules.{sizes_kept}
 use Rattle.spec_protocol.proofs.Alike.Good.{sphere-alike, spheres-alike}

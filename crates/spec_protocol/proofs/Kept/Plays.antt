@@ -15,31 +15,36 @@ use Rattle.spec_play.specs.Verdicts.{interrupt_at}
 use Rattle.spec_play.specs.Epochs.{commits_of as done_by, is_masked}
 use Rattle.spec_play.specs.Plays.{Played, opened, plays}
 use Rattle.spec_protocol.specs.declared.event.Event.{Event}
-use Rattle.spec_protocol.specs.machine.Spheres.{Recording, Role, Record, Sphere, no_sphere}
+use Rattle.spec_sphere.specs.sphere.Spheres.{Recording, Role, Record, Sphere, no_sphere}
 use Rattle.spec_protocol.specs.machine.World.{Numbers, World, sphere_at}
-use Rattle.spec_protocol.specs.machine.Machine.{all_of, first_played, RecordSetup, RoleSetup, IsRecorded, new_recording, SphereSetup, Setup, live_sphere, sphere_as, with_point, world_of, happens, world_after, moves}
+use Rattle.spec_sphere.specs.sphere.Setups.{all_of, first_played, RecordSetup, RoleSetup, IsRecorded, new_recording, SphereSetup, live_sphere, sphere_as}
+use Rattle.spec_protocol.specs.machine.Machine.{Setup, with_point, world_of, happens, world_after, moves}
 use Rattle.spec_protocol.specs.machine.Serial.{SerialState, serial_start, do_points, serial, CanDoAll}
 use Rattle.spec_protocol.specs.machine.Shown.{shown, shown_of}
-use Rattle.spec_protocol.specs.machine.Logged.{Supplied, interrupts_of, inputs_of, sphere_in, supplied, done_in, all_interrupts}
-use Rattle.spec_protocol.specs.machine.Kept.{is_commit_of, points_until, points_since, serial_until, epoch_of, supplied_since, tail_log}
+use Rattle.spec_sphere.specs.sphere.Logged.{Supplied, interrupts_of, inputs_of, all_interrupts}
+use Rattle.spec_protocol.specs.machine.Logged.{sphere_in, supplied, done_in}
+use Rattle.spec_sphere.specs.sphere.Kept.{is_commit_of, points_until, points_since}
+use Rattle.spec_protocol.specs.machine.Kept.{serial_until, epoch_of, supplied_since, tail_log}
 use Rattle.spec_protocol.specs.promises.Promises.{IsSetup, after}
 use Rattle.spec_protocol.specs.promises.LogsOfPoints.{log_of_points}
-use Rattle.spec_protocol.specs.promises.Kept.{after_raise, HasComeTo, EpochsAreOfPlays}
-use Rattle.spec_protocol.proofs.Logs.Inserting.{both_tests, is_of_moment, found_first}
-use Rattle.spec_protocol.proofs.Logs.Lookups.{none-there}
-use Rattle.spec_protocol.proofs.Logs.Entries.{part-none, threads_from}
-use Rattle.spec_protocol.proofs.Logs.Growing.{Ahead}
-use Rattle.spec_protocol.proofs.Logs.Coming.{ahead-end}
-use Rattle.spec_protocol.proofs.PlayingBack.Following.{early_by, Follows}
-use Rattle.spec_protocol.proofs.PlayingBack.All.{Comes, moves_come, start-stands, start_reaches}
-use Rattle.spec_protocol.proofs.Points.OneMore.{points_so, interrupts-append}
+use Rattle.spec_sphere.specs.promises.Kept.{after_raise, HasComeTo}
+use Rattle.spec_protocol.specs.promises.Kept.{EpochsAreOfPlays}
+use Rattle.spec_sphere.proofs.Logs.Inserting.{both_tests, is_of_moment, found_first}
+use Rattle.spec_sphere.proofs.Logs.Lookups.{none-there}
+use Rattle.spec_sphere.proofs.Logs.Entries.{part-none, threads_from}
+use Rattle.spec_sphere.proofs.Logs.Growing.{Ahead}
+use Rattle.spec_sphere.proofs.Logs.Coming.{ahead-end}
+use Rattle.spec_sphere.proofs.PlayingBack.Following.{early_by, Follows}
+use Rattle.spec_protocol.proofs.PlayingBack.All.{Comes, moves_come}
+use Rattle.spec_sphere.proofs.PlayingBack.All.{start-stands, start_reaches}
+use Rattle.spec_sphere.proofs.Points.OneMore.{points_so, interrupts-append}
 use Rattle.spec_protocol.proofs.Points.Counts.{points_made}
-use Rattle.spec_protocol.proofs.Points.KeptLogs.{new-most, log_by, keeping}
+use Rattle.spec_sphere.proofs.Points.KeptLogs.{new-most, log_by, keeping}
 use Rattle.spec_protocol.proofs.Points.Logs.{how_kept}
 use Rattle.spec_protocol.proofs.Invariants.Schedules.{start-sphere, Serial, moves_serial, moves_are, invariants_hold, sizes_kept}
 use Rattle.spec_protocol.proofs.Sound.Schedules.{setup-within}
-use Rattle.spec_protocol.proofs.Kept.Cutting.{commits_among, among-append, until-since, until-more, since-all}
-use Rattle.spec_protocol.proofs.Kept.Shortening.{IntsFrom, ints-from, Cuts}
+use Rattle.spec_sphere.proofs.Kept.Cutting.{commits_among, among-append, until-since, until-more, since-all}
+use Rattle.spec_sphere.proofs.Kept.Shortening.{IntsFrom, ints-from, Cuts}
 use Rattle.spec_protocol.proofs.Kept.Base.{cuts_at}
 use Rattle.spec_protocol.proofs.Kept.Tails.{done-among}
 use Rattle.spec_protocol.proofs.Kept.Holding.{none_of_all, split-at, base_holds}

@@ -1,9 +1,9 @@
 -- Which spheres are recorded in epochs: those that are set up so, after any events.
-use Rattle.std.proofs.Common.{◌≡◌, ℕ, zero, suc, ◌<◌, Bool, true, false, List, [], ◌∷◌, map, length, Option, Some, None, refl, sym, ap, ◌∙◌, subst, arith, get_or, set}
+use Rattle.std.proofs.Common.{◌≡◌, ℕ, suc, Bool, true, false, List, [], ◌∷◌, map, Option, Some, None, refl, sym, ap, ◌∙◌, get_or, set}
 use Rattle.std.specs.Prelude.{slice_get}
 use Rattle.std.proofs.Math.ListN.{get_or-map}
 use Rattle.std.proofs.Math.Seq.{map-set_same}
-use Rattle.std.proofs.lemmas.Option.{slice_get_within, get_or_from_slice_get, none-some}
+use Rattle.std.proofs.lemmas.Option.{get_or_from_slice_get}
 use Rattle.dl_entry.specs.declared.Request.{Request}
 use Rattle.spec_isa.specs.declared.thread.Parts.{Parts}
 use Rattle.spec_isa.specs.Runs.{Run, run}
@@ -11,19 +11,19 @@ use Rattle.spec_kernel.specs.Devices.{Devices}
 use Rattle.spec_play.specs.Epochs.{Epochs}
 use Rattle.spec_play.specs.Verdicts.{LogVerdict, Goes, Fails, chunk_verdict, serial_verdict}
 use Rattle.spec_play.specs.Transfers.{DmaVerdict, DmaGoes, DmaFails, dma_verdict}
-use Rattle.spec_engine.specs.declared.answers.How.{How}
 use Rattle.spec_engine.specs.Flights.{Flight}
 use Rattle.spec_protocol.specs.declared.event.Event.{Event}
-use Rattle.spec_protocol.specs.machine.Spheres.{Cursor, Recording, Role, Plain, Record, Replay, Sphere, no_sphere}
-use Rattle.spec_protocol.specs.machine.Commits.{MovedSphere, is_piece, joined, by_verdict, replayed_chunk, chunk_in, chunk_moved, serial_in, serial_moved, live_dma, dma_log, dma_by_verdict, dma_in, dma_moved, role_raised, raised}
+use Rattle.spec_sphere.specs.sphere.Spheres.{Cursor, Role, Plain, Record, Replay, Sphere, no_sphere}
+use Rattle.spec_sphere.specs.sphere.Commits.{MovedSphere, joined, by_verdict, replayed_chunk, chunk_in, chunk_moved, serial_in, serial_moved, live_dma, dma_log, dma_by_verdict, dma_in, dma_moved, role_raised, raised, laid}
+use Rattle.spec_engine.specs.Closing.{is_piece, is_short}
 use Rattle.spec_protocol.specs.machine.World.{Numbers, World, MoveKind, OfChunk, OfSerial, OfDma, OfRaise, Move, sphere_at}
-use Rattle.spec_protocol.specs.machine.Asking.{is_short}
-use Rattle.spec_protocol.specs.machine.Machine.{RoleSetup, IsPlain, IsRecorded, IsReplayed, new_epochs, SphereSetup, Setup, sphere_as, sphere_of, world_of, moves}
-use Rattle.spec_protocol.specs.machine.Serial.{SerialState, serial_start, laid, do_moved, do_serial, do_dma, do_raise}
+use Rattle.spec_sphere.specs.sphere.Setups.{RoleSetup, IsPlain, IsRecorded, IsReplayed, SphereSetup, sphere_as, sphere_of, new_epochs}
+use Rattle.spec_protocol.specs.machine.Machine.{Setup, world_of, moves}
+use Rattle.spec_protocol.specs.machine.Serial.{SerialState, serial_start, do_serial, do_dma, do_raise}
 use Rattle.spec_protocol.specs.machine.Moves.{move_chunk, do_by_kind, do_at, do_move, do_moves}
-use Rattle.spec_protocol.specs.machine.Shown.{shown, shown_from, shown_of}
+use Rattle.spec_protocol.specs.machine.Shown.{shown, shown_from}
 use Rattle.spec_protocol.specs.promises.Promises.{IsSetup, after}
-use Rattle.spec_protocol.specs.promises.Alike.{epochs_in}
+use Rattle.spec_sphere.specs.promises.Alike.{epochs_in}
 use Rattle.spec_protocol.proofs.Invariants.Schedules.{moves_are, start-sphere}
 
 -- ---- a move keeps what a sphere's role is

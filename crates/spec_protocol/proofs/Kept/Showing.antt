@@ -1,49 +1,31 @@
 -- A sphere of a world that keeps the end of its recording, beside the sphere that keeps all of it.
-use Rattle.std.proofs.Common.{◌≡◌, ◌≢◌, ℕ, zero, suc, ◌+◌, ◌*◌, ◌<◌, ◌≤◌, inl, inr, Bool, true, false, cond, List, [], ◌∷◌, ◌++◌, length, drop, Option, Some, None, refl, sym, ap, ◌∙◌, subst, arith}
+use Rattle.std.proofs.Common.{◌≡◌, ◌≢◌, ℕ, inl, inr, true, false, List, [], ◌∷◌, Option, Some, None, refl, sym, ap, ◌∙◌, subst}
 use Rattle.std.specs.Prelude.{slice_get}
 use Rattle.std.proofs.lemmas.Bool.{true≢false, cases_Bool, eqb-true}
-use Rattle.std.proofs.lemmas.Option.{slice_get_within, same_Some, get_or_from_slice_get}
+use Rattle.std.proofs.lemmas.Option.{same_Some}
 use Rattle.dl_entry.specs.declared.Actor.{Actor}
 use Rattle.dl_entry.specs.declared.CommitKind.{CommitKind}
 use Rattle.dl_entry.specs.declared.Point.{Point}
-use Rattle.dl_entry.specs.declared.Request.{Request}
-use Rattle.dl_entry.specs.declared.Input.{Input}
 use Rattle.spec_isa.specs.declared.thread.Parts.{Parts}
 use Rattle.spec_isa.specs.Words.{lays}
 use Rattle.spec_kernel.specs.Devices.{Devices}
 use Rattle.spec_kernel.specs.Needs.{need}
 use Rattle.spec_kernel.specs.Answers.{taken}
-use Rattle.spec_engine.specs.Flights.{Flight}
-use Rattle.spec_play.specs.Progress.{Progress, position}
-use Rattle.spec_play.specs.Epochs.{Epochs}
-use Rattle.spec_log.specs.declared.LogParts.{LogParts}
-use Rattle.spec_protocol.specs.machine.Spheres.{Role, Plain, Record, Replay, Sphere, no_sphere}
-use Rattle.spec_protocol.specs.machine.Placing.{replays}
+use Rattle.spec_sphere.specs.sphere.Spheres.{Sphere, replays}
 use Rattle.spec_protocol.specs.machine.World.{World, sphere_at}
-use Rattle.spec_protocol.specs.machine.Shown.{flying, shown, shown_of}
+use Rattle.spec_engine.specs.Flying.{flying}
+use Rattle.spec_protocol.specs.machine.Shown.{shown}
 use Rattle.spec_protocol.specs.machine.Serial.{SerialState}
-use Rattle.spec_protocol.specs.machine.Logged.{Supplied, answer_to, bytes_for, sphere_in, input_at, bytes_at, is_of, supplied}
-use Rattle.spec_protocol.specs.promises.Alike.{progress_without, log_without, epochs_without, forgotten, AreAlike}
-use Rattle.spec_protocol.proofs.Invariants.Preserved.{sphere_of_point, shown-get}
+use Rattle.spec_sphere.specs.sphere.Logged.{Supplied, answer_to, bytes_for, is_of}
+use Rattle.spec_protocol.specs.machine.Logged.{sphere_in, supplied}
+use Rattle.spec_protocol.specs.promises.Alike.{AreAlike}
+use Rattle.spec_protocol.proofs.Invariants.Preserved.{sphere_of_point}
 use Rattle.spec_protocol.proofs.Points.Serial.{Agrees}
 use Rattle.spec_protocol.proofs.Points.OneByOne.{HoldsIn, supplied_at, of-sphere, one-more}
-use Rattle.spec_protocol.proofs.Points.KeptLogs.{Keeping, Keeps}
+use Rattle.spec_sphere.proofs.Points.KeptLogs.{Keeping, Keeps}
 use Rattle.spec_protocol.proofs.Alike.Good.{sphere-alike}
 
 -- ---- alike
-
-position_recorded : (g : Progress) (o : Option Epochs) → position (progress_without o g) ≡ position g
-position_recorded g None = refl
-position_recorded g (Some x) = omega arith
-
-position_in : (m : List ℕ) (ts : List Parts) (g : Progress) (r : Role) → let p : Sphere = record { memory = m; threads = ts; progress = g; role = r } in position (forgotten p).progress ≡ position g
-position_in m ts g Plain = refl
-position_in m ts g (Record r) = position_recorded g r.epochs
-position_in m ts g (Replay b) = refl
-
--- spheres that are alike have done as many commits
-pub position-alike : (p q : Sphere) → forgotten p ≡ forgotten q → position p.progress ≡ position q.progress
-position-alike p q e = sym (position_in p.memory p.threads p.progress p.role) ∙ ap (λ (x : Sphere). position x.progress) e ∙ position_in q.memory q.threads q.progress q.role
 
 -- what is shown of the sphere has the same memory
 pub memory-shown : (w v : World) (i : ℕ) → AreAlike w v → (shown w.slots i (sphere_at w i)).memory ≡ (shown v.slots i (sphere_at v i)).memory
@@ -66,15 +48,15 @@ holds-shown how i cs x y p a e k =
 
 -- ---- what comes from outside
 
-answer_same : (d : Devices) (moment : ℕ) (p q : Sphere) (o : Option Parts) → p.memory ≡ q.memory → answer_to d moment p o ≡ answer_to d moment q o
-answer_same d moment p q None same = refl
-answer_same d moment p q (Some t) same = ap (λ (m : List ℕ). (taken (need t m) d moment).input) same
-
 -- spheres that get the same from outside
 pub record AsksAs (p q : Sphere) : Type 0 where
   pub memory : p.memory ≡ q.memory
   pub threads : p.threads ≡ q.threads
   pub request : p.progress.request ≡ q.progress.request
+
+answer_same : (d : Devices) (moment : ℕ) (p q : Sphere) (o : Option Parts) → p.memory ≡ q.memory → answer_to d moment p o ≡ answer_to d moment q o
+answer_same d moment p q None same = refl
+answer_same d moment p q (Some t) same = ap (λ (m : List ℕ). (taken (need t m) d moment).input) same
 
 serial_input : (d e : Devices) (moment k : ℕ) (p q : Sphere) → d ≡ e → AsksAs p q → answer_to d moment p (slice_get p.threads k) ≡ answer_to e moment q (slice_get q.threads k)
 serial_input d e moment k p q devices same =

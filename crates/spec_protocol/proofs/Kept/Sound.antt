@@ -8,12 +8,15 @@ use Rattle.spec_log.specs.declared.LogParts.{LogParts}
 use Rattle.spec_play.specs.Progress.{Progress, position}
 use Rattle.spec_play.specs.Epochs.{Epochs}
 use Rattle.spec_protocol.specs.declared.event.Event.{Event}
-use Rattle.spec_protocol.specs.machine.Spheres.{Recording, Role, Plain, Record, Replay, Sphere}
+use Rattle.spec_sphere.specs.sphere.Spheres.{Recording, Role, Plain, Record, Replay, Sphere}
 use Rattle.spec_protocol.specs.machine.World.{World, moment, sphere_at}
-use Rattle.spec_protocol.specs.machine.Machine.{SphereSetup, Setup}
-use Rattle.spec_protocol.specs.promises.Sound.{IsSoundSphere, IsSound, image_at}
-use Rattle.spec_protocol.specs.promises.Alike.{forgotten, all_forgotten}
-use Rattle.spec_protocol.proofs.Logs.Fresh.{fresh-none}
+use Rattle.spec_sphere.specs.sphere.Setups.{SphereSetup}
+use Rattle.spec_protocol.specs.machine.Machine.{Setup}
+use Rattle.spec_sphere.specs.promises.Sound.{IsSoundSphere}
+use Rattle.spec_protocol.specs.promises.Sound.{IsSound, image_at}
+use Rattle.spec_sphere.specs.promises.Alike.{forgotten}
+use Rattle.spec_protocol.specs.promises.Alike.{all_forgotten}
+use Rattle.spec_sphere.proofs.Logs.Fresh.{fresh-none}
 use Rattle.spec_protocol.proofs.Alike.Forgetting.{sphere-forgotten}
 
 -- ---- what has forgotten

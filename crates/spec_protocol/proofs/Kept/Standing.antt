@@ -13,27 +13,32 @@ use Rattle.spec_play.specs.Progress.{position}
 use Rattle.spec_play.specs.Effects.{chunk_effect}
 use Rattle.spec_play.specs.Recording.{noted, interrupt_noted}
 use Rattle.spec_protocol.specs.declared.event.Event.{Event}
-use Rattle.spec_protocol.specs.machine.Spheres.{Recording, Record, Sphere, no_sphere}
-use Rattle.spec_protocol.specs.machine.Placing.{replays}
-use Rattle.spec_protocol.specs.machine.Commits.{serial_noted, dma_log, role_raised, raised}
+use Rattle.spec_sphere.specs.sphere.Spheres.{Recording, Record, Sphere, no_sphere, replays}
+use Rattle.spec_sphere.specs.sphere.Commits.{serial_noted, dma_log, role_raised, raised}
 use Rattle.spec_protocol.specs.machine.World.{World, sphere_at}
-use Rattle.spec_protocol.specs.machine.Machine.{RecordSetup, RoleSetup, IsRecorded, new_recording, SphereSetup, Setup, live_sphere, sphere_as, sphere_of}
+use Rattle.spec_sphere.specs.sphere.Setups.{RecordSetup, RoleSetup, IsRecorded, new_recording, SphereSetup, live_sphere, sphere_as, sphere_of}
+use Rattle.spec_protocol.specs.machine.Machine.{Setup}
 use Rattle.spec_protocol.specs.machine.Serial.{SerialState, serial_start, do_points, serial, CanDoAll}
 use Rattle.spec_protocol.specs.machine.Shown.{shown, shown_of}
-use Rattle.spec_protocol.specs.machine.Logged.{Supplied, actors_of, sphere_in, supplied}
+use Rattle.spec_sphere.specs.sphere.Logged.{Supplied, actors_of}
+use Rattle.spec_protocol.specs.machine.Logged.{sphere_in, supplied}
 use Rattle.spec_protocol.specs.promises.Promises.{IsSetup, after}
 use Rattle.spec_protocol.specs.promises.Invariants.{IsGood}
-use Rattle.spec_protocol.specs.promises.Alike.{forgotten, AreAlike}
+use Rattle.spec_sphere.specs.promises.Alike.{forgotten}
+use Rattle.spec_protocol.specs.promises.Alike.{AreAlike}
 use Rattle.spec_protocol.proofs.Invariants.Preserved.{shown-get}
 use Rattle.spec_protocol.proofs.Invariants.Schedules.{invariants_hold, sizes_kept}
-use Rattle.spec_protocol.proofs.Points.OneMore.{points_so}
+use Rattle.spec_sphere.proofs.Points.OneMore.{points_so}
 use Rattle.spec_protocol.proofs.Points.Serial.{serial-after}
-use Rattle.spec_protocol.proofs.Points.OneByOne.{IsKeptByPoints, HoldsIn, points-kept}
-use Rattle.spec_protocol.proofs.Points.KeptLogs.{Keeps}
+use Rattle.spec_sphere.proofs.Points.Kept.{IsKeptByPoints}
+use Rattle.spec_protocol.proofs.Points.OneByOne.{HoldsIn, points-kept}
+use Rattle.spec_sphere.proofs.Points.KeptLogs.{Keeps}
 use Rattle.spec_protocol.proofs.Points.Logs.{how_kept, log_kept}
 use Rattle.spec_protocol.proofs.Alike.Good.{sphere-alike, spheres-alike, good-alike}
-use Rattle.spec_protocol.proofs.Kept.Cutting.{commits_among, told-commits}
-use Rattle.spec_protocol.proofs.Kept.Showing.{position-alike, memory-shown}
+use Rattle.spec_sphere.proofs.Kept.Cutting.{commits_among}
+use Rattle.spec_protocol.proofs.Kept.Cutting.{told-commits}
+use Rattle.spec_sphere.proofs.Alike.Shown.{position-alike}
+use Rattle.spec_protocol.proofs.Kept.Showing.{memory-shown}
 
 -- ---- the whole sphere counts from 0
 

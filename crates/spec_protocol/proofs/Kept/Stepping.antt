@@ -11,28 +11,32 @@ use Rattle.spec_log.specs.declared.LogParts.{LogParts}
 use Rattle.spec_play.specs.Progress.{Progress, position}
 use Rattle.spec_play.specs.Epochs.{Epoch, Epochs}
 use Rattle.spec_protocol.specs.declared.event.Event.{Event}
-use Rattle.spec_protocol.specs.machine.Spheres.{Recording, Role, Record, Sphere, no_sphere}
+use Rattle.spec_sphere.specs.sphere.Spheres.{Recording, Role, Record, Sphere, no_sphere}
 use Rattle.spec_protocol.specs.machine.World.{World, EventOutcome, sphere_at}
-use Rattle.spec_protocol.specs.machine.Machine.{EpochSetup, RecordSetup, IsRecorded, SphereSetup, Setup, with_point, happens}
+use Rattle.spec_sphere.specs.sphere.Setups.{EpochSetup, RecordSetup, IsRecorded, SphereSetup}
+use Rattle.spec_protocol.specs.machine.Machine.{Setup, with_point, happens}
 use Rattle.spec_protocol.specs.machine.Serial.{SerialState, serial_start, do_point, do_points, serial, CanDoAll}
 use Rattle.spec_protocol.specs.machine.Shown.{shown_of}
 use Rattle.spec_protocol.specs.machine.Moves.{do_if}
-use Rattle.spec_protocol.specs.machine.Logged.{Supplied, sphere_in, is_of, supplied, inputs_of, logged_since}
-use Rattle.spec_protocol.specs.machine.Epochs.{state_in}
-use Rattle.spec_protocol.specs.machine.Kept.{is_commit_of, points_until, points_since, serial_until, epoch_of, epochs_of, supplied_since, tail_log}
+use Rattle.spec_sphere.specs.sphere.Logged.{Supplied, is_of, inputs_of}
+use Rattle.spec_protocol.specs.machine.Logged.{sphere_in, supplied, logged_since}
+use Rattle.spec_sphere.specs.sphere.Epochs.{state_in}
+use Rattle.spec_sphere.specs.sphere.Kept.{is_commit_of, points_until, points_since}
+use Rattle.spec_protocol.specs.machine.Kept.{serial_until, epoch_of, epochs_of, supplied_since, tail_log}
 use Rattle.spec_protocol.specs.promises.Promises.{IsSetup, after}
 use Rattle.spec_protocol.specs.promises.Kept.{IsKeptFrom}
 use Rattle.spec_protocol.proofs.Invariants.Preserved.{sphere_of_point}
 use Rattle.spec_protocol.proofs.Invariants.Schedules.{happens-preserved}
 use Rattle.spec_protocol.proofs.Points.Serial.{Agrees, agrees_itself, do_if_point, CanIf, event_follows}
 use Rattle.spec_protocol.proofs.Points.OneByOne.{HoldsIn, points-kept, supplied_at, point-away, of-sphere, one-more}
-use Rattle.spec_protocol.proofs.Points.KeptLogs.{Keeping, log_by, keeping, Keeps, keeps-by-points}
+use Rattle.spec_sphere.proofs.Points.KeptLogs.{Keeping, log_by, keeping, Keeps, keeps-by-points}
 use Rattle.spec_protocol.proofs.Points.Logs.{how_kept}
-use Rattle.spec_protocol.proofs.Kept.Cutting.{commits_among, among-append, until-since, among-until, until-more, since-more, since-later, do-append, supplied-append}
+use Rattle.spec_sphere.proofs.Kept.Cutting.{commits_among, among-append, until-since, among-until, until-more, since-more, since-later}
+use Rattle.spec_protocol.proofs.Kept.Cutting.{do-append, supplied-append}
 use Rattle.spec_protocol.proofs.Kept.Tails.{done-among, among-since}
 use Rattle.spec_protocol.proofs.Kept.Dropping.{cut_at, recorded_so, IsCutIn, point-cut}
 use Rattle.spec_protocol.proofs.Kept.Holding.{how_since, keeps-since}
-use Rattle.spec_protocol.proofs.Kept.Showing.{holds-shown, AsksAs, supplied-same}
+use Rattle.spec_protocol.proofs.Kept.Showing.{holds-shown, supplied-same, AsksAs}
 use Rattle.spec_protocol.proofs.Kept.Standing.{Stand}
 
 -- ---- points more

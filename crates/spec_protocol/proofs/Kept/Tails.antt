@@ -10,18 +10,22 @@ use Rattle.spec_play.specs.Progress.{position}
 use Rattle.spec_play.specs.States.{State}
 use Rattle.spec_play.specs.Epochs.{log_from}
 use Rattle.spec_protocol.specs.declared.event.Event.{Event}
-use Rattle.spec_protocol.specs.machine.Spheres.{Sphere}
-use Rattle.spec_protocol.specs.machine.Machine.{RecordSetup, IsRecorded, SphereSetup, Setup}
+use Rattle.spec_sphere.specs.sphere.Spheres.{Sphere}
+use Rattle.spec_sphere.specs.sphere.Setups.{RecordSetup, IsRecorded, SphereSetup}
+use Rattle.spec_protocol.specs.machine.Machine.{Setup}
 use Rattle.spec_protocol.specs.machine.Serial.{SerialState, serial_start, do_points, serial, CanDoAll}
-use Rattle.spec_protocol.specs.machine.Logged.{Supplied, actors_of, listed, inputs_of, sphere_in, supplied, done_in, logged_after, logged_since, logged}
-use Rattle.spec_protocol.specs.machine.Epochs.{state_in}
-use Rattle.spec_protocol.specs.machine.Kept.{points_until, points_since, serial_until, epoch_of, supplied_since, tail_log}
+use Rattle.spec_sphere.specs.sphere.Logged.{Supplied, actors_of, listed, inputs_of, logged_after, logged}
+use Rattle.spec_protocol.specs.machine.Logged.{sphere_in, supplied, done_in, logged_since}
+use Rattle.spec_sphere.specs.sphere.Epochs.{state_in}
+use Rattle.spec_sphere.specs.sphere.Kept.{points_until, points_since}
+use Rattle.spec_protocol.specs.machine.Kept.{serial_until, epoch_of, supplied_since, tail_log}
 use Rattle.spec_protocol.specs.promises.Promises.{after}
 use Rattle.spec_protocol.specs.promises.Kept.{TailsAreOfPoints}
-use Rattle.spec_protocol.proofs.Points.OneMore.{points_so}
+use Rattle.spec_sphere.proofs.Points.OneMore.{points_so}
 use Rattle.spec_protocol.proofs.Points.Serial.{serial-after}
 use Rattle.spec_protocol.proofs.Sound.Schedules.{setup-within}
-use Rattle.spec_protocol.proofs.Kept.Cutting.{commits_among, among-append, until-since, among-until, until-later, since-later, do-append, supplied-append, told-commits}
+use Rattle.spec_sphere.proofs.Kept.Cutting.{commits_among, among-append, until-since, among-until, until-later, since-later}
+use Rattle.spec_protocol.proofs.Kept.Cutting.{do-append, supplied-append, told-commits}
 use Rattle.spec_protocol.proofs.Kept.Base.{kept-so, sphere-holds, log-since}
 use Rattle.spec_protocol.proofs.Points.Logs.{how_kept}
 

@@ -11,24 +11,31 @@ use Rattle.dl_entry.specs.declared.Point.{Point}
 use Rattle.spec_isa.specs.Words.{lays}
 use Rattle.spec_log.specs.declared.LogParts.{LogParts}
 use Rattle.spec_play.specs.Progress.{Progress, position}
-use Rattle.spec_play.specs.Epochs.{Epoch, Epochs}
+use Rattle.spec_play.specs.Epochs.{Epoch, Epochs, is_due}
 use Rattle.spec_engine.specs.Flights.{Flight}
 use Rattle.spec_protocol.specs.declared.event.Event.{Event}
-use Rattle.spec_protocol.specs.machine.Spheres.{Recording, Role, Plain, Record, Replay, Sphere, no_sphere}
+use Rattle.spec_sphere.specs.sphere.Spheres.{Recording, Role, Plain, Record, Replay, Sphere, no_sphere}
 use Rattle.spec_protocol.specs.machine.World.{World, moment, sphere_at}
-use Rattle.spec_protocol.specs.machine.Shown.{flying, shown}
-use Rattle.spec_protocol.specs.machine.Machine.{EpochSetup, RecordSetup, RoleSetup, IsPlain, IsRecorded, IsReplayed, new_epochs, SphereSetup, Setup, with_point, world_of, happens, world_after}
+use Rattle.spec_engine.specs.Flying.{flying}
+use Rattle.spec_protocol.specs.machine.Shown.{shown}
+use Rattle.spec_sphere.specs.sphere.Setups.{EpochSetup, RecordSetup, RoleSetup, IsPlain, IsRecorded, IsReplayed, new_epochs, SphereSetup}
+use Rattle.spec_protocol.specs.machine.Machine.{Setup, with_point, world_of, happens, world_after}
 use Rattle.spec_protocol.specs.machine.Serial.{serial_start, CanDoAll}
-use Rattle.spec_protocol.specs.machine.Logged.{actors_of, is_of, supplied}
-use Rattle.spec_protocol.specs.machine.Epochs.{is_due, begun_if, begun_in, epoch_begun, begun_from, epochs_begun, base_of}
+use Rattle.spec_sphere.specs.sphere.Logged.{actors_of, is_of}
+use Rattle.spec_protocol.specs.machine.Logged.{supplied}
+use Rattle.spec_sphere.specs.sphere.Epochs.{begun_if, begun_in, epoch_begun, base_of}
+use Rattle.spec_protocol.specs.machine.Epochs.{begun_from, epochs_begun}
 use Rattle.spec_protocol.specs.machine.Kept.{serial_until, epoch_of, epochs_of, supplied_since, tail_log}
 use Rattle.spec_protocol.specs.promises.Promises.{IsSetup, after}
-use Rattle.spec_protocol.specs.promises.Sound.{no_image, AreFresh, IsSound, AreEpochs, AreEpochsIf, IsRole, IsWithinLimits}
-use Rattle.spec_protocol.specs.promises.Alike.{epochs_without, epochs_in, forgotten, all_forgotten, AreAlike, EndAlike, HaveBegun, HaveBegunIf, HaveAllBegun}
-use Rattle.spec_protocol.specs.promises.Kept.{IsKeptFrom, IsKept, WillKeep, Shows, is_due_if, is_due_in, has_due, IsReady, NoneIsDue, IsSoundTail, WorldsShowTails, RecordingsAreKept}
+use Rattle.spec_sphere.specs.promises.Sound.{no_image, AreFresh, AreEpochs, AreEpochsIf, IsRole}
+use Rattle.spec_protocol.specs.promises.Sound.{IsSound, IsWithinLimits}
+use Rattle.spec_sphere.specs.promises.Alike.{epochs_without, epochs_in, forgotten, HaveBegun, HaveBegunIf}
+use Rattle.spec_protocol.specs.promises.Alike.{all_forgotten, AreAlike, EndAlike, HaveAllBegun}
+use Rattle.spec_protocol.specs.promises.Kept.{IsKeptFrom, IsKept, WillKeep, Shows, IsReady, NoneIsDue, WorldsShowTails, RecordingsAreKept}
+use Rattle.spec_sphere.specs.promises.Kept.{is_due_if, is_due_in, has_due, IsSoundTail}
 use Rattle.spec_protocol.proofs.Invariants.Preserved.{sphere_of_point}
-use Rattle.spec_protocol.proofs.Points.OneMore.{points_so}
-use Rattle.spec_protocol.proofs.Points.KeptLogs.{log_by, keeping}
+use Rattle.spec_sphere.proofs.Points.OneMore.{points_so}
+use Rattle.spec_sphere.proofs.Points.KeptLogs.{log_by, keeping}
 use Rattle.spec_protocol.proofs.Points.OneByOne.{of-sphere}
 use Rattle.spec_protocol.proofs.Points.Counts.{points_made}
 use Rattle.spec_protocol.proofs.Sound.Schedules.{setup-within, worlds_sound}
@@ -36,13 +43,13 @@ use Rattle.spec_protocol.proofs.Alike.Events.{happen-alike}
 use Rattle.spec_protocol.proofs.Alike.Good.{sphere-alike, spheres-alike}
 use Rattle.spec_protocol.proofs.Alike.Beginning.{begun-alike}
 use Rattle.spec_protocol.proofs.Invariants.Schedules.{sizes_kept}
-use Rattle.spec_protocol.proofs.Kept.Cutting.{commits_among, since_none}
+use Rattle.spec_sphere.proofs.Kept.Cutting.{commits_among, since_none}
 use Rattle.spec_protocol.proofs.Kept.Tails.{tail-whole}
 use Rattle.spec_protocol.proofs.Kept.Due.{IsInLast, base-is, is-due, not-due}
 use Rattle.spec_protocol.proofs.Kept.Standing.{Stand, stands}
 use Rattle.spec_protocol.proofs.Kept.Stepping.{count-kept, held-since, base-among}
 use Rattle.spec_protocol.proofs.Kept.Events.{IsEarly, epoch-commits, early-in, event-kept}
-use Rattle.spec_protocol.proofs.Kept.Roles.{epochs_of_role, epochs-stay}
+use Rattle.spec_protocol.proofs.Kept.Roles.{epochs-stay, epochs_of_role}
 use Rattle.spec_protocol.proofs.Kept.Begun.{begun-kept}
 use Rattle.spec_protocol.proofs.Kept.Holding.{how_since}
 use Rattle.spec_protocol.proofs.Kept.Sound.{sound-forgotten}

@@ -2,7 +2,7 @@
 use Rattle.std.proofs.Common.{◌++◌, ◌/◌, ◌≡◌, ℕ, zero, suc, ◌≤◌, inl, inr, Bool, true, false, eqb, cond, ◌&&◌, List, [], ◌∷◌, length, Option, Some, None, refl, sym, ap, ◌∙◌, subst, arith}
 use Rattle.std.proofs.lemmas.Bool.{true≢false, and_parts, and_from, cases_Bool, false_from_ne_true}
 use Rattle.std.proofs.lemmas.Bool.Decides.{eqb_tells}
-use Rattle.spec_isa.specs.Words.{Stored, merged, put, Lacks, Apart}
+use Rattle.spec_isa.specs.Words.{Stored, merged, put, Lacks}
 use Rattle.std.proofs.lemmas.Option.{none-some}
 use Rattle.std.proofs.lemmas.List.{length-append}
 use Rattle.spec_isa.specs.declared.thread.Parts.{Parts}
@@ -11,16 +11,16 @@ use Rattle.spec_isa.specs.declared.operation.Operation.{Operation}
 use Rattle.spec_isa.specs.Operations.{loaded, word_loaded, load_then}
 use Rattle.spec_isa.specs.Instruction.{operation_of, loads_of, load_of}
 use Rattle.spec_isa.specs.Runs.{with_load, with_store}
-use Rattle.spec_isa.proofs.BufferLaws.{Apart-put}
 use Rattle.spec_engine.specs.Signatures.{Signature, insert, covers, hits, line, signed}
 use Rattle.spec_engine.specs.Flights.{Flight, at, is_none, first_slot, told_at, bounces}
 use Rattle.spec_engine.specs.Chunks.{Chunk, with_line}
 use Rattle.spec_engine.specs.Laws.{CoversLoads, CoversWords}
 use Rattle.spec_engine.proofs.Marking.{covers_insert, covers_more, covers_hit}
 use Rattle.spec_engine.proofs.Searches.{first_none}
-use Rattle.spec_protocol.specs.machine.Shown.{words_of, flying}
-use Rattle.spec_protocol.proofs.Memory.Laying.{Lacks-append, Unseen}
-use Rattle.spec_protocol.specs.promises.Currency.{seen_by, IsQuiet, AllLack}
+use Rattle.spec_engine.specs.Flying.{words_of, flying}
+use Rattle.spec_sphere.proofs.Memory.Laying.{Lacks-append}
+use Rattle.spec_play.specs.Touching.{Unseen, AllLack}
+use Rattle.spec_protocol.specs.promises.Currency.{seen_by, IsQuiet}
 use Rattle.spec_protocol.specs.promises.Invariants.{IsFlightCovered, AreCovered}
 
 pub CoversWords_more : (i l : ℕ) (g : Signature) (ws : List Stored) → CoversWords i g ws → CoversWords i (insert l g) ws
@@ -41,11 +41,6 @@ pub CoversWords-store : (i : ℕ) (g : Signature) (ws : List Stored) (store : Op
 CoversWords-store i g ws None c = c
 CoversWords-store i g ws (Some s) c =
     put_covered i (insert (line i s.number) g) s ws (covers_insert (line i s.number) g) (CoversWords_more i (line i s.number) g ws c)
-
--- no word comes twice after one store more
-pub Apart-store : (ws : List Stored) (store : Option Stored) → Apart ws → Apart (with_store ws store)
-Apart-store ws None a = a
-Apart-store ws (Some s) a = Apart-put ws s a
 
 put_length : (ws : List Stored) (s : Stored) → length (put ws s) ≤ suc (length ws)
 unfolding merged

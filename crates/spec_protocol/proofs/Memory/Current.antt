@@ -14,12 +14,15 @@ use Rattle.spec_engine.specs.Flights.{Flight, is_none, first_slot, bounces}
 use Rattle.spec_engine.specs.Chunks.{Chunk, Stepping, step}
 use Rattle.spec_engine.specs.Laws.{StepAgrees}
 use Rattle.spec_engine.proofs.Stepping.{steps_are}
-use Rattle.spec_protocol.specs.machine.Shown.{flying}
-use Rattle.spec_protocol.proofs.Memory.Laying.{Agree, Agree-lays, Agree-unseen}
-use Rattle.spec_protocol.proofs.Memory.Running.{Touches_local, Touches_more, one_local, one_serial}
+use Rattle.spec_engine.specs.Flying.{flying}
+use Rattle.spec_play.specs.Touching.{Agree, Touches, RunTouches}
+use Rattle.spec_play.proofs.Local.Laying.{Agree-lays, Agree-unseen}
+use Rattle.spec_sphere.proofs.Memory.Running.{Touches_local, Touches_more}
+use Rattle.spec_play.proofs.Local.Running.{one_local, one_serial}
 use Rattle.spec_protocol.proofs.Memory.Covering.{clear, clear-lacks, unseen_from}
 use Rattle.spec_protocol.proofs.Memory.Steps.{SameBase, Looks, step-stays}
-use Rattle.spec_protocol.specs.promises.Currency.{Meets, Touches, RunTouches, seen_by, StoresAnew, IsCurrent, IsQuiet}
+use Rattle.spec_protocol.specs.promises.Currency.{Meets, seen_by, IsCurrent, IsQuiet}
+use Rattle.spec_sphere.specs.promises.Currency.{StoresAnew}
 use Rattle.spec_protocol.specs.promises.Invariants.{AreCovered, IsGoodChunk}
 
 -- ---- a run that goes on

@@ -9,9 +9,10 @@ use Rattle.spec_engine.specs.Signatures.{Signature}
 use Rattle.spec_engine.specs.Flights.{Flight, at, is_none, free_slot, is_full, fill, fill_at}
 use Rattle.spec_engine.proofs.Searches.{free_slot-within, free_slot-free}
 use Rattle.spec_protocol.specs.machine.World.{flown}
-use Rattle.spec_protocol.specs.machine.Shown.{words_of, flying}
-use Rattle.spec_protocol.proofs.Memory.Laying.{lays_append, AllLack_flip, AllLack_left, AllLack_right, AllLack-append, Apart_first, Apart_last, Apart_lack, Apart-append, lays-lays}
-use Rattle.spec_protocol.specs.promises.Currency.{AllLack}
+use Rattle.spec_engine.specs.Flying.{words_of, flying}
+use Rattle.spec_play.proofs.Local.Laying.{lays_append, lays-lays}
+use Rattle.spec_sphere.proofs.Memory.Laying.{AllLack_flip, AllLack_left, AllLack_right, AllLack-append, Apart_first, Apart_last, Apart_lack, Apart-append}
+use Rattle.spec_play.specs.Touching.{AllLack}
 
 -- ---- rows
 

@@ -18,9 +18,12 @@ use Rattle.spec_engine.specs.Chunks.{Chunk, Stepping, closes, marked, ran, at_li
 use Rattle.spec_engine.specs.Laws.{CoversLoads, CoversWords}
 use Rattle.spec_engine.proofs.Choosing.{keep_option, keep_choose}
 use Rattle.spec_engine.proofs.Marking.{covers_insert, covers_more, hits_more}
-use Rattle.spec_protocol.proofs.Memory.Running.{outside_serial}
-use Rattle.spec_protocol.proofs.Memory.Covering.{CoversLoads_more, CoversLoads-load, length-load, load-word, CoversWords-store, Apart-store, length-store, bits-with_line, clear}
-use Rattle.spec_protocol.specs.promises.Currency.{Touches, seen_by, StoresAnew}
+use Rattle.spec_play.proofs.Local.Running.{outside_serial}
+use Rattle.spec_protocol.proofs.Memory.Covering.{CoversLoads_more, CoversLoads-load, length-load, load-word, CoversWords-store, length-store, bits-with_line, clear}
+use Rattle.spec_play.proofs.Local.Joining.{Apart-store}
+use Rattle.spec_play.specs.Touching.{Touches}
+use Rattle.spec_sphere.specs.promises.Currency.{StoresAnew}
+use Rattle.spec_protocol.specs.promises.Currency.{seen_by}
 use Rattle.spec_protocol.specs.promises.Invariants.{Closes}
 
 -- ---- what is kept

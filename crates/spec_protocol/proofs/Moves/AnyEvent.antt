@@ -17,21 +17,17 @@ use Rattle.spec_engine.specs.Chunks.{Chunk, step, cut, is_open}
 use Rattle.spec_engine.specs.Asking.{ask, denied_by, busy_by}
 use Rattle.spec_protocol.specs.declared.event.Event.{Event}
 use Rattle.spec_protocol.specs.declared.reply.Reply.{Reply}
-use Rattle.spec_protocol.specs.machine.Spheres.{turn_against, Sphere, no_sphere, is_stopped}
-use Rattle.spec_protocol.specs.machine.Commits.{CommitOutcome, Granted, Piece, Diverged, MovedSphere, dma_in, dma_moved}
+use Rattle.spec_sphere.specs.sphere.Spheres.{turn_against, Sphere, no_sphere, is_stopped, replays}
+use Rattle.spec_sphere.specs.sphere.Commits.{CommitOutcome, Granted, Piece, Diverged, MovedSphere, dma_in, dma_moved}
 use Rattle.spec_protocol.specs.machine.World.{Occupant, World, EventOutcome, sphere_at, with_core, held_afresh, core_of, answered}
 use Rattle.spec_protocol.specs.machine.Stepping.{stepped, step_held, stepping, cut_to, cut_held, cutting, stepped_younger, younger_for, step_younger, cut_younger, cut_in}
 use Rattle.spec_protocol.specs.machine.Flying.{drain_slot, draining, delivering, retiring}
 use Rattle.spec_protocol.specs.machine.Asking.{grant_chunk, grant_serial, unless_denied, unless_busy, asks_serial, ask_arbiter, unless_turn, ask_closed, ask_held, asking}
 use Rattle.spec_protocol.specs.machine.Transferring.{dma_done, transfer, dma_with, dma_if, transferring}
-use Rattle.spec_protocol.specs.machine.Placing.{unless_elsewhere, place_thread, placing, replays, raise_in, raise_thread, raising}
+use Rattle.spec_protocol.specs.machine.Placing.{unless_elsewhere, place_thread, placing, raise_in, raise_thread, raising}
 use Rattle.spec_protocol.specs.machine.Machine.{core_no, sphere_no, slot_no, act}
 use Rattle.spec_protocol.specs.promises.Replying.{makes_point}
-
--- what holds of both branches under their conditions holds of the choice
-pub branch : {A : Type 0} (P : A → Type 0) (b : Bool) (x y : A) → (b ≡ true → P x) → (b ≡ false → P y) → P (cond b x y)
-branch P true x y p q = p refl
-branch P false x y p q = q refl
+use Rattle.spec_play.proofs.Threads.{branch}
 
 -- ---- when the world is changed
 

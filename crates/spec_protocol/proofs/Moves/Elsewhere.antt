@@ -3,12 +3,12 @@ use Rattle.std.proofs.Common.{◌≡◌, ◌≢◌, ℕ, Option, Some, None, ref
 use Rattle.std.specs.Prelude.{slice_get}
 use Rattle.spec_isa.specs.declared.thread.Parts.{Parts}
 use Rattle.spec_engine.specs.declared.answers.How.{How}
-use Rattle.spec_protocol.specs.machine.Spheres.{Sphere}
-use Rattle.spec_protocol.specs.machine.Commits.{MovedSphere, dma_moved}
+use Rattle.spec_sphere.specs.sphere.Spheres.{Sphere}
+use Rattle.spec_sphere.specs.sphere.Commits.{MovedSphere, dma_moved}
 use Rattle.spec_protocol.specs.machine.World.{Numbers, MoveKind, OfChunk, OfSerial, OfDma, OfRaise, Move}
 use Rattle.spec_protocol.specs.machine.Serial.{SerialState, do_serial, do_dma, do_raise}
 use Rattle.spec_protocol.specs.machine.Moves.{move_chunk, do_by_kind, do_at}
-use Rattle.spec_protocol.proofs.Moves.Granted.{get-set_other}
+use Rattle.spec_strata.proofs.Shares.Steps.{get-set_other}
 
 chunk_away : (z : Numbers) (x : SerialState) (i j k : ℕ) (how : How) (n limit : ℕ) (p : Sphere) (o : Option Parts) → j ≢ i → slice_get (move_chunk z x i k how n limit p o).spheres j ≡ slice_get x.spheres j
 chunk_away z x i j k how n limit p None ne = refl

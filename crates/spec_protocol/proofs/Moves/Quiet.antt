@@ -8,7 +8,7 @@ use Rattle.spec_engine.specs.declared.answers.Deliver.{Deliver}
 use Rattle.spec_engine.specs.Flights.{Flight, at, deliver}
 use Rattle.spec_engine.specs.Chunks.{Chunk, step, is_open}
 use Rattle.spec_protocol.specs.declared.event.Event.{Event}
-use Rattle.spec_protocol.specs.machine.Spheres.{is_stopped}
+use Rattle.spec_sphere.specs.sphere.Spheres.{is_stopped}
 use Rattle.spec_protocol.specs.machine.World.{Occupant, World, EventOutcome, sphere_at, core_of, with_slot}
 use Rattle.spec_protocol.specs.machine.Stepping.{stepped, step_held, stepping, cut_held, cutting, stepped_younger, younger_for, step_younger, cut_in}
 use Rattle.spec_protocol.specs.machine.Flying.{drain_slot, draining, told, deliver_to, delivering, hits_younger, reads_of, retiring, writes_of, younger_of}

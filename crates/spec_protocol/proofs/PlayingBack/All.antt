@@ -1,5 +1,5 @@
 -- The play of a recorded log follows the recording from its start to its end.
-use Rattle.std.proofs.Common.{◌≡◌, ℕ, zero, suc, ◌+◌, ◌<◌, ◌≤◌, inl, inr, Bool, true, false, ◌&&◌, eqb, cond, List, [], ◌∷◌, length, Option, Some, None, refl, sym, ap, ◌∙◌, subst, arith}
+use Rattle.std.proofs.Common.{◌≡◌, ℕ, suc, ◌+◌, ◌<◌, ◌≤◌, inl, inr, Bool, true, false, ◌&&◌, eqb, cond, List, [], ◌∷◌, length, Option, Some, None, refl, sym, ap, ◌∙◌, subst, arith}
 use Rattle.std.specs.Prelude.{slice_get, nat_lt, IsSome, find, option_map}
 use Rattle.std.specs.List.{list_all}
 use Rattle.std.proofs.lemmas.Bool.{true≢false, cases_eq, cases_lt, le-ltb, lt-ltb, and_from, eq-eqb}
@@ -7,37 +7,40 @@ use Rattle.std.proofs.lemmas.Option.{none-some}
 use Rattle.dl_entry.specs.declared.End.{End}
 use Rattle.dl_entry.specs.declared.Request.{Request}
 use Rattle.spec_isa.specs.declared.thread.Parts.{Parts}
-use Rattle.spec_isa.specs.Threads.{started}
 use Rattle.spec_isa.specs.Runs.{run}
 use Rattle.spec_log.specs.declared.ModeName.{ModeName}
 use Rattle.spec_log.specs.declared.ShortSize.{ShortSize}
 use Rattle.spec_log.specs.declared.Sizes.{Sizes}
 use Rattle.spec_log.specs.declared.LogParts.{LogParts}
-use Rattle.spec_kernel.specs.Interrupts.{takes_interrupt}
 use Rattle.spec_play.specs.Progress.{Progress, position}
 use Rattle.spec_play.specs.declared.used.Used.{Used}
 use Rattle.spec_play.specs.Turns.{Ended, is_size_used, are_sizes_used, has_left_over, at_end, turn_of, next_actor, now_at}
 use Rattle.spec_play.specs.Verdicts.{interrupt_at}
-use Rattle.spec_log.specs.Noting.{no_sizes}
-use Rattle.spec_play.specs.Recording.{new_log, interrupt_noted}
+use Rattle.spec_play.specs.Recording.{interrupt_noted}
 use Rattle.spec_play.specs.Plays.{Played, plays}
 use Rattle.spec_engine.specs.declared.answers.How.{How}
-use Rattle.spec_protocol.specs.machine.Spheres.{Recording, Role, Record, Sphere}
-use Rattle.spec_protocol.specs.machine.Commits.{MovedSphere, is_piece, chunk_in, chunk_moved, serial_in, serial_moved, dma_in, dma_moved, live_dma, dma_log, role_raised, raised}
+use Rattle.spec_sphere.specs.sphere.Spheres.{Recording, Role, Record, Sphere}
+use Rattle.spec_sphere.specs.sphere.Commits.{MovedSphere, chunk_in, chunk_moved, serial_in, serial_moved, dma_in, dma_moved, live_dma, dma_log, role_raised, raised, laid}
+use Rattle.spec_engine.specs.Closing.{is_piece, is_short}
 use Rattle.spec_protocol.specs.machine.World.{Numbers, MoveKind, OfChunk, OfSerial, OfDma, OfRaise, Move}
-use Rattle.spec_protocol.specs.machine.Asking.{is_short}
-use Rattle.spec_protocol.specs.machine.Machine.{first_threads, all_of, last_played, first_played, RoleSetup, new_recording, SphereSetup, live_sphere, sphere_as, moves, world_of}
-use Rattle.spec_protocol.specs.machine.Serial.{SerialState, serial_start, laid, do_moved, do_serial, do_dma, do_raise}
-use Rattle.spec_protocol.specs.machine.Moves.{move_chunk, do_by_kind, do_at, do_move, do_moves, FitsChunk, FitsSerial, FitsRaise, FitsWhat, FitsAt, Fits, FitAll}
-use Rattle.spec_protocol.specs.promises.PlayingBack.{PlaysBack, LogsPlayBack}
-use Rattle.spec_protocol.proofs.Moves.Granted.{get-set_same}
+use Rattle.spec_sphere.specs.sphere.Setups.{all_of, last_played, first_played, RoleSetup, new_recording, SphereSetup, live_sphere, sphere_as}
+use Rattle.spec_protocol.specs.machine.Machine.{moves, world_of}
+use Rattle.spec_protocol.specs.machine.Serial.{SerialState, serial_start, do_moved, do_serial, do_dma, do_raise}
+use Rattle.spec_protocol.specs.machine.Moves.{move_chunk, do_by_kind, do_at, do_move, do_moves, FitsChunk, FitsSerial, FitsWhat, FitsAt, Fits, FitAll}
+use Rattle.spec_sphere.specs.sphere.Moves.{FitsRaise}
+use Rattle.spec_sphere.specs.promises.PlayingBack.{PlaysBack}
+use Rattle.spec_protocol.specs.promises.PlayingBack.{LogsPlayBack}
+use Rattle.spec_strata.proofs.Shares.Steps.{get-set_same}
 use Rattle.spec_protocol.proofs.Moves.Elsewhere.{at-away}
-use Rattle.spec_protocol.proofs.Logs.Lookups.{short_at}
-use Rattle.spec_protocol.proofs.Logs.Growing.{commits_if, commits_in, OrderStands, SizesStand, Stands, Ahead}
-use Rattle.spec_protocol.proofs.Logs.Coming.{ahead-end}
-use Rattle.spec_protocol.proofs.PlayingBack.Following.{early_same, pending, pending_same, sum_from, sum-zero, Follows}
-use Rattle.spec_protocol.proofs.PlayingBack.Moves.{Reaches, Grown, grown_refl, grown_trans, chunk-grown, serial-grown, dma-grown, raise-grown, recorded_dma}
+use Rattle.spec_sphere.specs.promises.Standing.{short_at, SizesStand, Stands}
+use Rattle.spec_sphere.specs.promises.Sound.{commits_if, commits_in}
+use Rattle.spec_sphere.proofs.Logs.Growing.{Ahead}
+use Rattle.spec_sphere.proofs.Logs.Coming.{ahead-end}
+use Rattle.spec_sphere.proofs.PlayingBack.Following.{early_same, pending, pending_same, sum_from, sum-zero, Follows}
+use Rattle.spec_sphere.proofs.PlayingBack.Moves.{Reaches, Grown, grown_refl, grown_trans, serial-grown, dma-grown, raise-grown, recorded_dma}
+use Rattle.spec_protocol.proofs.PlayingBack.Moves.{chunk-grown}
 use Rattle.spec_protocol.proofs.Invariants.Schedules.{start-sphere, moves_are}
+use Rattle.spec_sphere.proofs.PlayingBack.All.{start-stands, start_reaches}
 
 -- ---- the recorded sphere after a move
 
@@ -124,58 +127,6 @@ moves_come z x (m ∷ ms) i p recording buffer s is role fits =
     let a = move_comes z x m i p recording buffer s is role fits.0 in
     let b = moves_come z (do_move z x m) ms i a.sphere a.recording buffer (a.grown.s ∙ s) a.there a.role fits.1 in
     record { sphere = b.sphere; recording = b.recording; there = b.there; role = b.role; grown = grown_trans p a.sphere b.sphere recording.log a.recording.log b.recording.log a.grown b.grown }
-
--- ---- the start
-
-no_commits : (entry k : ℕ) → commits_in (started entry ∷ []) k ≡ 0
-no_commits entry zero = refl
-no_commits entry (suc k) = refl
-
-start_order : (mode : ModeName) (entry : ℕ) → OrderStands mode [] 0 (started entry ∷ [])
-start_order ModeName.OrderSize entry = (refl, λ k. sym (no_commits entry k))
-start_order ModeName.OrderOnly entry = (refl, λ k. sym (no_commits entry k))
-start_order ModeName.Picolog entry = tt
-
-start_sizes : (mode : ModeName) (entry : ℕ) → SizesStand mode (no_sizes mode) 0 (started entry ∷ [])
-start_sizes ModeName.OrderSize entry = refl
-start_sizes ModeName.OrderOnly entry = λ k i l. refl
-start_sizes ModeName.Picolog entry = λ k i l. refl
-
--- a new log stands by a sphere that starts on the image
-pub start-stands : (s : ℕ) (image : SphereSetup) (role : Role) (version : ℕ) (mode : ModeName) → Stands (live_sphere image role) (new_log version mode s)
-start-stands s image role version mode =
-    record {
-      count = refl;
-      order = start_order mode image.entry;
-      sizes = start_sizes mode image.entry;
-      past = λ k i l. refl;
-      absent = λ k i e. refl;
-      unmasked = λ k t e m. refl;
-      dmas = tt;
-    }
-
-start_none : (L : LogParts) (s : ℕ) (image : SphereSetup) (role : Role) (version : ℕ) (mode : ModeName) → Ahead L (live_sphere image role) (new_log version mode s) → (j : ℕ) (t : Parts) → slice_get (first_threads image) j ≡ Some t → interrupt_at L.interrupts j t.commits ≡ None
-start_none L s image role version mode a zero t e = elim (a.next zero t e) [
-  | inl h ↦ h
-  | inr takes ↦ absurd (true≢false (sym takes ∙ ap takes_interrupt (let g : started image.entry ≡ t = cc in sym g)))
-]
-start_none L s image role version mode a (suc j) t e = absurd (none-some t e)
-
--- a play reaches the start
-pub start_reaches : (L : LogParts) (s : ℕ) (image : SphereSetup) (role : Role) (version : ℕ) (mode : ModeName) → Ahead L (live_sphere image role) (new_log version mode s) → Reaches L (first_played image (all_of L)) (live_sphere image role) (new_log version mode s)
-start_reaches L s image role version mode a =
-    record {
-      memory = refl;
-      size = refl;
-      threads = λ j t e. e ∙ ap Some (sym (early_same None (interrupt_at L.interrupts j t.commits) t (start_none L s image role version mode a j t e)));
-      progress = refl;
-      inputs = refl;
-      dmas = refl;
-      interrupts = (let h = sum-zero (pending L.interrupts []) 0 (first_threads image) (λ j t e.
-          let k : 0 + j ≡ j = omega arith in
-          ap (λ (n : ℕ). pending L.interrupts [] n t) k ∙ pending_same None (interrupt_at L.interrupts j t.commits) (start_none L s image role version mode a j t e)) in omega arith);
-      now = refl;
-    }
 
 -- ---- the end
 

@@ -3,10 +3,10 @@ use Rattle.std.proofs.Common.{◌≡◌, ℕ, ◌<◌, false, List, length, Some
 use Rattle.std.specs.Prelude.{slice_get}
 use Rattle.std.proofs.lemmas.Option.{get_or_from_slice_get, slice_get_within, same_Some}
 use Rattle.spec_protocol.specs.declared.event.Event.{Event}
-use Rattle.spec_protocol.specs.machine.Spheres.{Recording, Role, Record, Sphere, no_sphere}
-use Rattle.spec_protocol.specs.machine.Placing.{replays}
+use Rattle.spec_sphere.specs.sphere.Spheres.{Recording, Role, Record, Sphere, no_sphere, replays}
 use Rattle.spec_protocol.specs.machine.World.{Numbers, World, sphere_at}
-use Rattle.spec_protocol.specs.machine.Machine.{new_recording, RecordSetup, RoleSetup, SphereSetup, Setup, live_sphere, sphere_as, world_of, moves}
+use Rattle.spec_sphere.specs.sphere.Setups.{new_recording, RecordSetup, RoleSetup, SphereSetup, live_sphere, sphere_as}
+use Rattle.spec_protocol.specs.machine.Machine.{Setup, world_of, moves}
 use Rattle.spec_protocol.specs.machine.Serial.{SerialState, serial_start, serial}
 use Rattle.spec_protocol.specs.machine.Shown.{shown, shown_of}
 use Rattle.spec_protocol.specs.machine.Logged.{sphere_in}
@@ -14,9 +14,10 @@ use Rattle.spec_protocol.specs.promises.Promises.{WillRecord, after}
 use Rattle.spec_protocol.specs.promises.LogsOfPoints.{log_of_points}
 use Rattle.spec_protocol.proofs.Invariants.Preserved.{shown-get}
 use Rattle.spec_protocol.proofs.Invariants.Schedules.{start-sphere, moves_are, sizes_kept}
-use Rattle.spec_protocol.proofs.Logs.Growing.{Stands}
-use Rattle.spec_protocol.proofs.PlayingBack.All.{moves_come, start-stands}
-use Rattle.spec_protocol.proofs.Points.KeptLogs.{keeping}
+use Rattle.spec_sphere.specs.promises.Standing.{Stands}
+use Rattle.spec_protocol.proofs.PlayingBack.All.{moves_come}
+use Rattle.spec_sphere.proofs.PlayingBack.All.{start-stands}
+use Rattle.spec_sphere.proofs.Points.KeptLogs.{keeping}
 use Rattle.spec_protocol.proofs.Points.Logs.{how_kept, log_kept}
 use Rattle.spec_protocol.proofs.Points.Serial.{commits_are}
 

@@ -20,14 +20,16 @@ use Rattle.spec_kernel.specs.Copies.{dma_words}
 use Rattle.spec_kernel.specs.Answers.{taken, dma_bytes, dma_taken}
 use Rattle.spec_kernel.specs.Serving.{serve}
 use Rattle.spec_play.specs.Effects.{chunk_commit, serial_effect, dma_commit}
-use Rattle.spec_protocol.specs.machine.Spheres.{Role, Plain, Record, Replay, Sphere, no_sphere}
-use Rattle.spec_protocol.specs.machine.Commits.{MovedSphere, dma_as, chunk_in, chunk_moved, serial_in, serial_moved, live_dma, dma_log, dma_in, dma_moved, raised}
-use Rattle.spec_protocol.specs.machine.Serial.{SerialState, serial_start, laid, do_moved, do_chunk, do_serial, do_dma, do_raise, do_kind, in_live, do_commit, do_interrupt, do_point, do_points}
+use Rattle.spec_sphere.specs.sphere.Spheres.{Role, Plain, Record, Replay, Sphere, no_sphere}
+use Rattle.spec_sphere.specs.sphere.Commits.{MovedSphere, dma_as, chunk_in, chunk_moved, serial_in, serial_moved, live_dma, dma_log, dma_in, dma_moved, raised}
+use Rattle.spec_protocol.specs.machine.Serial.{SerialState, serial_start, do_moved, do_chunk, do_serial, do_dma, do_raise, do_kind, in_live, do_commit, do_interrupt, do_point, do_points}
+use Rattle.spec_sphere.specs.sphere.Commits.{laid}
 use Rattle.spec_protocol.specs.machine.Logged.{sphere_in}
 use Rattle.spec_protocol.specs.promises.Promises.{after}
-use Rattle.spec_protocol.specs.promises.ConsoleBytes.{on_console, put_out, place_of, new_commits, console_of, ConsoleIsPutOut}
-use Rattle.spec_protocol.proofs.Moves.Granted.{get-set_same}
-use Rattle.spec_protocol.proofs.Points.Outputs.{serve-tells}
+use Rattle.spec_sphere.specs.promises.ConsoleBytes.{on_console, put_out}
+use Rattle.spec_protocol.specs.promises.ConsoleBytes.{place_of, new_commits, console_of, ConsoleIsPutOut}
+use Rattle.spec_strata.proofs.Shares.Steps.{get-set_same}
+use Rattle.spec_sphere.proofs.Points.Outputs.{serve-tells}
 use Rattle.spec_protocol.proofs.Points.Serial.{commits_are}
 
 -- ---- what a point puts out

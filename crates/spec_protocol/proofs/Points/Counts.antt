@@ -8,7 +8,8 @@ use Rattle.spec_engine.specs.Signatures.{Signature}
 use Rattle.spec_engine.specs.Flights.{Flight, at, drain, retire}
 use Rattle.spec_engine.specs.Chunks.{step, cut}
 use Rattle.spec_protocol.specs.declared.event.Event.{Event}
-use Rattle.spec_protocol.specs.machine.Commits.{CommitOutcome, Granted, Piece, Diverged, MovedSphere, is_piece, chunk_moved, serial_moved}
+use Rattle.spec_sphere.specs.sphere.Commits.{CommitOutcome, Granted, Piece, Diverged, MovedSphere, chunk_moved, serial_moved}
+use Rattle.spec_engine.specs.Closing.{is_piece}
 use Rattle.spec_protocol.specs.machine.World.{Occupant, World, EventOutcome, moment, sphere_at, with_sphere, with_slot, core_of}
 use Rattle.spec_protocol.specs.machine.Stepping.{reply_of_step, reply_of_cut}
 use Rattle.spec_protocol.specs.machine.Asking.{CommitRequest, chunk_request, granted, grant_chunk, grant_serial, serial_request}

@@ -9,24 +9,24 @@ use Rattle.spec_log.specs.declared.LogParts.{LogParts}
 use Rattle.spec_play.specs.Verdicts.{interrupt_at}
 use Rattle.spec_play.specs.Recording.{new_log}
 use Rattle.spec_play.specs.Epochs.{Epochs}
-use Rattle.spec_protocol.specs.machine.Spheres.{Recording, Record, Sphere}
-use Rattle.spec_protocol.specs.machine.Placing.{replays}
+use Rattle.spec_sphere.specs.sphere.Spheres.{Recording, Record, Sphere, replays}
 use Rattle.spec_protocol.specs.machine.World.{World, sphere_at}
 use Rattle.spec_protocol.specs.declared.event.Event.{Event}
-use Rattle.spec_protocol.specs.machine.Machine.{RecordSetup, RoleSetup, IsRecorded, new_epochs, new_recording, SphereSetup, Setup, live_sphere, sphere_as, sphere_of}
+use Rattle.spec_sphere.specs.sphere.Setups.{RecordSetup, RoleSetup, IsRecorded, new_epochs, new_recording, SphereSetup, live_sphere, sphere_as, sphere_of}
+use Rattle.spec_protocol.specs.machine.Machine.{Setup}
 use Rattle.spec_protocol.specs.machine.Serial.{serial_start, do_points}
 use Rattle.spec_protocol.specs.machine.Shown.{shown, shown_of}
-use Rattle.spec_protocol.specs.machine.Logged.{supplied, logged}
+use Rattle.spec_protocol.specs.machine.Logged.{supplied}
+use Rattle.spec_sphere.specs.sphere.Logged.{logged}
 use Rattle.spec_protocol.specs.promises.Promises.{IsSetup, after}
 use Rattle.spec_protocol.specs.promises.LogsOfPoints.{LogsAreOfPoints}
 use Rattle.spec_protocol.specs.promises.Logs.{LogsAreFresh}
-use Rattle.spec_protocol.specs.promises.Sound.{AreFresh}
+use Rattle.spec_sphere.specs.promises.Sound.{AreFresh, commits_in}
 use Rattle.spec_protocol.proofs.Invariants.Preserved.{shown-get}
-use Rattle.spec_protocol.proofs.Logs.Growing.{commits_in}
-use Rattle.spec_protocol.proofs.Logs.Fresh.{fresh-none}
+use Rattle.spec_sphere.proofs.Logs.Fresh.{fresh-none}
 use Rattle.spec_protocol.proofs.Invariants.Schedules.{sizes_kept}
 use Rattle.spec_protocol.proofs.Points.Serial.{serial-after}
-use Rattle.spec_protocol.proofs.Points.KeptLogs.{Keeping, whole_log, log_by, new-least, keeping, Keeps, keeps-by-points}
+use Rattle.spec_sphere.proofs.Points.KeptLogs.{Keeping, whole_log, log_by, new-least, keeping, Keeps, keeps-by-points}
 use Rattle.spec_protocol.proofs.Points.OneByOne.{HoldsIn, points-kept}
 
 -- ---- the start

@@ -12,37 +12,18 @@ use Rattle.spec_isa.specs.declared.thread.Parts.{Parts}
 use Rattle.spec_isa.specs.Runs.{run}
 use Rattle.spec_kernel.specs.Needs.{need}
 use Rattle.spec_kernel.specs.Answers.{taken, dma_bytes}
-use Rattle.spec_kernel.specs.Devices.{Devices}
-use Rattle.spec_kernel.specs.Interrupts.{takes_interrupt}
-use Rattle.spec_protocol.specs.machine.Spheres.{Recording, Role, Plain, Record, Replay, Sphere, no_sphere}
-use Rattle.spec_protocol.specs.machine.Commits.{MovedSphere, chunk_in, chunk_moved, serial_in, serial_moved, live_dma, dma_log, dma_in, dma_moved, raised}
-use Rattle.spec_protocol.specs.machine.Serial.{SerialState, laid, do_moved, do_chunk, do_serial, do_dma, do_raise, do_kind, in_live, do_commit, do_interrupt, do_point, do_points, CanChunk, CanSerial, CanTake, CanKind, InLive, CanCommit, CanInterrupt, CanDo, CanDoAll}
-use Rattle.spec_protocol.specs.machine.Logged.{Supplied, answer_to, bytes_for, sphere_in, input_at, bytes_at, is_of, supplied}
-use Rattle.spec_protocol.proofs.Moves.Granted.{get-set_other, get-set_same}
+use Rattle.spec_sphere.specs.sphere.Spheres.{Recording, Role, Plain, Record, Replay, Sphere, no_sphere}
+use Rattle.spec_sphere.specs.sphere.Commits.{MovedSphere, chunk_in, chunk_moved, serial_in, serial_moved, live_dma, dma_log, dma_in, dma_moved, raised, laid}
+use Rattle.spec_protocol.specs.machine.Serial.{SerialState, do_moved, do_chunk, do_serial, do_dma, do_raise, do_kind, in_live, do_commit, do_interrupt, do_point, do_points, CanChunk, CanSerial, CanTake, CanKind, InLive, CanCommit, CanInterrupt, CanDo, CanDoAll}
+use Rattle.spec_sphere.specs.sphere.Logged.{Supplied, answer_to, bytes_for, is_of}
+use Rattle.spec_protocol.specs.machine.Logged.{sphere_in, input_at, bytes_at, supplied}
+use Rattle.spec_strata.proofs.Shares.Steps.{get-set_other, get-set_same}
 use Rattle.spec_protocol.proofs.Moves.Elsewhere.{serial-away, dma-away, raise-away}
 use Rattle.spec_protocol.proofs.Invariants.Preserved.{sphere_of_point}
-use Rattle.spec_protocol.proofs.PlayingBack.Moves.{recorded_serial, recorded_dma}
+use Rattle.spec_sphere.proofs.PlayingBack.Moves.{recorded_serial, recorded_dma}
+use Rattle.spec_sphere.proofs.Points.Kept.{IsKeptByPoints}
 
 -- ---- what points keep
-
--- what holds of a recorded sphere and of its points so far, with what came from outside, is kept by each point more
-pub record IsKeptByPoints (K : List Supplied → Sphere → Type 0) : Type 0 where
-  pub role : (cs : List Supplied) (p : Sphere) → K cs p → (r : Recording) × (p.role ≡ Record r)
-  pub chunk : (cs : List Supplied) (moment i k size : ℕ) (short : Bool) (p : Sphere) (t : Parts) (devices : Devices) (r : Recording)
-      → K cs p → p.role ≡ Record r → slice_get p.threads k ≡ Some t → (run p.memory t size).n ≡ size
-      → K (cs ++ record { point = Point.Commit moment i (Actor.Thread k) CommitKind.Chunk size short; input = None; bytes = [] } ∷ [])
-      (laid (chunk_in (Record r) k false short (run p.memory t size) devices p))
-  pub serial : (cs : List Supplied) (moment i k size : ℕ) (short : Bool) (p : Sphere) (t : Parts) (devices : Devices) (r : Recording)
-      → K cs p → p.role ≡ Record r → slice_get p.threads k ≡ Some t → size ≡ 0
-      → K (cs ++ record { point = Point.Commit moment i (Actor.Thread k) CommitKind.Serial size short; input = (taken (need t p.memory) devices moment).input; bytes = [] } ∷ [])
-      (laid (recorded_serial r p k moment t devices))
-  pub dma : (cs : List Supplied) (moment i : ℕ) (short : Bool) (p : Sphere) (request : Request) (devices : Devices) (r : Recording)
-      → K cs p → p.role ≡ Record r
-      → K (cs ++ record { point = Point.Commit moment i Actor.Dma CommitKind.Dma 0 short; input = None; bytes = dma_bytes devices request } ∷ [])
-      (laid (recorded_dma r p devices request))
-  pub raise : (cs : List Supplied) (moment i k value : ℕ) (p : Sphere) (t : Parts) (r : Recording)
-      → K cs p → p.role ≡ Record r → slice_get p.threads k ≡ Some t → takes_interrupt t ≡ true
-      → K (cs ++ record { point = Point.Raise moment i k value; input = None; bytes = [] } ∷ []) (raised k value t p)
 
 -- it holds of sphere i
 pub record HoldsIn (K : List Supplied → Sphere → Type 0) (i : ℕ) (cs : List Supplied) (x : SerialState) : Type 0 where

@@ -16,18 +16,19 @@ use Rattle.spec_play.specs.Verdicts.{LogVerdict, Goes, Fails, chunk_verdict, ser
 use Rattle.spec_play.specs.Transfers.{DmaVerdict, DmaGoes, DmaFails, dma_verdict}
 use Rattle.spec_engine.specs.declared.answers.How.{How}
 use Rattle.spec_protocol.specs.declared.event.Event.{Event}
-use Rattle.spec_protocol.specs.machine.Spheres.{Cursor, Role, Plain, Record, Replay, Sphere, is_in_pieces}
-use Rattle.spec_protocol.specs.machine.Placing.{replays}
-use Rattle.spec_protocol.specs.machine.Commits.{MovedSphere, is_piece, joined, by_verdict, replayed_chunk, chunk_in, chunk_moved, serial_in, serial_moved, live_dma, dma_by_verdict, dma_in, dma_moved, dma_as, dma_log, role_raised, raised}
-use Rattle.spec_protocol.specs.machine.Asking.{is_short}
+use Rattle.spec_sphere.specs.sphere.Spheres.{Cursor, Role, Plain, Record, Replay, Sphere, is_in_pieces, replays}
+use Rattle.spec_sphere.specs.sphere.Commits.{MovedSphere, joined, by_verdict, replayed_chunk, chunk_in, chunk_moved, serial_in, serial_moved, live_dma, dma_by_verdict, dma_in, dma_moved, dma_as, dma_log, role_raised, raised}
+use Rattle.spec_engine.specs.Closing.{is_piece, is_short}
+use Rattle.spec_sphere.specs.sphere.Commits.{laid}
 use Rattle.spec_protocol.specs.machine.World.{Numbers, World, MoveKind, OfChunk, OfSerial, OfDma, OfRaise, Move, sphere_at}
 use Rattle.spec_protocol.specs.machine.Machine.{Setup, world_of, with_point, act, happens, world_after}
-use Rattle.spec_protocol.specs.machine.Serial.{SerialState, serial_start, laid, do_moved, do_chunk, do_serial, do_dma, do_raise, in_live, do_commit, do_interrupt, do_point, do_points, CanChunk, CanSerial, CanTake, InLive, CanCommit, CanInterrupt, CanDo, CanDoAll}
+use Rattle.spec_protocol.specs.machine.Serial.{SerialState, serial_start, do_moved, do_chunk, do_serial, do_dma, do_raise, in_live, do_commit, do_interrupt, do_point, do_points, CanChunk, CanSerial, CanTake, InLive, CanCommit, CanInterrupt, CanDo, CanDoAll}
 use Rattle.spec_protocol.specs.machine.Shown.{shown, shown_from, shown_of}
 use Rattle.spec_engine.specs.Flights.{Flight}
-use Rattle.spec_protocol.specs.machine.Moves.{move_chunk, do_by_kind, do_at, do_move, do_if, ChunkFits, FitsChunk, FitsSerial, FitsRaise, FitsWhat, FitsAt, FitsIf}
+use Rattle.spec_protocol.specs.machine.Moves.{move_chunk, do_by_kind, do_at, do_move, do_if, ChunkFits, FitsChunk, FitsSerial, FitsWhat, FitsAt, FitsIf}
+use Rattle.spec_sphere.specs.sphere.Moves.{FitsRaise}
 use Rattle.spec_protocol.specs.promises.Promises.{IsSetup, after, CommitsAreSerial}
-use Rattle.spec_protocol.proofs.Moves.Granted.{get-set_other, get-set_same}
+use Rattle.spec_strata.proofs.Shares.Steps.{get-set_other, get-set_same}
 use Rattle.spec_protocol.proofs.Invariants.Preserved.{point_for, sphere_of_point, IsOf, PointOf, PointIs, shown-get}
 use Rattle.spec_protocol.proofs.Points.Counts.{act-untold}
 use Rattle.spec_protocol.proofs.Invariants.Schedules.{happens-preserved, start-good, start-shown}

@@ -6,19 +6,19 @@ use Rattle.spec_isa.specs.declared.thread.Parts.{Parts}
 use Rattle.spec_isa.specs.Runs.{Run, run}
 use Rattle.spec_kernel.specs.Devices.{Devices}
 use Rattle.spec_engine.specs.declared.answers.How.{How}
-use Rattle.spec_protocol.specs.machine.Spheres.{turn_in, turn_against, Cursor, Role, Replay, Sphere, is_stopped}
-use Rattle.spec_protocol.specs.machine.Placing.{replays}
-use Rattle.spec_protocol.specs.machine.Commits.{MovedSphere, is_piece, chunk_in, chunk_moved}
+use Rattle.spec_sphere.specs.sphere.Spheres.{turn_in, turn_against, Cursor, Role, Replay, Sphere, is_stopped}
+use Rattle.spec_sphere.specs.sphere.Spheres.{replays}
+use Rattle.spec_sphere.specs.sphere.Commits.{MovedSphere, chunk_in, chunk_moved, laid}
+use Rattle.spec_engine.specs.Closing.{is_piece, is_short}
 use Rattle.spec_protocol.specs.machine.World.{Numbers, World, OfChunk, Move, sphere_at}
-use Rattle.spec_protocol.specs.machine.Asking.{is_short}
 use Rattle.spec_protocol.specs.machine.Machine.{happens}
-use Rattle.spec_protocol.specs.machine.Serial.{SerialState, laid}
+use Rattle.spec_protocol.specs.machine.Serial.{SerialState}
 use Rattle.spec_protocol.specs.machine.Shown.{shown, shown_of}
 use Rattle.spec_protocol.specs.machine.Moves.{move_chunk, do_by_kind, do_at, do_move, do_if, FitsChunk, FitsWhat, FitsAt, Fits, FitsIf}
 use Rattle.spec_protocol.specs.promises.Promises.{after}
 use Rattle.spec_protocol.specs.promises.Pieces.{CountsNothing, PiecesCountNothing}
-use Rattle.spec_protocol.proofs.Moves.Joining.{MayGo, may_go, turn_in_order}
-use Rattle.spec_protocol.proofs.Moves.Granted.{get-set_same}
+use Rattle.spec_sphere.proofs.Moves.Joining.{MayGo, may_go, turn_in_order}
+use Rattle.spec_strata.proofs.Shares.Steps.{get-set_same}
 use Rattle.spec_protocol.proofs.Invariants.Preserved.{shown-get}
 use Rattle.spec_protocol.proofs.Invariants.Schedules.{happens-preserved, invariants_hold}
 use Rattle.spec_protocol.proofs.Replays.Pieces.{there-is}

@@ -13,21 +13,23 @@ use Rattle.spec_play.specs.Turns.{TurnOrEnd, Turn, TurnOfDma, Ended}
 use Rattle.spec_play.specs.Verdicts.{LogVerdict, Goes, Fails, chunk_verdict, serial_verdict}
 use Rattle.spec_play.specs.Transfers.{DmaVerdict, DmaGoes, DmaFails, dma_verdict}
 use Rattle.spec_engine.specs.declared.answers.How.{How}
-use Rattle.spec_protocol.specs.machine.Spheres.{other_than, turn_in, turn_against, Cursor, Role, Plain, Record, Replay, Sphere, is_over, is_stopped, actor_of, is_in_pieces, no_sphere}
-use Rattle.spec_protocol.specs.machine.Commits.{MovedSphere, is_piece, joined, by_verdict, replayed_chunk, chunk_in, chunk_moved, serial_in, serial_moved, live_dma, dma_by_verdict, dma_log, dma_in, dma_moved, role_raised, raised}
+use Rattle.spec_sphere.specs.sphere.Spheres.{other_than, turn_in, turn_against, Cursor, Role, Plain, Record, Replay, Sphere, is_over, is_stopped, actor_of, is_in_pieces, no_sphere, replays}
+use Rattle.spec_sphere.specs.sphere.Commits.{MovedSphere, joined, by_verdict, replayed_chunk, chunk_in, chunk_moved, serial_in, serial_moved, live_dma, dma_by_verdict, dma_log, dma_in, dma_moved, role_raised, raised, laid}
+use Rattle.spec_engine.specs.Closing.{is_piece, is_short}
 use Rattle.spec_protocol.specs.machine.World.{Numbers, World, MoveKind, OfChunk, OfSerial, OfDma, OfRaise, Move, sphere_at}
-use Rattle.spec_protocol.specs.machine.Asking.{is_short}
-use Rattle.spec_protocol.specs.machine.Placing.{replays}
-use Rattle.spec_protocol.specs.machine.Machine.{RoleSetup, IsPlain, IsRecorded, IsReplayed, SphereSetup, sphere_as, sphere_of, moves, world_of}
-use Rattle.spec_protocol.specs.machine.Serial.{SerialState, serial_start, laid, do_serial, do_dma, do_raise}
+use Rattle.spec_sphere.specs.sphere.Setups.{RoleSetup, IsPlain, IsRecorded, IsReplayed, SphereSetup, sphere_as, sphere_of}
+use Rattle.spec_protocol.specs.machine.Machine.{moves, world_of}
+use Rattle.spec_protocol.specs.machine.Serial.{SerialState, serial_start, do_serial, do_dma, do_raise}
 use Rattle.spec_protocol.specs.machine.Shown.{shown, shown_of}
-use Rattle.spec_protocol.specs.machine.Moves.{move_chunk, do_by_kind, do_at, do_move, do_moves, FitsChunk, FitsSerial, FitsRaise, FitsWhat, FitsAt, Fits, FitsIf, FitAll}
+use Rattle.spec_protocol.specs.machine.Moves.{move_chunk, do_by_kind, do_at, do_move, do_moves, FitsChunk, FitsSerial, FitsWhat, FitsAt, Fits, FitsIf, FitAll}
+use Rattle.spec_sphere.specs.sphere.Moves.{FitsRaise}
 use Rattle.spec_protocol.specs.promises.Promises.{after}
 use Rattle.spec_protocol.specs.promises.Pieces.{IsChunkOf, PiecesStayTogether, StoppedSpheresStay}
-use Rattle.spec_protocol.proofs.Moves.Joining.{may_go, joins-whole}
-use Rattle.spec_protocol.proofs.Moves.Granted.{get-set_other, get-set_same}
+use Rattle.spec_sphere.proofs.Moves.Joining.{may_go, joins-whole}
+use Rattle.spec_strata.proofs.Shares.Steps.{get-set_other, get-set_same}
 use Rattle.spec_protocol.proofs.Invariants.Preserved.{shown-get}
 use Rattle.spec_protocol.proofs.Invariants.Schedules.{happens-preserved, moves_are, invariants_hold}
+use Rattle.spec_sphere.proofs.Replays.Turns.{no_raise}
 
 -- ---- whose turn it is
 
@@ -175,11 +177,6 @@ own_chunk z p b k j how n limit (Some t) role turn some fits =
 no_serial : (p : Sphere) (b : Cursor) (k : ℕ) (o : Option Parts) → p.role ≡ Replay b → 0 < b.total → FitsSerial p k o → ⊥
 no_serial p b k None role some fits = fits
 no_serial p b k (Some t) role some fits = true≢false (sym (some_total b p.role role some) ∙ fits.whole)
-
--- no interrupt can be raised in a replay
-pub no_raise : (p : Sphere) (b : Cursor) (o : Option Parts) → p.role ≡ Replay b → FitsRaise p o → ⊥
-no_raise p b None role fits = fits
-no_raise p b (Some t) role fits = true≢false (sym (ap replays role) ∙ fits.live)
 
 only_chunks : (z : Numbers) (devices : Devices) (p : Sphere) (b : Cursor) (k : ℕ) (what : MoveKind) → p.role ≡ Replay b → b.now ≡ Turn k → 0 < b.total → FitsWhat z devices p what → IsChunkOf k what
 unfolding turn_against

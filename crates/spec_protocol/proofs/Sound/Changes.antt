@@ -18,19 +18,21 @@ use Rattle.spec_engine.specs.Signatures.{Signature, nothing, signed}
 use Rattle.spec_engine.specs.Flights.{Flight, at, free_slot, fill_at, meets_chunk, told_at, drain_words, tell, Delivered, deliver, is_done, Retired, retire}
 use Rattle.spec_engine.specs.Chunks.{fresh, step, cut, squash, Chunk}
 use Rattle.spec_protocol.specs.declared.event.Event.{Event}
-use Rattle.spec_protocol.specs.machine.Spheres.{turn_against, Sphere, no_sphere, is_stopped, limit_of, halves}
-use Rattle.spec_protocol.specs.machine.Commits.{CommitOutcome, Granted, Piece, Diverged, MovedSphere, is_piece, chunk_moved, serial_moved, raised}
+use Rattle.spec_sphere.specs.sphere.Spheres.{turn_against, Sphere, no_sphere, is_stopped, limit_of, halves}
+use Rattle.spec_sphere.specs.sphere.Commits.{CommitOutcome, Granted, Piece, Diverged, MovedSphere, chunk_moved, serial_moved, raised}
+use Rattle.spec_engine.specs.Closing.{is_piece, is_short}
 use Rattle.spec_protocol.specs.machine.World.{Numbers, Occupant, World, EventOutcome, moment, sphere_at, with_sphere, with_memory, with_core, with_slot, thread_afresh, held_afresh, core_of, flown, answered}
 use Rattle.spec_protocol.specs.machine.Stepping.{stepped, cut_to, stepped_younger, younger_for, cut_younger}
 use Rattle.spec_protocol.specs.machine.Flying.{reply_of_drain, reads_of, writes_of, squashed, told, delivering, retiring, younger_of, hits_younger, squashed_younger}
-use Rattle.spec_protocol.specs.machine.Asking.{CommitRequest, goes_on_with, granted, is_short, chunk_request, grant_chunk, serial_request, grant_serial, was_interrupted, promoted}
+use Rattle.spec_protocol.specs.machine.Asking.{CommitRequest, goes_on_with, granted, chunk_request, grant_chunk, serial_request, grant_serial, was_interrupted, promoted}
 use Rattle.spec_protocol.specs.machine.Transferring.{dma_done}
 use Rattle.spec_protocol.specs.machine.Placing.{with_renewed, raise_in}
 use Rattle.spec_protocol.specs.machine.Machine.{act}
 use Rattle.spec_protocol.specs.promises.Invariants.{IsGood}
 use Rattle.spec_protocol.proofs.Invariants.Preserved.{sphere-same, sphere-other}
 use Rattle.spec_protocol.proofs.Moves.AnyEvent.{MayAsk, any-event}
-use Rattle.spec_protocol.proofs.Invariants.Cores.{set-cases, branch}
+use Rattle.spec_protocol.proofs.Invariants.Cores.{set-cases}
+use Rattle.spec_play.proofs.Threads.{branch}
 use Rattle.spec_protocol.proofs.Invariants.Held.{open-alone, younger-good}
 pub use Rattle.spec_protocol.proofs.Moves.AnyEvent.{Raises, Transfers}
 

@@ -2,13 +2,10 @@
 use Rattle.std.proofs.Common.{◌≡◌, ℕ, suc, ◌/◌, ◌<◌, ◌≤◌, Bool, true, false, eqb, cond, List, length, Option, Some, None, refl, sym, ap, ◌∙◌, arith}
 use Rattle.std.specs.Prelude.{nat_lt, ◌&&◌, ◌||◌}
 use Rattle.std.proofs.lemmas.Bool.{true≢false, ltb-true}
-use Rattle.std.proofs.lemmas.Option.{none-some}
 use Rattle.dl_entry.specs.Numbers.{most_chunk}
 use Rattle.spec_isa.specs.declared.thread.Parts.{Parts}
-use Rattle.spec_isa.specs.declared.thread.Kind.{Kind}
 use Rattle.spec_isa.specs.Words.{Stored, lays, read, put, holds, is_inside}
-use Rattle.spec_isa.specs.Instruction.{operation_of, serial_of, loads_of, next_of, load_of, store_of}
-use Rattle.spec_isa.specs.Operations.{refuses}
+use Rattle.spec_isa.specs.Instruction.{serial_of, loads_of, next_of, load_of, store_of}
 use Rattle.spec_isa.specs.Runs.{with_store}
 use Rattle.spec_isa.specs.Threads.{IsThread}
 use Rattle.spec_isa.proofs.MemoryLaws.{length_lays}
@@ -20,34 +17,13 @@ use Rattle.spec_engine.specs.Flights.{Flight, first_slot, bounces}
 use Rattle.spec_engine.specs.Chunks.{Chunk, Stepping, Cutting, fresh, closes, marked, ran, at_limit, has_room, reading, storing, loading, running, step, cut_open, cut, squash, is_fourth, halved, next_squashes}
 use Rattle.spec_engine.proofs.Choosing.{keep_option, keep_choose}
 use Rattle.spec_protocol.specs.promises.Invariants.{Closes}
-use Rattle.spec_protocol.specs.promises.Sound.{AreSoundWords, IsSoundChunk}
-use Rattle.spec_protocol.proofs.Moves.Threads.{next-kept}
-use Rattle.spec_protocol.proofs.Invariants.Cores.{branch}
-use Rattle.spec_protocol.proofs.Sound.Words.{IsSoundWord, sound-none, sound-put, store-sound, held-length, put-length}
-use Rattle.spec_protocol.proofs.Sound.Threads.{then-thread}
+use Rattle.spec_protocol.specs.promises.Sound.{IsSoundChunk}
+use Rattle.spec_sphere.proofs.Moves.Threads.{next-kept}
+use Rattle.spec_play.proofs.Threads.{branch}
+use Rattle.spec_sphere.proofs.Sound.Words.{sound-none, held-length, put-length}
+use Rattle.spec_sphere.proofs.Sound.Instructions.{next-thread, next-store, with-words}
 
 -- ---- the next instruction
-
-not-refused : (t : Parts) (f size : ℕ) → serial_of t f size ≡ None → refuses size (operation_of t f) ≡ None
-unfolding serial_of
-not-refused t f size e =
-    branch (λ (o : Option Kind). o ≡ None → refuses size (operation_of t f) ≡ None) (is_inside size t.pc) (refuses size (operation_of t f)) (Some (Kind.Fault 1))
-    (λ _ q. q) (λ _ q. absurd (none-some (Kind.Fault 1) (sym q))) e
-
--- an instruction that is run leaves a thread
-pub next-thread : (t : Parts) (f w size : ℕ) → serial_of t f size ≡ None → IsThread t → IsThread (next_of t f w)
-unfolding next_of
-next-thread t f w size e is = then-thread size (operation_of t f) t w (not-refused t f size e) is
-
--- and stores a sound word, if it stores one
-pub next-store : (t : Parts) (f w size : ℕ) → serial_of t f size ≡ None → (s : Stored) → store_of t f w ≡ Some s → IsSoundWord size s
-unfolding store_of
-next-store t f w size e s is = store-sound size (operation_of t f) t w (not-refused t f size e) s is
-
--- sound words stay so with that word put to them
-pub with-words : (size : ℕ) (ws : List Stored) (o : Option Stored) → ((s : Stored) → o ≡ Some s → IsSoundWord size s) → AreSoundWords size ws → AreSoundWords size (with_store ws o)
-with-words size ws None each all = all
-with-words size ws (Some s) each all = sound-put size ws s all (each s refl)
 
 with-room : (capacity : ℕ) (ws : List Stored) (o : Option Stored) → has_room capacity ws o ≡ true → length ws ≤ capacity → length (with_store ws o) ≤ capacity
 with-room capacity ws None e few = few

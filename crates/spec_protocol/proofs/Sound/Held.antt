@@ -8,15 +8,15 @@ use Rattle.spec_play.specs.Effects.{counted}
 use Rattle.spec_play.specs.Progress.{position}
 use Rattle.spec_engine.specs.Chunks.{Chunk, squash, may_follow}
 use Rattle.dl_entry.specs.Numbers.{most_chunk}
-use Rattle.spec_protocol.specs.machine.Spheres.{Sphere, limit_after, halves}
-use Rattle.spec_protocol.specs.machine.Placing.{replays}
+use Rattle.spec_sphere.specs.sphere.Spheres.{Sphere, limit_after, halves, replays}
 use Rattle.spec_protocol.specs.machine.World.{Occupant}
 use Rattle.spec_protocol.specs.machine.Stepping.{younger_afresh, younger_for}
 use Rattle.spec_protocol.specs.machine.Machine.{Setup}
-use Rattle.spec_protocol.specs.promises.Sound.{image_at, size_of, IsSoundSphere, IsSoundChunk}
-use Rattle.spec_protocol.proofs.Moves.AnyEvent.{branch}
+use Rattle.spec_protocol.specs.promises.Sound.{image_at, size_of, IsSoundChunk}
+use Rattle.spec_sphere.specs.promises.Sound.{IsSoundSphere}
+use Rattle.spec_play.proofs.Threads.{branch}
 use Rattle.spec_protocol.proofs.Sound.Chunks.{squash-sound, fresh-sound}
-use Rattle.spec_protocol.proofs.Sound.Limits.{after-most}
+use Rattle.spec_sphere.proofs.Sound.Limits.{after-most}
 
 -- both chunks that a core holds are sound in their sphere's memory
 pub record IsSoundHeld (s : Setup) (h : Occupant) : Type 0 where

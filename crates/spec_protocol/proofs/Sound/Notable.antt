@@ -6,17 +6,19 @@ use Rattle.std.proofs.lemmas.Option.{none-some, slice_get_within}
 use Rattle.dl_entry.specs.declared.Request.{Request}
 use Rattle.spec_isa.specs.declared.thread.Parts.{Parts}
 use Rattle.spec_engine.specs.declared.answers.How.{How}
-use Rattle.spec_protocol.specs.machine.Spheres.{Role, Plain, Record, Replay, Sphere, no_sphere, is_stopped, limit_of}
-use Rattle.spec_protocol.specs.machine.Asking.{is_short}
-use Rattle.spec_protocol.specs.machine.Placing.{replays}
+use Rattle.spec_sphere.specs.sphere.Spheres.{Role, Plain, Record, Replay, Sphere, no_sphere, is_stopped, limit_of}
+use Rattle.spec_engine.specs.Closing.{is_short}
+use Rattle.spec_sphere.specs.sphere.Spheres.{replays}
 use Rattle.spec_protocol.specs.machine.World.{Occupant, World, moment, sphere_at}
 use Rattle.spec_protocol.specs.machine.Machine.{Setup}
 use Rattle.spec_protocol.specs.promises.Invariants.{Closes, IsGood}
-use Rattle.spec_protocol.specs.promises.Sound.{IsSoundRequest, IsSoundIf, image_at, IsSound}
-use Rattle.spec_protocol.specs.promises.Notable.{IsNotable, FitsLog, IsClosed, NotesFitLogs}
+use Rattle.spec_sphere.specs.promises.Sound.{IsSoundRequest, IsSoundIf}
+use Rattle.spec_protocol.specs.promises.Sound.{image_at, IsSound}
+use Rattle.spec_protocol.specs.promises.Notable.{IsNotable, IsClosed, NotesFitLogs}
+use Rattle.spec_sphere.specs.promises.Notable.{FitsLog}
 use Rattle.spec_protocol.proofs.Sound.Changes.{within-sphere}
 use Rattle.spec_protocol.proofs.Sound.Chunks.{within-limit}
-use Rattle.spec_protocol.proofs.Sound.Devices.{taken-sound, dma-bytes}
+use Rattle.spec_sphere.proofs.Sound.Devices.{taken-sound, dma-bytes}
 
 live-going : (role : Role) → replays role ≡ false → is_stopped role ≡ false
 live-going Plain e = refl

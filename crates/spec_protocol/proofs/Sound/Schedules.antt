@@ -20,31 +20,33 @@ use Rattle.spec_engine.specs.declared.answers.How.{How}
 use Rattle.spec_engine.specs.Flights.{Flight, at}
 use Rattle.spec_engine.specs.Chunks.{Chunk, step, cut}
 use Rattle.spec_protocol.specs.declared.event.Event.{Event}
-use Rattle.spec_protocol.specs.machine.Spheres.{turn_in, turn_against, Cursor, Role, Plain, Record, Replay, Sphere, no_sphere, is_over, is_stopped, whole_limit, pieces_of, limit_of, halves, most_in}
-use Rattle.spec_protocol.specs.machine.Commits.{MovedSphere, is_piece, chunk_moved, serial_moved}
-use Rattle.spec_protocol.specs.machine.Asking.{is_short}
+use Rattle.spec_sphere.specs.sphere.Spheres.{turn_in, turn_against, Cursor, Role, Plain, Record, Replay, Sphere, no_sphere, is_over, is_stopped, whole_limit, pieces_of, limit_of, halves, most_in}
+use Rattle.spec_sphere.specs.sphere.Commits.{MovedSphere, chunk_moved, serial_moved}
+use Rattle.spec_engine.specs.Closing.{is_piece, is_short}
 use Rattle.spec_protocol.specs.machine.World.{Numbers, Occupant, World, EventOutcome, moment, sphere_at}
-use Rattle.spec_protocol.specs.machine.Placing.{replays}
-use Rattle.spec_protocol.specs.machine.Machine.{first_threads, RoleSetup, IsPlain, IsRecorded, IsReplayed, new_recording, SphereSetup, Setup, live_sphere, sphere_as, sphere_of, world_of, act, name_of, with_event, happens, world_after}
+use Rattle.spec_sphere.specs.sphere.Spheres.{replays}
+use Rattle.spec_sphere.specs.sphere.Setups.{first_threads, RoleSetup, IsPlain, IsRecorded, IsReplayed, new_recording, SphereSetup, live_sphere, sphere_as, sphere_of}
+use Rattle.spec_protocol.specs.machine.Machine.{Setup, world_of, act, name_of, with_event, happens, world_after}
 use Rattle.spec_protocol.specs.promises.Invariants.{IsGood}
 use Rattle.spec_protocol.specs.promises.Promises.{IsSetup, AreSizesKept}
-use Rattle.spec_protocol.specs.promises.Sound.{IsRole, IsImage, IsWithinLimits, AreSoundWords, no_image, image_at, size_of, IsSoundCursor, IsSoundRole, IsSoundSphere, IsSoundChunk, IsSound, WorldsAreSound, EventsKeepSound}
+use Rattle.spec_sphere.specs.promises.Sound.{IsRole, IsImage, AreSoundWords, no_image, IsSoundCursor, IsSoundRole, IsSoundSphere}
+use Rattle.spec_protocol.specs.promises.Sound.{IsWithinLimits, image_at, size_of, IsSoundChunk, IsSound, WorldsAreSound, EventsKeepSound}
 use Rattle.spec_protocol.proofs.Invariants.Preserved.{SameSizes}
-use Rattle.spec_protocol.proofs.Moves.Joining.{MayGo, may_go, own_pieces, joins-whole}
-use Rattle.spec_protocol.proofs.Moves.Transfers.{dma-turn_is}
+use Rattle.spec_sphere.proofs.Moves.Joining.{MayGo, may_go, own_pieces, joins-whole}
+use Rattle.spec_sphere.proofs.Moves.Transfers.{dma-turn_is}
 use Rattle.spec_protocol.proofs.Points.Counts.{act-untold}
 use Rattle.spec_protocol.proofs.Invariants.Schedules.{happens-preserved, free_slots, first_held, start-good, sizes_kept}
 use Rattle.spec_protocol.proofs.Sound.Changes.{Properties, Holds, Lands, Asks, Keeps, afresh-property, act-holds}
-use Rattle.spec_protocol.proofs.Sound.Words.{lay-bytes}
-use Rattle.spec_protocol.proofs.Sound.Devices.{start-bytes}
+use Rattle.spec_sphere.proofs.Sound.Words.{lay-bytes}
+use Rattle.spec_sphere.proofs.Sound.Devices.{start-bytes}
 use Rattle.spec_protocol.proofs.Sound.Chunks.{IsSoundIn, step-sound, cut-sound, squash-sound, fresh-sound}
-use Rattle.spec_protocol.proofs.Sound.Limits.{limit-most, version-least, whole-positive}
-use Rattle.spec_protocol.proofs.Logs.Fresh.{fresh-none}
-use Rattle.spec_protocol.proofs.Sound.Commits.{IsSoundMoved}
-use Rattle.spec_protocol.proofs.Replays.Verdicts.{as-role}
-use Rattle.spec_protocol.proofs.Sound.Moves.{chunk-sound, serial-sound}
-use Rattle.spec_protocol.proofs.Sound.Plays.{first-thread, replay-sound}
-use Rattle.spec_protocol.proofs.Sound.Transfers.{dma-moved-sound, raised-sound}
+use Rattle.spec_sphere.proofs.Sound.Limits.{limit-most, version-least, whole-positive}
+use Rattle.spec_sphere.proofs.Logs.Fresh.{fresh-none}
+use Rattle.spec_sphere.proofs.Sound.Commits.{IsSoundMoved}
+use Rattle.spec_sphere.proofs.Replays.Verdicts.{as-role}
+use Rattle.spec_sphere.proofs.Sound.Moves.{chunk-sound, serial-sound}
+use Rattle.spec_sphere.proofs.Sound.Plays.{first-thread, replay-sound}
+use Rattle.spec_sphere.proofs.Sound.Transfers.{dma-moved-sound, raised-sound}
 use Rattle.spec_protocol.proofs.Sound.Held.{IsSoundHeld, older-only, older-alone, with-younger, squashed-sound, younger-sound}
 
 -- ---- the properties

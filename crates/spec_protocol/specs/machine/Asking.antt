@@ -1,5 +1,5 @@
 -- The event Ask: a closed chunk is to be committed, or a serial step to be done.
-use Rattle.std.specs.Prelude.{ℕ, ◌^◌, Bool, true, false, not, ◌&&◌, nat_lt, slice_get, Option, Some, None, if◌then◌else◌}
+use Rattle.std.specs.Prelude.{ℕ, ◌^◌, Bool, true, false, not, ◌&&◌, slice_get, Option, Some, None, if◌then◌else◌}
 use Rattle.dl_entry.specs.declared.Actor.{Actor}
 use Rattle.dl_entry.specs.declared.CommitKind.{CommitKind}
 use Rattle.dl_entry.specs.declared.Point.{Point}
@@ -13,10 +13,10 @@ use Rattle.spec_engine.specs.Flights.{at, is_full}
 use Rattle.spec_engine.specs.Chunks.{Chunk, is_empty_serial}
 use Rattle.spec_engine.specs.Asking.{ask, ask_serial}
 use Rattle.spec_protocol.specs.declared.reply.Reply.{Reply}
-use Rattle.spec_protocol.specs.machine.Spheres.{turn_against, Role, Sphere, is_stopped, is_in_pieces}
-use Rattle.spec_protocol.specs.machine.Commits.{CommitOutcome, Granted, Piece, Diverged, MovedSphere, is_piece, chunk_moved, serial_moved}
-use Rattle.spec_protocol.specs.machine.World.{Numbers, World, Occupant, moment, sphere_at, with_sphere, with_core, thread_afresh, flown, MoveKind}
-use Rattle.spec_protocol.specs.machine.World.{OfChunk, OfSerial, Move, EventOutcome, answered}
+use Rattle.spec_sphere.specs.sphere.Spheres.{turn_against, Role, Sphere, is_stopped, is_in_pieces}
+use Rattle.spec_sphere.specs.sphere.Commits.{CommitOutcome, Granted, Piece, Diverged, MovedSphere, chunk_moved, serial_moved}
+use Rattle.spec_engine.specs.Closing.{is_piece, is_short}
+use Rattle.spec_protocol.specs.machine.World.{Numbers, World, Occupant, moment, sphere_at, with_sphere, with_core, thread_afresh, flown, MoveKind, OfChunk, OfSerial, Move, EventOutcome, answered}
 
 -- ---- a granted request
 
@@ -88,13 +88,6 @@ granted w c q writes v (Diverged i why) =
     }
 
 -- ---- a chunk
-
--- closed for lack of room or by Cut, or by a limit below the standard size
-abbrev pub is_short : (s : ℕ) → How → (limit : ℕ) → Bool
-is_short s How.Limit limit = nat_lt limit s
-is_short s How.Serial limit = false
-is_short s How.Overflow limit = true
-is_short s How.Cut limit = true
 
 abbrev pub chunk_request : World → Occupant → How → CommitRequest
 chunk_request w h how =

@@ -6,7 +6,7 @@ use Rattle.spec_isa.specs.Words.{Stored}
 use Rattle.spec_engine.specs.Flights.{Flight, at, first_slot, told_at}
 use Rattle.spec_engine.specs.Chunks.{is_open}
 use Rattle.spec_protocol.specs.declared.event.Event.{Event}
-use Rattle.spec_protocol.specs.machine.Spheres.{Role, Plain, Record, Replay, Sphere, actor_of}
+use Rattle.spec_sphere.specs.sphere.Spheres.{Role, Plain, Record, Replay, Sphere, actor_of}
 use Rattle.spec_protocol.specs.machine.World.{World, Occupant, core_of}
 use Rattle.spec_protocol.specs.machine.Machine.{Setup, world_of, happens, world_after}
 

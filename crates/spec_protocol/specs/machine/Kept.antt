@@ -1,32 +1,16 @@
 -- What a sphere keeps that is recorded in epochs, told by the points: the state in which each kept epoch begins, and the log
 -- since the earliest.
-use Rattle.std.specs.Prelude.{ℕ, zero, suc, ◌+◌, Bool, false, nat_eq, List, [], ◌∷◌, length, if◌then◌else◌}
+use Rattle.std.specs.Prelude.{ℕ, zero, suc, ◌+◌, List, [], ◌∷◌, length}
 use Rattle.dl_entry.specs.declared.Point.{Point}
 use Rattle.spec_log.specs.declared.LogParts.{LogParts}
 use Rattle.spec_play.specs.Epochs.{Epoch}
-use Rattle.spec_protocol.specs.machine.Machine.{RecordSetup, Setup}
+use Rattle.spec_sphere.specs.sphere.Setups.{RecordSetup}
+use Rattle.spec_protocol.specs.machine.Machine.{Setup}
 use Rattle.spec_protocol.specs.machine.Serial.{SerialState, serial_start, do_points}
-use Rattle.spec_protocol.specs.machine.Logged.{Supplied, sphere_in, supplied, inputs_of, logged_since}
-use Rattle.spec_protocol.specs.machine.Epochs.{state_in}
-
--- ---- a number of commits
-
-abbrev pub is_commit_of : (i : ℕ) → Point → Bool
-is_commit_of i (Point.Commit moment j actor kind size short) = nat_eq j i
-is_commit_of i (Point.Raise moment j k value) = false
-
--- the points up to the n-th commit of sphere i, and no further
-abbrev pub points_until : (i n : ℕ) → List Point → List Point
-points_until i zero ps = []
-points_until i (suc n) [] = []
-points_until i (suc n) (p ∷ ps) =
-    if is_commit_of i p then p ∷ points_until i n ps else p ∷ points_until i (suc n) ps
-
--- the points after it
-abbrev pub points_since : (i n : ℕ) → List Point → List Point
-points_since i zero ps = ps
-points_since i (suc n) [] = []
-points_since i (suc n) (p ∷ ps) = if is_commit_of i p then points_since i n ps else points_since i (suc n) ps
+use Rattle.spec_sphere.specs.sphere.Logged.{Supplied, inputs_of}
+use Rattle.spec_protocol.specs.machine.Logged.{sphere_in, supplied, logged_since}
+use Rattle.spec_sphere.specs.sphere.Epochs.{state_in}
+use Rattle.spec_sphere.specs.sphere.Kept.{points_until, points_since}
 
 -- ---- the states there
 

@@ -6,14 +6,14 @@ use Rattle.spec_isa.specs.Words.{lays}
 use Rattle.spec_isa.specs.Runs.{run}
 use Rattle.spec_kernel.specs.Devices.{Devices}
 use Rattle.spec_kernel.specs.Needs.{next_kind}
-use Rattle.spec_kernel.specs.Interrupts.{is_live, takes_interrupt}
+use Rattle.spec_kernel.specs.Interrupts.{is_live}
 use Rattle.spec_engine.specs.declared.answers.How.{How}
-use Rattle.spec_protocol.specs.machine.Spheres.{turn_against, Sphere, is_stopped, limit_of, is_in_pieces}
-use Rattle.spec_protocol.specs.machine.Commits.{is_piece, chunk_moved, dma_moved}
+use Rattle.spec_sphere.specs.sphere.Spheres.{turn_against, Sphere, is_stopped, limit_of, is_in_pieces, replays}
+use Rattle.spec_engine.specs.Closing.{is_piece, is_short}
+use Rattle.spec_sphere.specs.sphere.Commits.{chunk_moved, dma_moved}
 use Rattle.spec_protocol.specs.machine.World.{Numbers, MoveKind, OfChunk, OfSerial, OfDma, OfRaise, Move}
-use Rattle.spec_protocol.specs.machine.Asking.{is_short}
-use Rattle.spec_protocol.specs.machine.Placing.{replays}
 use Rattle.spec_protocol.specs.machine.Serial.{SerialState, do_moved, do_serial, do_dma, do_raise}
+use Rattle.spec_sphere.specs.sphere.Moves.{SerialFits, FitsRaise}
 
 -- ---- one move
 
@@ -73,15 +73,6 @@ abbrev pub FitsChunk : Numbers → Sphere → (thread : ℕ) → How → (n limi
 FitsChunk z p k how n limit None = ⊥
 FitsChunk z p k how n limit (Some t) = ChunkFits z p k t how n limit
 
--- a serial step of thread k, which is t
-pub record SerialFits (p : Sphere) (k : ℕ) (t : Parts) : Type 0 where
-  pub going : is_stopped p.role ≡ false
-  pub turn : turn_against p (Actor.Thread k) ≡ None
-  pub live : is_live t ≡ true
-  -- no piece stands before it, and the next instruction is serial
-  pub whole : is_in_pieces p.role ≡ false
-  pub serial : IsSome (next_kind t p.memory)
-
 abbrev pub FitsSerial : Sphere → (thread : ℕ) → Option Parts → Type 0
 FitsSerial p k None = ⊥
 FitsSerial p k (Some t) = SerialFits p k t
@@ -91,15 +82,6 @@ pub record DmaFits (devices : Devices) (p : Sphere) : Type 0 where
   pub going : is_stopped p.role ≡ false
   pub turn : turn_against p Actor.Dma ≡ None
   pub moves : IsSome (dma_moved devices p)
-
--- an interrupt
-pub record RaiseFits (p : Sphere) (t : Parts) : Type 0 where
-  pub live : replays p.role ≡ false
-  pub takes : takes_interrupt t ≡ true
-
-abbrev pub FitsRaise : Sphere → Option Parts → Type 0
-FitsRaise p None = ⊥
-FitsRaise p (Some t) = RaiseFits p t
 
 abbrev pub FitsWhat : Numbers → Devices → Sphere → MoveKind → Type 0
 FitsWhat z devices p (OfChunk k how n limit) = FitsChunk z p k how n limit (slice_get p.threads k)

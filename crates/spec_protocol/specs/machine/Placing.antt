@@ -1,12 +1,12 @@
 -- The events of threads: Place and Raise.
-use Rattle.std.specs.Prelude.{ℕ, Bool, true, false, slice_get, Option, Some, None, if◌then◌else◌}
+use Rattle.std.specs.Prelude.{ℕ, slice_get, Option, Some, None, if◌then◌else◌}
 use Rattle.dl_entry.specs.declared.Point.{Point}
 use Rattle.spec_isa.specs.declared.thread.Parts.{Parts}
 use Rattle.spec_kernel.specs.Interrupts.{is_live, has_handler}
 use Rattle.spec_protocol.specs.declared.reply.Reply.{Reply}
-use Rattle.spec_protocol.specs.machine.Spheres.{Role, Plain, Record, Replay}
-use Rattle.spec_protocol.specs.machine.Commits.{raised}
+use Rattle.spec_sphere.specs.sphere.Commits.{raised}
 use Rattle.spec_protocol.specs.machine.World.{World, moment, sphere_at, with_sphere, with_core, held_afresh, core_of, OfRaise, EventOutcome, answered}
+use Rattle.spec_sphere.specs.sphere.Spheres.{replays}
 
 -- ---- Place
 
@@ -26,11 +26,6 @@ unfoldable pub placing : World → (core i thread : ℕ) → EventOutcome
 placing w c i k = place_thread w c i k (slice_get (sphere_at w i).threads k)
 
 -- ---- Raise
-
-abbrev pub replays : Role → Bool
-replays Plain = false
-replays (Record recording) = false
-replays (Replay b) = true
 
 -- a core that runs the thread abandons its chunks
 abbrev pub with_renewed : World → (i thread : ℕ) → Option ℕ → World

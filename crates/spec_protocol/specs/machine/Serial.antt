@@ -5,14 +5,14 @@ use Rattle.dl_entry.specs.declared.Actor.{Actor}
 use Rattle.dl_entry.specs.declared.CommitKind.{CommitKind}
 use Rattle.dl_entry.specs.declared.Point.{Point}
 use Rattle.spec_isa.specs.declared.thread.Parts.{Parts}
-use Rattle.spec_isa.specs.Words.{lays}
 use Rattle.spec_isa.specs.Runs.{run}
 use Rattle.spec_kernel.specs.Devices.{Devices, devices_of}
 use Rattle.spec_kernel.specs.Needs.{next_kind}
 use Rattle.spec_kernel.specs.Interrupts.{is_live, takes_interrupt}
-use Rattle.spec_protocol.specs.machine.Spheres.{Role, Plain, Record, Replay, Sphere}
-use Rattle.spec_protocol.specs.machine.Commits.{MovedSphere, chunk_moved, serial_moved, dma_moved, raised}
-use Rattle.spec_protocol.specs.machine.Machine.{Setup, sphere_of}
+use Rattle.spec_sphere.specs.sphere.Spheres.{Role, Plain, Record, Replay, Sphere}
+use Rattle.spec_sphere.specs.sphere.Commits.{MovedSphere, chunk_moved, serial_moved, dma_moved, raised, laid}
+use Rattle.spec_protocol.specs.machine.Machine.{Setup}
+use Rattle.spec_sphere.specs.sphere.Setups.{sphere_of}
 
 -- the spheres between two points, and the devices. A replayed sphere stays as it began, since its log says what it does
 pub record SerialState : Type 0 where
@@ -25,10 +25,6 @@ serial_start s =
     record { spheres = map (sphere_of s.numbers.s) s.spheres; devices = devices_of s.input s.seed }
 
 -- ---- one point
-
--- a commit's words are in memory at once
-abbrev pub laid : MovedSphere → Sphere
-laid v = record v.sphere { memory = lays v.sphere.memory v.words }
 
 abbrev pub do_moved : SerialState → (i : ℕ) → MovedSphere → SerialState
 do_moved x i v = record { spheres = slice_set x.spheres i (laid v); devices = v.devices }

@@ -1,20 +1,11 @@
 -- What a world shows: its spheres with their current memories, without speculation and flights.
-use Rattle.std.specs.Prelude.{ℕ, suc, List, [], ◌∷◌, ◌++◌, nat_eq, Option, Some, None, if◌then◌else◌}
-use Rattle.spec_isa.specs.Words.{Stored, lays}
+use Rattle.std.specs.Prelude.{ℕ, suc, List, [], ◌∷◌, Option}
+use Rattle.spec_isa.specs.Words.{lays}
 use Rattle.spec_engine.specs.Flights.{Flight}
-use Rattle.spec_protocol.specs.machine.Spheres.{Sphere}
+use Rattle.spec_sphere.specs.sphere.Spheres.{Sphere}
 use Rattle.spec_protocol.specs.machine.World.{World}
 use Rattle.spec_protocol.specs.machine.Serial.{SerialState}
-
--- the words left in a slot, if its flight is of sphere i
-abbrev pub words_of : (i : ℕ) → Option Flight → List Stored
-words_of i None = []
-words_of i (Some f) = if nat_eq f.sphere i then f.words else []
-
--- the words left in all flights of sphere i
-abbrev pub flying : (i : ℕ) → List (Option Flight) → List Stored
-flying i [] = []
-flying i (slot ∷ slots) = words_of i slot ++ flying i slots
+use Rattle.spec_engine.specs.Flying.{flying}
 
 -- sphere i with its current memory: the words left in its flights are laid over it
 unfoldable pub shown : List (Option Flight) → (i : ℕ) → Sphere → Sphere

@@ -8,9 +8,8 @@ use Rattle.spec_engine.specs.declared.answers.CutReply.{CutReply}
 use Rattle.spec_engine.specs.Flights.{at}
 use Rattle.spec_engine.specs.Chunks.{Chunk, fresh, Stepping, step, Cutting, cut, is_open, may_follow}
 use Rattle.spec_protocol.specs.declared.reply.Reply.{Reply}
-use Rattle.spec_protocol.specs.machine.Spheres.{Role, is_stopped, limit_after, halves}
+use Rattle.spec_sphere.specs.sphere.Spheres.{Role, is_stopped, limit_after, halves, replays}
 use Rattle.spec_protocol.specs.machine.World.{Numbers, World, Occupant, sphere_at, with_core, EventOutcome, answered}
-use Rattle.spec_protocol.specs.machine.Placing.{replays}
 
 -- ---- the older chunk
 

@@ -7,8 +7,8 @@ use Rattle.spec_engine.specs.Signatures.{Signature, nothing, signed}
 use Rattle.spec_engine.specs.Flights.{is_full}
 use Rattle.spec_engine.specs.Asking.{ask}
 use Rattle.spec_protocol.specs.declared.reply.Reply.{Reply}
-use Rattle.spec_protocol.specs.machine.Spheres.{is_stopped, turn_against}
-use Rattle.spec_protocol.specs.machine.Commits.{CommitOutcome, Granted, Piece, Diverged, MovedSphere, dma_moved}
+use Rattle.spec_sphere.specs.sphere.Spheres.{is_stopped, turn_against}
+use Rattle.spec_sphere.specs.sphere.Commits.{CommitOutcome, Granted, Piece, Diverged, MovedSphere, dma_moved}
 use Rattle.spec_protocol.specs.machine.World.{World, moment, sphere_at, with_sphere, flown, OfDma, Move, EventOutcome, answered}
 use Rattle.spec_protocol.specs.machine.Asking.{unless_denied, unless_turn}
 

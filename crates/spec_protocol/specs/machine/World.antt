@@ -11,7 +11,7 @@ use Rattle.spec_engine.specs.Signatures.{Signature}
 use Rattle.spec_engine.specs.Flights.{Flight, first_slot, fill, has_none}
 use Rattle.spec_engine.specs.Chunks.{Chunk, fresh}
 use Rattle.spec_protocol.specs.declared.reply.Reply.{Reply}
-use Rattle.spec_protocol.specs.machine.Spheres.{Sphere, no_sphere, halves, limit_of}
+use Rattle.spec_sphere.specs.sphere.Spheres.{Sphere, no_sphere, halves, limit_of}
 
 -- the standard size of a chunk, the words that a write buffer holds, the bits of a signature, and how many chunks a core
 -- may have at once

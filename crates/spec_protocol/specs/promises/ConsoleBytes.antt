@@ -1,23 +1,13 @@
 -- The bytes of the console: what commits put out on its channel, in the order of the points.
-use Rattle.std.specs.Prelude.{◌≡◌, ℕ, nat_eq, List, [], ◌∷◌, ◌++◌, length, drop, if◌then◌else◌}
-use Rattle.std.specs.List.{flat_map}
+use Rattle.std.specs.Prelude.{◌≡◌, ℕ, List, [], ◌∷◌, ◌++◌, length, drop}
 use Rattle.dl_entry.specs.declared.Commit.{Commit}
-use Rattle.dl_entry.specs.declared.Output.{Output}
 use Rattle.dl_entry.specs.declared.Point.{Point}
-use Rattle.spec_kernel.specs.Numbers.{channel_console}
 use Rattle.spec_protocol.specs.declared.event.Event.{Event}
 use Rattle.spec_protocol.specs.machine.Machine.{Setup}
 use Rattle.spec_protocol.specs.machine.Serial.{SerialState, serial_start, do_point}
 use Rattle.spec_protocol.specs.machine.Logged.{sphere_in}
 use Rattle.spec_protocol.specs.promises.Promises.{IsSetup, after}
-
--- what it puts out, if that is on the console's channel
-abbrev pub on_console : Output → List ℕ
-on_console o = if nat_eq o.channel channel_console then o.bytes else []
-
--- what these commits put out on it, in their order
-abbrev pub put_out : List Commit → List ℕ
-put_out cs = flat_map (λ c. flat_map on_console c.outputs) cs
+use Rattle.spec_sphere.specs.promises.ConsoleBytes.{put_out}
 
 abbrev pub place_of : Point → ℕ
 place_of (Point.Commit moment i actor kind size short) = i

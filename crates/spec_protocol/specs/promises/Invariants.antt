@@ -7,10 +7,9 @@ use Rattle.spec_engine.specs.declared.answers.How.{How}
 use Rattle.spec_engine.specs.Flights.{Flight, at}
 use Rattle.spec_engine.specs.Chunks.{Chunk, may_follow}
 use Rattle.spec_engine.specs.Laws.{CoversWords, CoversLoads}
-use Rattle.spec_protocol.specs.machine.Spheres.{Role, Sphere, is_stopped, limit_of, limit_after, halves}
-use Rattle.spec_protocol.specs.machine.Placing.{replays}
+use Rattle.spec_sphere.specs.sphere.Spheres.{Role, Sphere, is_stopped, limit_of, limit_after, halves, replays}
 use Rattle.spec_protocol.specs.machine.World.{Numbers, Occupant, World, sphere_at}
-use Rattle.spec_protocol.specs.machine.Shown.{flying}
+use Rattle.spec_engine.specs.Flying.{flying}
 use Rattle.spec_protocol.specs.promises.Currency.{IsCurrent, IsQuiet}
 
 -- ---- flights

@@ -1,26 +1,25 @@
 -- What a world shows whose recordings in epochs give up their earliest commits: what it has is the end of what the points tell.
-use Rattle.std.specs.Prelude.{◌≡◌, ℕ, ◌+◌, ◌*◌, ◌<◌, ◌≤◌, Bool, false, List, [], ◌∷◌, ◌++◌, length, drop, slice_get, All, Option, Some, None}
+use Rattle.std.specs.Prelude.{◌≡◌, ℕ, ◌+◌, ◌*◌, ◌<◌, ◌≤◌, false, List, [], ◌∷◌, ◌++◌, drop, slice_get, Option, Some, None}
 use Rattle.dl_entry.specs.declared.Point.{Point}
-use Rattle.spec_log.specs.declared.LogParts.{LogParts}
 use Rattle.spec_play.specs.Progress.{position}
-use Rattle.spec_play.specs.Epochs.{Epoch, Epochs, log_from}
-use Rattle.spec_play.specs.Verdicts.{interrupt_at}
-use Rattle.spec_play.specs.Plays.{Played, opened, plays}
-use Rattle.spec_kernel.specs.Interrupts.{interrupted}
-use Rattle.spec_isa.specs.declared.thread.Parts.{Parts}
+use Rattle.spec_play.specs.Epochs.{log_from}
+use Rattle.spec_play.specs.Plays.{opened, plays}
 use Rattle.spec_protocol.specs.declared.event.Event.{Event}
-use Rattle.spec_protocol.specs.machine.Spheres.{Recording, Role, Plain, Record, Replay, Sphere}
+use Rattle.spec_sphere.specs.sphere.Spheres.{Recording, Record, Sphere}
 use Rattle.spec_protocol.specs.machine.World.{World, moment, sphere_at}
-use Rattle.spec_protocol.specs.machine.Machine.{EpochSetup, RecordSetup, IsRecorded, SphereSetup, Setup, world_of, happens}
+use Rattle.spec_sphere.specs.sphere.Setups.{EpochSetup, RecordSetup, IsRecorded, SphereSetup}
+use Rattle.spec_protocol.specs.machine.Machine.{Setup, world_of, happens}
 use Rattle.spec_protocol.specs.machine.Serial.{serial}
 use Rattle.spec_protocol.specs.machine.Logged.{sphere_in}
-use Rattle.spec_protocol.specs.machine.Epochs.{is_due, epochs_begun, base_of}
+use Rattle.spec_protocol.specs.machine.Epochs.{epochs_begun}
+use Rattle.spec_sphere.specs.sphere.Epochs.{base_of}
 use Rattle.spec_protocol.specs.machine.Kept.{epoch_of, epochs_of, supplied_since, tail_log}
 use Rattle.spec_protocol.specs.promises.ConsoleBytes.{place_of}
 use Rattle.spec_protocol.specs.promises.Promises.{after}
 use Rattle.spec_protocol.specs.promises.LogsOfPoints.{log_of_points}
-use Rattle.spec_protocol.specs.promises.Sound.{AreFresh, IsWithinLimits, IsSound}
+use Rattle.spec_protocol.specs.promises.Sound.{IsWithinLimits, IsSound}
 use Rattle.spec_protocol.specs.promises.Alike.{all_forgotten, AreAlike}
+use Rattle.spec_sphere.specs.promises.Kept.{has_due, IsSoundTail, HasComeTo}
 
 -- ---- one sphere
 
@@ -66,18 +65,6 @@ pub record Shows (s : Setup) (es : List Event) (w : World) : Type 0 where
 
 -- ---- whether an epoch is due
 
-abbrev pub is_due_if : (commits : ℕ) → Option Epochs → Bool
-is_due_if n None = false
-is_due_if n (Some epochs) = is_due n epochs
-
-abbrev pub is_due_in : Role → (commits : ℕ) → Bool
-is_due_in Plain n = false
-is_due_in (Record recording) n = is_due_if n recording.epochs
-is_due_in (Replay b) n = false
-
-abbrev pub has_due : Sphere → Bool
-has_due p = is_due_in p.role (position p.progress)
-
 -- in the sphere in which something takes effect no epoch is due
 abbrev pub IsReady : World → Option Point → Type 0
 IsReady w None = Unit {0}
@@ -85,15 +72,6 @@ IsReady w (Some q) = has_due (sphere_at w (place_of q)) ≡ false
 
 abbrev pub NoneIsDue : World → Type 0
 NoneIsDue w = (i : ℕ) → has_due (sphere_at w i) ≡ false
-
--- ---- what is sound
-
--- of a sphere that has kept this log, after so many events: it has no more commits than there were events, the log counts
--- those that it has, and has no interrupt of what comes next
-pub record IsSoundTail (events : ℕ) (p : Sphere) (log : LogParts) : Type 0 where
-  pub few : length p.progress.commits ≤ events
-  pub count : log.count ≡ length p.progress.commits
-  pub interrupts : AreFresh p.threads log.interrupts
 
 -- ---- what is promised, of a setup within its limits
 
@@ -107,24 +85,6 @@ TailsAreOfPoints =
     → let ps = (after s es).points in
     n ≤ position (sphere_in (serial s ps) i).progress
     → log_from n (epoch_of s ps i n).inputs (epoch_of s ps i n).state (log_of_points s es i asked) ≡ tail_log s ps i asked n
-
--- a thread that takes the interrupt, if there is one
-abbrev pub after_raise : Option ℕ → Parts → Parts
-after_raise None t = t
-after_raise (Some value) t = interrupted value t
-
--- the play of a whole log has come to where the epoch begins, and this is its log since. It takes interrupts as soon as a commit
--- is done, so it has taken those too that were raised right after the state
-pub record HasComeTo (y : Played) (e : Epoch) (log : LogParts) : Type 0 where
-  pub commits : position y.progress ≡ e.state.commits
-  pub memory : y.memory ≡ e.state.memory
-  pub request : y.progress.request ≡ e.state.request
-  pub last : y.progress.last ≡ e.state.last
-  pub inputs : y.used.inputs ≡ e.inputs
-  pub many : length y.threads ≡ length e.state.threads
-  pub threads : (k : ℕ) (t : Parts)
-      → slice_get e.state.threads k ≡ Some t
-      → slice_get y.threads k ≡ Some (after_raise (interrupt_at log.interrupts k t.commits) t)
 
 -- so it has after as many commits
 abbrev pub EpochsAreOfPlays : Type 0

@@ -1,23 +1,12 @@
 -- What holds of every log that is kept: it has what its sphere has done, and nothing of what comes next.
-use Rattle.std.specs.Prelude.{◌≡◌, ℕ, ◌<◌, false, List, slice_get, Some, None}
-use Rattle.spec_isa.specs.declared.thread.Parts.{Parts}
-use Rattle.spec_log.specs.declared.LogParts.{LogParts}
-use Rattle.spec_play.specs.Progress.{position}
-use Rattle.spec_play.specs.Verdicts.{interrupt_at}
+use Rattle.std.specs.Prelude.{◌≡◌, ℕ, List}
 use Rattle.spec_protocol.specs.declared.event.Event.{Event}
-use Rattle.spec_protocol.specs.machine.Spheres.{Recording, Record, Sphere}
+use Rattle.spec_sphere.specs.sphere.Spheres.{Recording, Record}
 use Rattle.spec_protocol.specs.machine.World.{sphere_at}
-use Rattle.spec_protocol.specs.machine.Machine.{RecordSetup, SphereSetup, Setup}
+use Rattle.spec_sphere.specs.sphere.Setups.{RecordSetup, SphereSetup}
+use Rattle.spec_protocol.specs.machine.Machine.{Setup}
 use Rattle.spec_protocol.specs.promises.Promises.{WillRecord, after}
-
--- it counts the sphere's commits; and of a thread it has no interrupt at a later number of commits than the thread's, and
--- at that number only where the thread is masked: so the next one is of a new moment
-pub record IsLogFresh (log : LogParts) (p : Sphere) : Type 0 where
-  pub count : log.count ≡ position p.progress
-  pub later : (k i : ℕ) (t : Parts) → slice_get p.threads k ≡ Some t → t.commits < i
-      → interrupt_at log.interrupts k i ≡ None
-  pub unmasked : (k : ℕ) (t : Parts) → slice_get p.threads k ≡ Some t → t.mask ≡ false
-      → interrupt_at log.interrupts k t.commits ≡ None
+use Rattle.spec_sphere.specs.promises.Logs.{IsLogFresh}
 
 -- so it is of the log that a sphere has kept
 abbrev pub LogsAreFresh : Type 0

@@ -2,11 +2,13 @@
 use Rattle.std.specs.Prelude.{◌≡◌, ℕ, List}
 use Rattle.spec_log.specs.declared.LogParts.{LogParts}
 use Rattle.spec_protocol.specs.declared.event.Event.{Event}
-use Rattle.spec_protocol.specs.machine.Spheres.{Recording, Record}
+use Rattle.spec_sphere.specs.sphere.Spheres.{Recording, Record}
 use Rattle.spec_protocol.specs.machine.World.{sphere_at}
-use Rattle.spec_protocol.specs.machine.Machine.{new_epochs, RecordSetup, SphereSetup, Setup}
+use Rattle.spec_sphere.specs.sphere.Setups.{new_epochs, RecordSetup, SphereSetup}
+use Rattle.spec_protocol.specs.machine.Machine.{Setup}
 use Rattle.spec_protocol.specs.machine.Serial.{serial_start}
-use Rattle.spec_protocol.specs.machine.Logged.{supplied, logged}
+use Rattle.spec_protocol.specs.machine.Logged.{supplied}
+use Rattle.spec_sphere.specs.sphere.Logged.{logged}
 use Rattle.spec_protocol.specs.promises.Promises.{WillRecord, after}
 
 -- the log that the points of sphere i tell, where it is recorded so

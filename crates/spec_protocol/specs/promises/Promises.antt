@@ -1,10 +1,10 @@
 -- What is promised of these definitions, for every setup and every list of events.
 use Rattle.std.specs.Prelude.{◌≡◌, ℕ, ◌<◌, false, List, length, slice_get, Some}
 use Rattle.spec_protocol.specs.declared.event.Event.{Event}
-use Rattle.spec_protocol.specs.machine.Spheres.{Sphere}
-use Rattle.spec_protocol.specs.machine.Placing.{replays}
+use Rattle.spec_sphere.specs.sphere.Spheres.{Sphere, replays}
 use Rattle.spec_protocol.specs.machine.World.{World}
-use Rattle.spec_protocol.specs.machine.Machine.{RecordSetup, IsRecorded, SphereSetup, Setup, world_of, world_after, moves}
+use Rattle.spec_sphere.specs.sphere.Setups.{RecordSetup, IsRecorded, SphereSetup}
+use Rattle.spec_protocol.specs.machine.Machine.{Setup, world_of, world_after, moves}
 use Rattle.spec_protocol.specs.machine.Serial.{serial_start, serial, CanDoAll}
 use Rattle.spec_protocol.specs.machine.Shown.{shown_of}
 use Rattle.spec_protocol.specs.promises.Invariants.{IsGood}

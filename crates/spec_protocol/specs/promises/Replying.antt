@@ -10,11 +10,10 @@ use Rattle.spec_engine.specs.declared.answers.How.{How}
 use Rattle.spec_engine.specs.Flights.{Flight, at}
 use Rattle.spec_protocol.specs.declared.event.Event.{Event}
 use Rattle.spec_protocol.specs.declared.reply.Reply.{Reply}
-use Rattle.spec_protocol.specs.machine.Spheres.{Role, Plain, Record, Replay}
-use Rattle.spec_protocol.specs.machine.Placing.{replays}
+use Rattle.spec_sphere.specs.sphere.Spheres.{Role, Plain, Record, Replay, replays}
 use Rattle.spec_protocol.specs.machine.World.{Occupant, World, moment, sphere_at}
 use Rattle.spec_protocol.specs.machine.Machine.{Setup, name_of, core_no, with_point, happens}
-use Rattle.spec_protocol.specs.promises.Currency.{AllLack}
+use Rattle.spec_play.specs.Touching.{AllLack}
 use Rattle.spec_protocol.specs.promises.Promises.{IsSetup, after}
 
 -- ---- where points are made

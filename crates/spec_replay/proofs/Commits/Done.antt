@@ -21,10 +21,9 @@ use Rattle.spec_play.specs.Verdicts.{LogVerdict, Goes, Fails}
 use Rattle.spec_play.specs.Transfers.{DmaVerdict, DmaGoes, DmaFails, dma_verdict}
 use Rattle.spec_play.specs.Plays.{Played, with_threads, settled, thread_verdict, play_thread, dma_settled, play_turn, play_one, plays}
 use Rattle.spec_strata.specs.Standing.{Standing, after_thread, after_dma}
-use Rattle.spec_protocol.specs.machine.Spheres.{Cursor, Role, Plain, Record, Replay, Sphere}
-use Rattle.spec_protocol.specs.machine.Commits.{with_commit, now_by, turned, diverged, by_verdict, dma_by_verdict}
-use Rattle.spec_protocol.specs.machine.Machine.{ReplaySetup}
-use Rattle.spec_protocol.specs.machine.Serial.{laid}
+use Rattle.spec_sphere.specs.sphere.Spheres.{Cursor, Role, Plain, Record, Replay, Sphere}
+use Rattle.spec_sphere.specs.sphere.Commits.{with_commit, now_by, turned, diverged, by_verdict, dma_by_verdict, laid}
+use Rattle.spec_sphere.specs.sphere.Setups.{ReplaySetup}
 use Rattle.spec_replay.specs.Following.{IsWhole, IsMovedOn, StandsAt, Follows}
 use Rattle.spec_replay.proofs.Intervals.{commits_of, now_as, turn-in}
 use Rattle.spec_replay.proofs.Commits.Standing.{set_twice, whole-stands}

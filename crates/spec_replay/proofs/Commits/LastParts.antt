@@ -13,16 +13,15 @@ use Rattle.spec_play.specs.Progress.{Progress}
 use Rattle.spec_play.specs.Verdicts.{LogVerdict, chunk_verdict}
 use Rattle.spec_play.specs.Plays.{Played, size_or_standard, thread_verdict}
 use Rattle.spec_engine.specs.declared.answers.How.{How}
-use Rattle.spec_protocol.specs.machine.Spheres.{Cursor, Sphere, whole_limit, is_in_pieces}
-use Rattle.spec_protocol.specs.machine.Commits.{is_piece, joined, replayed_chunk, by_verdict}
+use Rattle.spec_sphere.specs.sphere.Spheres.{Cursor, Sphere, whole_limit, is_in_pieces, replays}
+use Rattle.spec_engine.specs.Closing.{is_piece}
+use Rattle.spec_sphere.specs.sphere.Commits.{joined, replayed_chunk, by_verdict, laid}
 use Rattle.spec_protocol.specs.machine.World.{Numbers}
-use Rattle.spec_protocol.specs.machine.Machine.{ReplaySetup}
-use Rattle.spec_protocol.specs.machine.Serial.{laid}
+use Rattle.spec_sphere.specs.sphere.Setups.{ReplaySetup}
 use Rattle.spec_protocol.specs.machine.Moves.{ChunkFits}
-use Rattle.spec_protocol.specs.machine.Placing.{replays}
-use Rattle.spec_protocol.proofs.Moves.Threads.{run-keeps}
-use Rattle.spec_protocol.proofs.PlayingBack.Verdicts.{run-first, run-stops}
-use Rattle.spec_protocol.proofs.PlayingBack.Sizes.{size_by, size-is, limit_by, limit-is, not-serial}
+use Rattle.spec_sphere.proofs.Moves.Threads.{run-keeps}
+use Rattle.spec_sphere.proofs.PlayingBack.Verdicts.{run-first, run-stops}
+use Rattle.spec_sphere.proofs.PlayingBack.Sizes.{size_by, size-is, limit_by, limit-is, not-serial}
 use Rattle.spec_replay.proofs.Commits.Judging.{AreAlike, chunks-alike}
 use Rattle.spec_replay.proofs.Commits.Pieces.{IsPart, IsAtCommit, part-is, part-limit, at-commit, piece-reaches}
 use Rattle.spec_replay.proofs.Commits.Done.{Reaches, HasTurn, commit-reaches}

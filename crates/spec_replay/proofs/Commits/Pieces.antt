@@ -9,16 +9,15 @@ use Rattle.spec_kernel.specs.Devices.{Devices}
 use Rattle.spec_play.specs.Turns.{TurnOrEnd, Turn}
 use Rattle.spec_play.specs.Plays.{Played}
 use Rattle.spec_log.specs.declared.LogParts.{LogParts}
-use Rattle.spec_protocol.specs.machine.Spheres.{Cursor, Role, Replay, Sphere, whole_limit, pieces_of, limit_in, limit_of}
-use Rattle.spec_protocol.specs.machine.Commits.{piece_moved}
+use Rattle.spec_sphere.specs.sphere.Spheres.{Cursor, Role, Replay, Sphere, whole_limit, pieces_of, limit_in, limit_of}
+use Rattle.spec_sphere.specs.sphere.Commits.{piece_moved, laid}
 use Rattle.spec_protocol.specs.machine.World.{Numbers}
-use Rattle.spec_protocol.specs.machine.Machine.{ReplaySetup}
-use Rattle.spec_protocol.specs.machine.Serial.{laid}
-use Rattle.spec_protocol.proofs.Moves.Granted.{get-set_same}
-use Rattle.spec_protocol.proofs.Moves.Joining.{pieces_own}
-use Rattle.spec_protocol.proofs.Moves.Threads.{run-keeps}
+use Rattle.spec_sphere.specs.sphere.Setups.{ReplaySetup}
+use Rattle.spec_strata.proofs.Shares.Steps.{get-set_same}
+use Rattle.spec_sphere.proofs.Moves.Joining.{pieces_own}
+use Rattle.spec_sphere.proofs.Moves.Threads.{run-keeps}
 use Rattle.spec_replay.specs.Following.{IsMovedOn, StandsAt, Follows}
-use Rattle.spec_replay.proofs.Commits.Joining.{IsJoined, rest_of, run-joined}
+use Rattle.spec_play.proofs.Local.Joining.{IsJoined, rest_of, run-joined}
 use Rattle.spec_replay.proofs.Commits.Standing.{set_twice}
 use Rattle.spec_replay.proofs.Commits.Done.{Reaches, HasTurn}
 

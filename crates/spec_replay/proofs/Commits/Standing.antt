@@ -8,10 +8,10 @@ use Rattle.spec_play.specs.Turns.{TurnOrEnd, Turn, TurnOfDma, Ended}
 use Rattle.spec_play.specs.Plays.{Played}
 use Rattle.spec_play.specs.Intervals.{now_in}
 use Rattle.spec_play.proofs.Going.{Lives}
-use Rattle.spec_protocol.specs.machine.Spheres.{Cursor, Sphere}
-use Rattle.spec_protocol.specs.machine.Machine.{ReplaySetup}
-use Rattle.spec_protocol.proofs.Replays.Turns.{interval-now}
-use Rattle.spec_protocol.proofs.PlayingBack.Sizes.{limit-some}
+use Rattle.spec_sphere.specs.sphere.Spheres.{Cursor, Sphere}
+use Rattle.spec_sphere.specs.sphere.Setups.{ReplaySetup}
+use Rattle.spec_sphere.proofs.Replays.Turns.{interval-now}
+use Rattle.spec_sphere.proofs.PlayingBack.Sizes.{limit-some}
 use Rattle.spec_replay.specs.Following.{IsWhole, StandsAt}
 use Rattle.spec_replay.proofs.Intervals.{ended_in, now_as}
 

@@ -9,14 +9,14 @@ use Rattle.spec_play.specs.Progress.{Progress, position}
 use Rattle.spec_play.specs.Turns.{TurnOrEnd, Turn, TurnOfDma, Ended}
 use Rattle.spec_play.specs.Plays.{Played, plays}
 use Rattle.spec_play.proofs.Going.{plays-first}
-use Rattle.spec_protocol.specs.machine.Spheres.{Cursor, Sphere, is_over}
+use Rattle.spec_sphere.specs.sphere.Spheres.{Cursor, Sphere, is_over}
 use Rattle.spec_replay.specs.Following.{IsWhole, IsMovedOn, StandsAt}
 use Rattle.spec_replay.specs.Promises.{SameState, ends_between, Agree, ReplaysAgree}
 use Rattle.spec_replay.proofs.Intervals.{now_as, is-start}
 use Rattle.spec_replay.proofs.Commits.Done.{done_in}
 use Rattle.spec_replay.proofs.Replays.Stopping.{IsAt, Reached, reached, is_last, end_between, whole_now}
 use Rattle.spec_replay.proofs.Replays.All.{replays_reach}
-use Rattle.spec_protocol.specs.machine.Machine.{ReplaySetup, first_played}
+use Rattle.spec_sphere.specs.sphere.Setups.{ReplaySetup, first_played}
 
 -- ---- states
 

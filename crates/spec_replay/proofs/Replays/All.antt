@@ -5,9 +5,10 @@ use Rattle.spec_play.specs.Progress.{position}
 use Rattle.spec_play.specs.Plays.{Played}
 use Rattle.spec_strata.specs.Standing.{stratum_begun}
 use Rattle.spec_protocol.specs.declared.event.Event.{Event}
-use Rattle.spec_protocol.specs.machine.Spheres.{Cursor, Sphere}
-use Rattle.spec_protocol.specs.machine.Commits.{between}
-use Rattle.spec_protocol.specs.machine.Machine.{first_played, first_standing, replay_at, ReplaySetup, RoleSetup, IsReplayed, SphereSetup, Setup, sphere_as, sphere_of}
+use Rattle.spec_sphere.specs.sphere.Spheres.{Cursor, Sphere}
+use Rattle.spec_sphere.specs.sphere.Commits.{between}
+use Rattle.spec_sphere.specs.sphere.Setups.{first_played, first_standing, replay_at, ReplaySetup, RoleSetup, IsReplayed, SphereSetup, sphere_as, sphere_of}
+use Rattle.spec_protocol.specs.machine.Machine.{Setup}
 use Rattle.spec_replay.specs.Following.{Follows}
 use Rattle.spec_replay.specs.Promises.{IsReplay, ReplaysArePlays}
 use Rattle.spec_replay.proofs.Intervals.{is-start}

@@ -3,9 +3,10 @@ use Rattle.std.proofs.Common.{◌≡◌, ℕ, inl, inr, List, [], ◌∷◌, Opt
 use Rattle.std.specs.Prelude.{slice_get}
 use Rattle.std.proofs.lemmas.Bool.{cases_eq}
 use Rattle.spec_protocol.specs.declared.event.Event.{Event}
-use Rattle.spec_protocol.specs.machine.Spheres.{Sphere}
+use Rattle.spec_sphere.specs.sphere.Spheres.{Sphere}
 use Rattle.spec_protocol.specs.machine.World.{Numbers, MoveKind, Move}
-use Rattle.spec_protocol.specs.machine.Machine.{SphereSetup, Setup, sphere_of, moves, world_of}
+use Rattle.spec_sphere.specs.sphere.Setups.{SphereSetup, sphere_of}
+use Rattle.spec_protocol.specs.machine.Machine.{Setup, moves, world_of}
 use Rattle.spec_protocol.specs.machine.Serial.{SerialState, serial_start}
 use Rattle.spec_protocol.specs.machine.Shown.{shown_of}
 use Rattle.spec_protocol.specs.machine.Moves.{do_by_kind, do_at, do_move, do_moves, FitsWhat, FitsAt, Fits, FitAll}

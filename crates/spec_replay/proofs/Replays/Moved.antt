@@ -14,24 +14,26 @@ use Rattle.spec_play.specs.Verdicts.{LogVerdict, serial_verdict}
 use Rattle.spec_play.specs.Transfers.{DmaVerdict, dma_verdict}
 use Rattle.spec_play.specs.Plays.{Played, plays}
 use Rattle.spec_engine.specs.declared.answers.How.{How}
-use Rattle.spec_protocol.specs.machine.Spheres.{turn_in, turn_against, Cursor, Role, Replay, Sphere, is_over, is_stopped, is_in_pieces}
-use Rattle.spec_protocol.specs.machine.Commits.{MovedSphere, is_piece, replayed_chunk, by_verdict, chunk_in, chunk_moved, serial_in, serial_moved, dma_by_verdict, dma_in, dma_moved}
+use Rattle.spec_sphere.specs.sphere.Spheres.{turn_in, turn_against, Cursor, Role, Replay, Sphere, is_over, is_stopped, is_in_pieces}
+use Rattle.spec_sphere.specs.sphere.Commits.{MovedSphere, replayed_chunk, by_verdict, chunk_in, chunk_moved, serial_in, serial_moved, dma_by_verdict, dma_in, dma_moved}
+use Rattle.spec_engine.specs.Closing.{is_piece, is_short}
 use Rattle.spec_protocol.specs.machine.World.{Numbers, MoveKind, OfChunk, OfSerial, OfDma, OfRaise}
-use Rattle.spec_protocol.specs.machine.Asking.{is_short}
-use Rattle.spec_protocol.specs.machine.Machine.{ReplaySetup}
-use Rattle.spec_protocol.specs.machine.Serial.{SerialState, laid, do_moved, do_serial, do_dma}
-use Rattle.spec_protocol.specs.machine.Moves.{move_chunk, do_by_kind, FitsChunk, SerialFits, FitsSerial, DmaFits, FitsWhat}
-use Rattle.spec_protocol.proofs.Moves.Granted.{get-set_same}
-use Rattle.spec_protocol.proofs.Moves.Joining.{MayGo, may_go, turn_in_order}
-use Rattle.spec_protocol.proofs.Moves.Transfers.{dma-turn_is}
-use Rattle.spec_protocol.proofs.PlayingBack.Sizes.{serial-turn}
+use Rattle.spec_sphere.specs.sphere.Commits.{laid}
+use Rattle.spec_sphere.specs.sphere.Setups.{ReplaySetup}
+use Rattle.spec_protocol.specs.machine.Serial.{SerialState, do_moved, do_serial, do_dma}
+use Rattle.spec_protocol.specs.machine.Moves.{move_chunk, do_by_kind, FitsChunk, FitsSerial, DmaFits, FitsWhat}
+use Rattle.spec_sphere.specs.sphere.Moves.{SerialFits}
+use Rattle.spec_strata.proofs.Shares.Steps.{get-set_same}
+use Rattle.spec_sphere.proofs.Moves.Joining.{MayGo, may_go, turn_in_order}
+use Rattle.spec_sphere.proofs.Moves.Transfers.{dma-turn_is}
+use Rattle.spec_sphere.proofs.PlayingBack.Sizes.{serial-turn}
 use Rattle.spec_replay.specs.Following.{IsMovedOn, StandsAt, EndsWithin, Follows}
 use Rattle.spec_replay.proofs.Intervals.{commits_of, now_as, IsStart, room-left}
 use Rattle.spec_replay.proofs.Commits.Standing.{set_here}
 use Rattle.spec_replay.proofs.Commits.Judging.{alike_same}
 use Rattle.spec_replay.proofs.Commits.Done.{done_in, InOrder, Reaches, Beside, HasTurn, commit-reaches, transfer-reaches}
 use Rattle.spec_replay.proofs.Commits.LastParts.{chunk-reaches}
-use Rattle.spec_protocol.proofs.Replays.Pieces.{no_raise}
+use Rattle.spec_sphere.proofs.Replays.Turns.{no_raise}
 use Rattle.spec_replay.proofs.Replays.Keeping.{Stands}
 
 -- ---- whose turn it is

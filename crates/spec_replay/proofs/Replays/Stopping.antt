@@ -7,8 +7,9 @@ use Rattle.spec_play.specs.Progress.{position}
 use Rattle.spec_play.specs.Turns.{TurnOrEnd, Ended}
 use Rattle.spec_play.specs.Plays.{Played, plays}
 use Rattle.spec_play.proofs.Going.{plays-stay}
-use Rattle.spec_protocol.specs.machine.Spheres.{Cursor, Replay, Sphere, is_over}
-use Rattle.spec_protocol.specs.machine.Machine.{ReplaySetup, SphereSetup, Setup, last_played, first_played}
+use Rattle.spec_sphere.specs.sphere.Spheres.{Cursor, Replay, Sphere, is_over}
+use Rattle.spec_sphere.specs.sphere.Setups.{ReplaySetup, SphereSetup, last_played, first_played}
+use Rattle.spec_protocol.specs.machine.Machine.{Setup}
 use Rattle.spec_protocol.specs.declared.event.Event.{Event}
 use Rattle.spec_replay.specs.Following.{IsWhole, StandsAt, EndsWithin, Follows}
 use Rattle.spec_replay.specs.Promises.{IsReplay, IsPlayed, ends_between}

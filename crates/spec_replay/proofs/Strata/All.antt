@@ -22,10 +22,11 @@ use Rattle.spec_strata.specs.Standing.{Standing, stratum_begun}
 use Rattle.spec_strata.proofs.Shares.Steps.{same_some}
 use Rattle.spec_strata.proofs.Images.Going.{parallel_strata_go}
 use Rattle.spec_protocol.specs.declared.event.Event.{Event}
-use Rattle.spec_protocol.specs.machine.Spheres.{Cursor, Sphere}
-use Rattle.spec_protocol.specs.machine.Commits.{between, now_by}
-use Rattle.spec_protocol.specs.machine.Machine.{first_played, replay_at, ReplaySetup, in_strata, RoleSetup, IsReplayed, SphereSetup, Setup, sphere_as, sphere_of}
-use Rattle.spec_protocol.specs.promises.Sound.{AreReplayable}
+use Rattle.spec_sphere.specs.sphere.Spheres.{Cursor, Sphere}
+use Rattle.spec_sphere.specs.sphere.Commits.{between, now_by}
+use Rattle.spec_sphere.specs.sphere.Setups.{first_played, replay_at, ReplaySetup, in_strata, RoleSetup, IsReplayed, SphereSetup, sphere_as, sphere_of}
+use Rattle.spec_protocol.specs.machine.Machine.{Setup}
+use Rattle.spec_sphere.specs.promises.Sound.{AreReplayable}
 use Rattle.spec_replay.specs.Promises.{IsReplay, StrataAreFollowed}
 use Rattle.spec_replay.proofs.Replays.Keeping.{after-stands}
 use Rattle.spec_strata.proofs.Standing.Counts.{begins}

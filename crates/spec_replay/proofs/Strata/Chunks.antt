@@ -30,18 +30,17 @@ use Rattle.spec_strata.proofs.Plays.LastParts.{last_parts_go}
 use Rattle.spec_strata.proofs.Making.Counting.{live-of}
 use Rattle.spec_strata.proofs.Images.Following.{IsBy, chunk-by}
 use Rattle.spec_engine.specs.declared.answers.How.{How}
-use Rattle.spec_protocol.specs.machine.Spheres.{Cursor, Sphere, whole_limit, is_in_pieces}
-use Rattle.spec_protocol.specs.machine.Commits.{with_commit, is_piece, joined, piece_moved, replayed_chunk, by_verdict}
+use Rattle.spec_sphere.specs.sphere.Spheres.{Cursor, Sphere, whole_limit, is_in_pieces, replays}
+use Rattle.spec_sphere.specs.sphere.Commits.{with_commit, joined, piece_moved, replayed_chunk, by_verdict, laid}
+use Rattle.spec_engine.specs.Closing.{is_piece}
 use Rattle.spec_protocol.specs.machine.World.{Numbers}
-use Rattle.spec_protocol.specs.machine.Machine.{SphereSetup}
-use Rattle.spec_protocol.specs.machine.Serial.{laid}
+use Rattle.spec_sphere.specs.sphere.Setups.{SphereSetup}
 use Rattle.spec_protocol.specs.machine.Moves.{ChunkFits}
-use Rattle.spec_protocol.specs.machine.Placing.{replays}
-use Rattle.spec_protocol.proofs.Moves.Threads.{run-keeps}
-use Rattle.spec_protocol.proofs.Moves.Joining.{MayGo}
-use Rattle.spec_protocol.proofs.PlayingBack.Verdicts.{run-stops}
-use Rattle.spec_protocol.proofs.PlayingBack.Sizes.{size_by, size-is, limit_by, limit-is, not-serial}
-use Rattle.spec_replay.proofs.Commits.Joining.{rest_of}
+use Rattle.spec_sphere.proofs.Moves.Threads.{run-keeps}
+use Rattle.spec_sphere.proofs.Moves.Joining.{MayGo}
+use Rattle.spec_sphere.proofs.PlayingBack.Verdicts.{run-stops}
+use Rattle.spec_sphere.proofs.PlayingBack.Sizes.{size_by, size-is, limit_by, limit-is, not-serial}
+use Rattle.spec_play.proofs.Local.Joining.{rest_of}
 use Rattle.spec_replay.proofs.Commits.LastParts.{not_limit}
 use Rattle.spec_replay.proofs.Commits.Pieces.{IsPart, IsAtCommit, rest-is, part-is, part-limit, moved_piece}
 use Rattle.spec_strata.proofs.Standing.Counts.{count_at, counts-rising}

@@ -26,7 +26,7 @@ use Rattle.spec_strata.proofs.Plays.Strata.{GoodAt, checked-stratum}
 use Rattle.spec_strata.proofs.Plays.Canonical.{at-none, canonical_plays}
 use Rattle.spec_strata.proofs.Images.Canonical.{length-rising}
 use Rattle.spec_strata.proofs.Images.Going.{get-past}
-use Rattle.spec_protocol.specs.machine.Machine.{SphereSetup}
+use Rattle.spec_sphere.specs.sphere.Setups.{SphereSetup}
 use Rattle.spec_replay.specs.InStrata.{done_by, count_in, stratum_from, stratum_at}
 use Rattle.spec_strata.proofs.Standing.Counts.{count_at, counts-rising, done-more, within, sum-most, all-done, none-done, sum-none}
 use Rattle.spec_strata.proofs.Standing.Places.{OnlyOf, length-is}

@@ -24,11 +24,10 @@ use Rattle.spec_strata.specs.declared.strata.StrataParts.{StrataParts}
 use Rattle.spec_strata.specs.Canonical.{canonical}
 use Rattle.spec_strata.specs.Standing.{Standing, least_left, head_in, has_chunks_left, after_thread, after_dma}
 use Rattle.spec_strata.proofs.Shares.Steps.{mapped}
-use Rattle.spec_protocol.specs.machine.Spheres.{Cursor, Replay, Sphere, joins_in}
-use Rattle.spec_protocol.specs.machine.Commits.{with_commit, now_by, turned, by_verdict, dma_by_verdict}
-use Rattle.spec_protocol.specs.machine.Machine.{SphereSetup}
-use Rattle.spec_protocol.specs.machine.Serial.{laid}
-use Rattle.spec_protocol.proofs.Moves.Joining.{MayGo, joins-whole, own_pieces}
+use Rattle.spec_sphere.specs.sphere.Spheres.{Cursor, Replay, Sphere, joins_in}
+use Rattle.spec_sphere.specs.sphere.Commits.{with_commit, now_by, turned, by_verdict, dma_by_verdict, laid}
+use Rattle.spec_sphere.specs.sphere.Setups.{SphereSetup}
+use Rattle.spec_sphere.proofs.Moves.Joining.{MayGo, joins-whole, own_pieces}
 use Rattle.spec_replay.specs.Following.{IsWhole, IsMovedOn}
 use Rattle.spec_replay.specs.InStrata.{done_by, count_in, HasPieces, stratum_at, FollowsInStrata}
 use Rattle.spec_replay.proofs.Commits.Standing.{moved_whole}

@@ -12,7 +12,7 @@ use Rattle.spec_play.proofs.Going.{Lives}
 use Rattle.spec_strata.specs.Standing.{Standing, head_standing}
 use Rattle.spec_strata.proofs.Plays.Turning.{turn-there}
 use Rattle.spec_strata.proofs.Images.Following.{named-thread, named-dma}
-use Rattle.spec_protocol.specs.machine.Commits.{now_by}
+use Rattle.spec_sphere.specs.sphere.Commits.{now_by}
 
 abbrev pub now_if : LogParts → Standing → Progress → Used → List Parts → Bool → TurnOrEnd
 now_if log x p u ts b = cond b (turn_of (position p) ts (head_standing x)) (at_end (position p) (has_left_over log u ts))

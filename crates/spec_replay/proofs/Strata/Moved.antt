@@ -17,19 +17,19 @@ use Rattle.spec_strata.specs.declared.stratum.Stratum.TheVariants.{Chunks, Seria
 use Rattle.spec_strata.specs.declared.strata.StrataParts.{StrataParts}
 use Rattle.spec_strata.specs.Canonical.{canonical}
 use Rattle.spec_strata.specs.Standing.{Standing}
-use Rattle.spec_strata.proofs.Shares.Steps.{same_some}
+use Rattle.spec_strata.proofs.Shares.Steps.{same_some, get-set_same}
 use Rattle.spec_engine.specs.declared.answers.How.{How}
-use Rattle.spec_protocol.specs.machine.Spheres.{turn_against, Cursor, Role, Replay, Sphere, is_stopped, is_in_pieces}
-use Rattle.spec_protocol.specs.machine.Commits.{MovedSphere, is_piece, replayed_chunk, by_verdict, chunk_in, chunk_moved, serial_in, serial_moved, dma_by_verdict, dma_in, dma_moved}
+use Rattle.spec_sphere.specs.sphere.Spheres.{turn_against, Cursor, Role, Replay, Sphere, is_stopped, is_in_pieces}
+use Rattle.spec_sphere.specs.sphere.Commits.{MovedSphere, replayed_chunk, by_verdict, chunk_in, chunk_moved, serial_in, serial_moved, dma_by_verdict, dma_in, dma_moved}
+use Rattle.spec_engine.specs.Closing.{is_piece, is_short}
 use Rattle.spec_protocol.specs.machine.World.{Numbers, MoveKind, OfChunk, OfSerial, OfDma, OfRaise}
-use Rattle.spec_protocol.specs.machine.Asking.{is_short}
-use Rattle.spec_protocol.specs.machine.Machine.{SphereSetup}
-use Rattle.spec_protocol.specs.machine.Serial.{SerialState, laid, do_moved, do_serial, do_dma}
+use Rattle.spec_sphere.specs.sphere.Commits.{laid}
+use Rattle.spec_sphere.specs.sphere.Setups.{SphereSetup}
+use Rattle.spec_protocol.specs.machine.Serial.{SerialState, do_moved, do_serial, do_dma}
 use Rattle.spec_protocol.specs.machine.Moves.{move_chunk, do_by_kind, FitsChunk, ChunkFits, FitsSerial, DmaFits, FitsWhat}
-use Rattle.spec_protocol.proofs.Moves.Granted.{get-set_same}
-use Rattle.spec_protocol.proofs.Moves.Joining.{MayGo}
-use Rattle.spec_protocol.proofs.PlayingBack.Verdicts.{run-first}
-use Rattle.spec_protocol.proofs.Replays.Pieces.{no_raise}
+use Rattle.spec_sphere.proofs.Moves.Joining.{MayGo}
+use Rattle.spec_sphere.proofs.PlayingBack.Verdicts.{run-first}
+use Rattle.spec_sphere.proofs.Replays.Turns.{no_raise}
 use Rattle.spec_replay.specs.Following.{IsWhole}
 use Rattle.spec_replay.specs.InStrata.{stratum_at}
 use Rattle.spec_replay.proofs.Replays.Keeping.{Stands, Keeps}

@@ -18,7 +18,7 @@ use Rattle.spec_strata.proofs.Shares.Checking.{shares-of}
 use Rattle.spec_strata.proofs.Plays.Strata.{insert-behind}
 use Rattle.spec_strata.proofs.Standing.Counts.{up-to-most}
 use Rattle.spec_strata.proofs.Standing.Places.{OnlyOf, place-is, length-is, insert-is, threads-of, last-before, last-at-end}
-use Rattle.spec_protocol.specs.machine.Commits.{with_commit}
+use Rattle.spec_sphere.specs.sphere.Commits.{with_commit}
 use Rattle.spec_replay.specs.InStrata.{done_by}
 
 -- where a commit of thread k comes in canonical order, and which is then the last

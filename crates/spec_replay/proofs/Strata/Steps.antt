@@ -24,11 +24,10 @@ use Rattle.spec_strata.specs.OnImages.{SerialGoes}
 use Rattle.spec_strata.specs.Standing.{Standing, done_up_to, place_of, is_last, stratum_begun}
 use Rattle.spec_strata.proofs.Shares.Steps.{same_some}
 use Rattle.spec_strata.proofs.Plays.Canonical.{insert-last, one-turn}
-use Rattle.spec_protocol.specs.machine.Spheres.{Cursor, Sphere}
-use Rattle.spec_protocol.specs.machine.Commits.{with_commit, by_verdict, dma_by_verdict}
-use Rattle.spec_protocol.specs.machine.Machine.{SphereSetup}
-use Rattle.spec_protocol.specs.machine.Serial.{laid}
-use Rattle.spec_protocol.proofs.PlayingBack.Sizes.{serial-turn}
+use Rattle.spec_sphere.specs.sphere.Spheres.{Cursor, Sphere}
+use Rattle.spec_sphere.specs.sphere.Commits.{with_commit, by_verdict, dma_by_verdict, laid}
+use Rattle.spec_sphere.specs.sphere.Setups.{SphereSetup}
+use Rattle.spec_sphere.proofs.PlayingBack.Sizes.{serial-turn}
 use Rattle.spec_replay.specs.Following.{IsWhole}
 use Rattle.spec_replay.proofs.Commits.Done.{one_more}
 use Rattle.spec_strata.proofs.Standing.Counts.{count_at}

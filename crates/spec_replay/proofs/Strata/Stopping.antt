@@ -16,10 +16,11 @@ use Rattle.spec_strata.specs.Strata.{commits_in, commits_in_all}
 use Rattle.spec_strata.specs.Canonical.{canonical}
 use Rattle.spec_strata.specs.Standing.{Standing}
 use Rattle.spec_protocol.specs.declared.event.Event.{Event}
-use Rattle.spec_protocol.specs.machine.Spheres.{Cursor, Replay, Sphere, is_over}
-use Rattle.spec_protocol.specs.machine.Commits.{now_by}
-use Rattle.spec_protocol.specs.machine.Machine.{last_played, ReplaySetup, in_strata, SphereSetup, Setup}
-use Rattle.spec_protocol.specs.promises.Sound.{AreReplayableIf}
+use Rattle.spec_sphere.specs.sphere.Spheres.{Cursor, Replay, Sphere, is_over}
+use Rattle.spec_sphere.specs.sphere.Commits.{now_by}
+use Rattle.spec_sphere.specs.sphere.Setups.{last_played, ReplaySetup, in_strata, SphereSetup}
+use Rattle.spec_protocol.specs.machine.Machine.{Setup}
+use Rattle.spec_sphere.specs.promises.Sound.{AreReplayableIf}
 use Rattle.spec_replay.specs.Following.{IsWhole}
 use Rattle.spec_replay.specs.InStrata.{stratum_from, stratum_at}
 use Rattle.spec_replay.specs.Promises.{IsReplay, IsPlayed, StoppedArePlayed}
@@ -133,7 +134,7 @@ whole-played v image st ds n p b s c a w stopped =
           )
     ]
 
-same_cursor : (b c : Cursor) → Replay b ≡ Replay c → b ≡ c
+pub same_cursor : (b c : Cursor) → Replay b ≡ Replay c → b ≡ c
 same_cursor b c e = cc
 
 stopped_in_strata : (image : SphereSetup) (v : StrataParts) (s : Setup) (es : List Event) (i : ℕ) (p : Sphere) (b : Cursor) → IsReplay image (in_strata v) s es i p → p.role ≡ Replay b → is_over b.now ≡ true → IsPlayed (in_strata v) (last_played image (in_strata v)) p b

@@ -9,10 +9,10 @@ use Rattle.spec_isa.specs.Words.{Stored, lays, holds, Lacks, is_inside}
 use Rattle.spec_isa.specs.Instruction.{InstructionOutcome, Next, Serial, one, serial_of, loads_of}
 use Rattle.spec_isa.specs.Runs.{Run, followed, run}
 use Rattle.spec_kernel.specs.Needs.{fetched, next_kind}
-use Rattle.spec_strata.proofs.Local.Touching.{Touches, RunTouches, AllLack}
-use Rattle.spec_strata.specs.Footprints.{Agree, Unseen, is_loaded, looks_at, looks, footprint, meets, IsAlike, CommitsAreLocal, CommitsCommute}
-use Rattle.spec_strata.proofs.Local.Laying.{Agree-lays, Agree-unseen, lays-lays}
-use Rattle.spec_strata.proofs.Local.Running.{serial_local, fetched_local, kind_local, one_serial, run_local, one_next}
+use Rattle.spec_play.specs.Touching.{Touches, RunTouches, AllLack, Agree, Unseen}
+use Rattle.spec_strata.specs.Footprints.{is_loaded, looks_at, looks, footprint, meets, IsAlike, CommitsAreLocal, CommitsCommute}
+use Rattle.spec_play.proofs.Local.Laying.{Agree-lays, Agree-unseen, lays-lays}
+use Rattle.spec_play.proofs.Local.Running.{serial_local, fetched_local, kind_local, one_serial, run_local, one_next}
 
 -- ---- what is looked at is touched
 

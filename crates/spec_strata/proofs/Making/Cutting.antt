@@ -19,11 +19,10 @@ use Rattle.spec_play.specs.Verdicts.{LogVerdict, Goes, Fails}
 use Rattle.spec_play.specs.Transfers.{DmaVerdict, DmaGoes, DmaFails, dma_verdict}
 use Rattle.spec_play.specs.Plays.{Played, settled, thread_verdict, play_thread, dma_settled, play_turn, play_one, plays}
 use Rattle.spec_strata.specs.declared.stratum.Stratum.{Stratum}
-use Rattle.spec_strata.specs.declared.stratum.Stratum.TheVariants.{Serial, Dma}
-use Rattle.spec_strata.specs.declared.stratum.Stratum.TheVariants.{Chunks as StratumChunks}
+use Rattle.spec_strata.specs.declared.stratum.Stratum.TheVariants.{Serial, Dma, Chunks as StratumChunks}
 use Rattle.spec_strata.specs.Canonical.{rising}
 use Rattle.spec_strata.specs.Shares.{Rule, Share, empty_share, next_run, next_seen, StratumState, stratum_start, commit_more, commits_more, bump, bumps, counts_of}
-use Rattle.spec_strata.specs.Footprints.{Unseen}
+use Rattle.spec_play.specs.Touching.{Unseen}
 use Rattle.spec_strata.specs.Parallel.{IsClear, AreClear, clashes_next}
 use Rattle.spec_strata.specs.InPlay.{rule_of, ChunkGoes, plays_of, ChunksGo, IsStratum}
 use Rattle.spec_strata.specs.Orders.{AreLive}

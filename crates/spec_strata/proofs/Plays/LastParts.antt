@@ -19,7 +19,7 @@ use Rattle.spec_strata.proofs.Shares.Checking.{shares-of}
 use Rattle.spec_strata.proofs.Plays.Verdicts.{IsLogged, effect_of, used_of, logged-goes, goes-logged}
 use Rattle.spec_strata.proofs.Plays.Strata.{get-map, thread_in, strata_step}
 use Rattle.spec_strata.proofs.Logs.Strata.{play-is}
-use Rattle.spec_strata.proofs.Local.Joining.{IsJoined, run-joined}
+use Rattle.spec_play.proofs.Local.Joining.{IsJoined, run-joined}
 
 set_twice : {A : Type 0} (xs : List A) (k : ℕ) (x y : A) → set (set xs k x) k y ≡ set xs k y
 set_twice [] k x y = refl

@@ -9,14 +9,15 @@ use Rattle.spec_isa.specs.Words.{Stored, lays, holds, put, merged}
 use Rattle.spec_isa.specs.Instruction.{InstructionOutcome, Next, Serial, one}
 use Rattle.spec_isa.specs.Runs.{Run, with_store, followed, run}
 use Rattle.spec_play.specs.Effects.{chunk_commit}
-use Rattle.spec_strata.specs.Footprints.{Agree, looks}
+use Rattle.spec_play.specs.Touching.{Agree}
+use Rattle.spec_strata.specs.Footprints.{looks}
 use Rattle.spec_strata.specs.Shares.{Rule, Share, next_run, next_seen, share_more, alone, bump, shares_at, words_of, state_at, counts_of}
 use Rattle.spec_strata.specs.Parallel.{OthersMiss}
 use Rattle.spec_strata.specs.InPlay.{plays_of, rule_of, commits_of}
 use Rattle.spec_strata.specs.Orders.{insert_at, place}
 use Rattle.spec_strata.specs.Pieces.{with_words, PiecesAreLocal}
 use Rattle.spec_strata.specs.Costs.{cost_of, CostsGrow, CostsStep}
-use Rattle.spec_strata.proofs.Local.Running.{run_local}
+use Rattle.spec_play.proofs.Local.Running.{run_local}
 use Rattle.spec_strata.proofs.Local.Footprints.{looks-touches, Agree-less}
 use Rattle.spec_strata.proofs.Shares.Steps.{alone-get, agree-others, laid-more, misses}
 use Rattle.spec_strata.proofs.Shares.Checking.{shares-of}

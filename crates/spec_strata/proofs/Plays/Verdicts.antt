@@ -22,10 +22,11 @@ use Rattle.spec_play.specs.Effects.{Effect, counted, chunk_effect}
 use Rattle.spec_play.specs.Progress.{Progress}
 use Rattle.spec_play.specs.declared.used.Used.{Used}
 use Rattle.spec_play.specs.Verdicts.{LogVerdict, Goes, Fails, unless, interrupt_at, with_interrupted, ended, chunk_why, chunk_verdict}
-use Rattle.spec_strata.specs.Footprints.{Agree, looks, IsAlike}
+use Rattle.spec_play.specs.Touching.{Agree}
+use Rattle.spec_strata.specs.Footprints.{looks, IsAlike}
 use Rattle.spec_strata.specs.Shares.{Share, next_run}
 use Rattle.spec_strata.specs.InPlay.{after_interrupt, number_of, rule_of}
-use Rattle.spec_strata.proofs.Local.Running.{kind_local}
+use Rattle.spec_play.proofs.Local.Running.{kind_local}
 use Rattle.spec_strata.proofs.Local.Footprints.{looks-touches, alike}
 
 -- ---- the interrupt after it

@@ -6,7 +6,8 @@ use Rattle.std.proofs.lemmas.Option.{none-some}
 use Rattle.spec_isa.specs.declared.thread.Parts.{Parts}
 use Rattle.spec_isa.specs.Words.{Stored, lays}
 use Rattle.spec_isa.specs.Runs.{Run}
-use Rattle.spec_strata.specs.Footprints.{Agree, Unseen, IsAlike}
+use Rattle.spec_play.specs.Touching.{Agree, Unseen}
+use Rattle.spec_strata.specs.Footprints.{IsAlike}
 use Rattle.spec_strata.specs.Shares.{Rule, Share, next_run, next_seen, share_more, alone, StratumState, commit_more, commits_more, bump, bumps, shares_at, words_of, state_at}
 use Rattle.spec_strata.specs.Parallel.{OthersMiss, OthersBlind, IsClear, AreClear, IsParallel, ClearOnesAreParallel, ParallelOnesAreClear}
 use Rattle.spec_strata.proofs.Local.Footprints.{commits_are_local, Unseen-less}

@@ -3,7 +3,7 @@ use Rattle.std.proofs.Common.{ℕ, zero, suc, ◌<◌, Bool, false, List, [], �
 use Rattle.std.proofs.lemmas.Bool.{or_right}
 use Rattle.spec_isa.specs.declared.thread.Parts.{Parts}
 use Rattle.spec_isa.specs.Words.{Stored}
-use Rattle.spec_strata.specs.Footprints.{Unseen}
+use Rattle.spec_play.specs.Touching.{Unseen}
 use Rattle.spec_strata.specs.Shares.{Rule, share_more, alone}
 use Rattle.spec_strata.specs.Parallel.{seen_at, words_at, ParallelByPairs}
 use Rattle.spec_strata.proofs.Local.Footprints.{meets-unseen, Unseen-less}

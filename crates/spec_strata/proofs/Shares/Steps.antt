@@ -5,10 +5,11 @@ use Rattle.std.proofs.lemmas.Bool.{or_left, or_right, cases_eq, cases_lt, eq-eqb
 use Rattle.std.proofs.lemmas.Option.{none-some}
 use Rattle.spec_isa.specs.declared.thread.Parts.{Parts}
 use Rattle.spec_isa.specs.Words.{Stored, lays, holds}
-use Rattle.spec_strata.specs.Footprints.{Agree, Unseen, looks, IsAlike}
+use Rattle.spec_play.specs.Touching.{Agree, Unseen}
+use Rattle.spec_strata.specs.Footprints.{looks, IsAlike}
 use Rattle.spec_strata.specs.Shares.{Rule, Share, empty_share, next_run, next_seen, share_more, alone, StratumState, with_more, commit_more, commits_more, stratum_start, bump, bumps, shares_at, words_of, state_at}
 use Rattle.spec_strata.specs.Parallel.{OthersMiss, IsParallel, ParallelOnesStep, ParallelOnesInterleave}
-use Rattle.spec_strata.proofs.Local.Laying.{lays_append, lays-lays, Agree-lays, Agree-unseen, Agree_trans}
+use Rattle.spec_play.proofs.Local.Laying.{lays_append, lays-lays, Agree-lays, Agree-unseen, Agree_trans}
 use Rattle.spec_strata.proofs.Local.Footprints.{commits_are_local, unseen-lack, Unseen-less}
 
 -- ---- lists

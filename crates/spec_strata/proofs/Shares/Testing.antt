@@ -3,7 +3,8 @@ use Rattle.std.proofs.Common.{◌≡◌, ◌≢◌, ℕ, zero, suc, Bool, false,
 use Rattle.std.specs.Prelude.{slice_get}
 use Rattle.std.proofs.lemmas.Option.{none-some}
 use Rattle.spec_isa.specs.Words.{Stored}
-use Rattle.spec_strata.specs.Footprints.{Unseen, meets}
+use Rattle.spec_play.specs.Touching.{Unseen}
+use Rattle.spec_strata.specs.Footprints.{meets}
 use Rattle.spec_strata.specs.Shares.{Share, next_run, next_seen}
 use Rattle.spec_strata.specs.Parallel.{clashes_with, clashes_all, clashes, ClearIsTested}
 use Rattle.spec_strata.proofs.Local.Footprints.{meets-unseen, or_neither}

@@ -4,7 +4,8 @@ use Rattle.std.specs.Prelude.{slice_get, slice_set, nat_eq, if◌then◌else◌}
 use Rattle.std.proofs.lemmas.Bool.{cases_Bool, cases_eq, eq-eqb, ne_eqb, or_left, or_right, or_cases}
 use Rattle.spec_isa.specs.declared.thread.Parts.{Parts}
 use Rattle.spec_isa.specs.Words.{Stored, holds}
-use Rattle.spec_strata.specs.Footprints.{Unseen, looks}
+use Rattle.spec_play.specs.Touching.{Unseen}
+use Rattle.spec_strata.specs.Footprints.{looks}
 use Rattle.spec_strata.specs.Shares.{Share, empty_share, next_run, next_seen, share_more, with_more, commit_more}
 use Rattle.spec_strata.specs.Parallel.{OthersMiss, OthersBlind}
 use Rattle.spec_strata.specs.declared.touch.Touch.{Touch}

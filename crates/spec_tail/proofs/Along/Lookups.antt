@@ -10,7 +10,8 @@ use Rattle.spec_log.specs.declared.DmaRecord.{DmaRecord}
 use Rattle.spec_log.specs.Head.{is_dma_at}
 use Rattle.spec_log.specs.Size.{is_thread, sizes_of_thread}
 use Rattle.spec_tail.specs.Playing.{dma_since}
-use Rattle.spec_tail.proofs.Along.Tallies.{bit, tally, Each}
+use Rattle.spec_isa.specs.Encoding.{bit}
+use Rattle.spec_tail.proofs.Along.Tallies.{tally, Each}
 
 -- ---- without the first entries
 

@@ -13,7 +13,8 @@ use Rattle.spec_tail.specs.Cutting.{after_interrupt, after_interrupts}
 use Rattle.spec_tail.specs.Playing.{commits_of, begun, uncounted, Raised, led_by, raised_first, raised, counted_from}
 use Rattle.spec_tail.proofs.Along.Lookups.{each-filter}
 use Rattle.spec_tail.proofs.Along.Reached.{is_reached, AreHandled}
-use Rattle.spec_tail.proofs.Along.Tallies.{bit, tally, Each, tally-both, tally-none, tally-same, tally-all, each-map, each-one, number, is_at, Rising, tally-at, length-filter}
+use Rattle.spec_isa.specs.Encoding.{bit}
+use Rattle.spec_tail.proofs.Along.Tallies.{tally, Each, tally-both, tally-none, tally-same, tally-all, each-map, each-one, number, is_at, Rising, tally-at, length-filter}
 
 -- ---- their numbers
 

@@ -37,7 +37,8 @@ use Rattle.spec_play.proofs.Positions.{position-more}
 use Rattle.spec_play.proofs.Going.{EndsOr, over-stays, plays-go}
 use Rattle.spec_play.proofs.Threads.{run-keeps, serve-keeps}
 use Rattle.spec_tail.specs.Playing.{commits_of, begun}
-use Rattle.spec_tail.proofs.Along.Tallies.{bit, tally, tally-both, tally-none, tally-same, each-one, number, is_at, Rising, tally-at}
+use Rattle.spec_isa.specs.Encoding.{bit}
+use Rattle.spec_tail.proofs.Along.Tallies.{tally, tally-both, tally-none, tally-same, each-one, number, is_at, Rising, tally-at}
 
 -- ---- a commit of thread k, which was t
 

@@ -6,10 +6,7 @@ use Rattle.std.proofs.lemmas.Bool.{cases_Bool, and_parts, and_left, and_right, e
 use Rattle.spec_log.specs.declared.Interrupt.{Interrupt}
 use Rattle.spec_log.specs.Log.{ComesBefore}
 use Rattle.spec_play.specs.Verdicts.{interrupt_at}
-
-abbrev pub bit : Bool → ℕ
-bit true = 1
-bit false = 0
+use Rattle.spec_isa.specs.Encoding.{bit}
 
 abbrev pub tally : {X : Type 0} → (X → Bool) → List X → ℕ
 tally p [] = 0

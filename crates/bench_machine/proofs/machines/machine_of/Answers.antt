@@ -1,7 +1,7 @@
 use Rattle.std.proofs.Common.{◌≡◌, List, [], ◌∷◌, ◌++◌, All, map, inl, refl, sym, subst, arith}
 use Rattle.std.proofs.lemmas.List.{map-append}
 use Rattle.std.proofs.lemmas.List.Elements.{All-push}
-use Rattle.spec_protocol.specs.machine.Machine as protocol
+use Rattle.spec_sphere.specs.sphere.Setups as protocol
 use Rattle.dl_sphere.specs.declared.setup.SphereSetup.{SphereSetup}
 use Rattle.dl_sphere.specs.Setups.{HasBegun, IsRecordableIf, role_setup, setup_of}
 use Rattle.bench_machine.proofs.machines.machine_of.Goals as goal

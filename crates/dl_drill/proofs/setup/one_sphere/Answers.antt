@@ -4,7 +4,7 @@ use Rattle.dl_sphere.specs.declared.setup.SphereSetup.{SphereSetup}
 use Rattle.dl_sphere.specs.Setups.{HasBegun, role_setup, setup_of}
 use Rattle.dl_sphere.proofs.Standing.Start.{unless_begun}
 use Rattle.dl_drill.proofs.Recording.{one_begun}
-use Rattle.spec_protocol.specs.machine.Machine as protocol
+use Rattle.spec_sphere.specs.sphere.Setups as protocol
 use Rattle.dl_drill.proofs.setup.one_sphere.Goals as goal
 
 pub returns-clause-value : goal.returns-clause-value

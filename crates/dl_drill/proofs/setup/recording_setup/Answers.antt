@@ -1,5 +1,5 @@
 use Rattle.std.proofs.Common.{List, All, inl, sym, subst, refl, rules, arith}
-use Rattle.spec_protocol.specs.machine.Machine.{SphereSetup}
+use Rattle.spec_sphere.specs.sphere.Setups.{SphereSetup}
 use Rattle.dl_sphere.specs.Setups.{IsRecordableIf}
 use Rattle.dl_drill.proofs.Recording.{one_recordable}
 use Rattle.dl_drill.proofs.setup.recording_setup.Goals as goal

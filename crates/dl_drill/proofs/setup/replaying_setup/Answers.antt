@@ -1,6 +1,6 @@
 use Rattle.std.proofs.Common.{◌∙◌, List, [], ◌∷◌, All, sym, subst, ap, refl, rules, arith}
 use Rattle.spec_log.specs.declared.LogParts.{LogParts}
-use Rattle.spec_protocol.specs.machine.Machine.{IsReplayed, SphereSetup, all_of}
+use Rattle.spec_sphere.specs.sphere.Setups.{IsReplayed, SphereSetup, all_of}
 use Rattle.spec_program.specs.Drills.{drill_sphere}
 use Rattle.dl_sphere.specs.Setups.{IsRecordableIf}
 use Rattle.dl_drill.proofs.Recording.{one_recordable}

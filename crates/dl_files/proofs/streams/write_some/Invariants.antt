@@ -1,6 +1,6 @@
-use Rattle.std.specs.Io.KnownBytes.{Keeps}
+use Rattle.std.specs.Prelude.{◌≡◌}
 use Rattle.dl_files.proofs.streams.write_some.Given as goal
 
 -- nothing was taken yet
 abbrev pub invariant-loop : goal.invariant-loop
-invariant-loop g l = Keeps (g.W.Write.contents l.initial.writer) (g.W.Write.contents l.writer)
+invariant-loop g l = g.O.Output.holds l.output ≡ g.O.Output.holds l.initial.output

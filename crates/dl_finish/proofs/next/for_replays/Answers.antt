@@ -1,5 +1,5 @@
 use Rattle.std.proofs.Common.{arith, ◌≡◌, ℕ, ◌<◌, None, length, sym, ap, ◌∙◌}
-use Rattle.spec_protocol.specs.machine.Spheres.{Sphere}
+use Rattle.spec_sphere.specs.sphere.Spheres.{Sphere}
 use Rattle.spec_protocol.specs.machine.World.{sphere_at}
 use Rattle.spec_protocol.specs.machine.Finishing.{for_turn}
 use Rattle.dl_finish.specs.Turns.{turn_in}

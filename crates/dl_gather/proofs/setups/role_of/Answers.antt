@@ -1,6 +1,6 @@
 use Rattle.std.proofs.Common.{Option, None, sym, subst}
 use Rattle.spec_play.specs.declared.interval.Interval.{Interval}
-use Rattle.spec_protocol.specs.machine.Machine.{IsReplayed}
+use Rattle.spec_sphere.specs.sphere.Setups.{IsReplayed}
 use Rattle.dl_sphere.specs.Setups.{IsBegunIf, replay_setup}
 use Rattle.dl_sphere.specs.declared.setup.Replay.{Replay}
 use Rattle.dl_gather.specs.Intervals.{sphere_on}

@@ -1,7 +1,7 @@
 -- A core whose sphere there is begins with its first thread.
 use Rattle.std.proofs.Common.{◌≡◌, ◌<◌, ◌≤◌, ℕ, Option, ap, sym, subst, ◌∙◌}
 use Rattle.std.proofs.lemmas.Option.{slice_get-get_or, slice_get_past}
-use Rattle.spec_protocol.specs.machine.Spheres.{Sphere, no_sphere}
+use Rattle.spec_sphere.specs.sphere.Spheres.{Sphere, no_sphere}
 use Rattle.dl_sphere.specs.SizedSpheres.{SizedSphere}
 use Rattle.dl_machine.specs.Cores.{Core, afresh, holding, idle}
 use Rattle.dl_machine.specs.Setups.{first_held, numbers_with}

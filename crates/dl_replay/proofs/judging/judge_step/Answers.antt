@@ -10,7 +10,7 @@ use Rattle.spec_play.specs.Spawned.{AreNew}
 use Rattle.spec_play.proofs.Threads.{KeepsCommits, serve-keeps}
 use Rattle.dl_kernel.proofs.Rows.{room-more}
 use Rattle.dl_kernel.specs.StepResults.{result_in}
-use Rattle.spec_protocol.specs.promises.Sound.{IsSoundIf}
+use Rattle.spec_sphere.specs.promises.Sound.{IsSoundIf}
 use Rattle.dl_replay.specs.Judging.{given_by, step_verdict}
 use Rattle.dl_replay.specs.declared.judging.Done.{Done}
 use Rattle.dl_replay.proofs.Advancing.{some-same}

@@ -3,8 +3,8 @@ use Rattle.dl_entry.specs.declared.Commit.{Commit}
 use Rattle.spec_isa.specs.Runs.{Run}
 use Rattle.spec_play.specs.Effects.{chunk_commit}
 use Rattle.spec_play.specs.Verdicts.{chunk_verdict}
-use Rattle.spec_protocol.specs.promises.Sound.{IsSoundIf}
-use Rattle.spec_engine.specs.Flights.{AreInside}
+use Rattle.spec_sphere.specs.promises.Sound.{IsSoundIf}
+use Rattle.spec_isa.specs.Inside.{AreInside}
 use Rattle.spec_query.specs.Stores.{stores_of}
 use Rattle.dl_kernel.specs.States.{PlayState as State}
 use Rattle.dl_replay.specs.Following.{Following}

@@ -1,6 +1,6 @@
 use Rattle.std.proofs.Common.{◌+◌, List, length, ◌∷◌, ◌++◌, [], refl, sym, ap, ◌∙◌, subst, arith}
 use Rattle.dl_entry.specs.declared.Commit.{Commit}
-use Rattle.spec_engine.specs.Flights.{AreInside}
+use Rattle.spec_isa.specs.Inside.{AreInside}
 use Rattle.spec_play.specs.Transfers.{dma_verdict}
 use Rattle.spec_query.specs.Stores.{stores_of}
 use Rattle.dl_kernel.specs.States.{PlayState as State}

@@ -1,7 +1,7 @@
 use Rattle.std.proofs.Common.{◌≡◌, ◌+◌, List, length, Some, ◌∷◌, ◌++◌, [], refl, sym, ap, ◌∙◌, subst, arith}
 use Rattle.dl_entry.specs.declared.Commit.{Commit}
 use Rattle.spec_isa.specs.Threads.{IsThread}
-use Rattle.spec_engine.specs.Flights.{AreInside}
+use Rattle.spec_isa.specs.Inside.{AreInside}
 use Rattle.spec_play.specs.Effects.{serial_commit}
 use Rattle.spec_play.specs.Verdicts.{serial_verdict}
 use Rattle.spec_query.specs.Stores.{stores_of}

@@ -1,6 +1,6 @@
 use Rattle.std.proofs.Common.{◌≡◌, length}
 use Rattle.spec_isa.specs.Words.{lays}
-use Rattle.spec_engine.specs.Flights.{AreInside}
+use Rattle.spec_isa.specs.Inside.{AreInside}
 use Rattle.dl_serial.proofs.overlay.drain.Given as goal
 
 abbrev pub invariant-loop-stored : goal.invariant-loop-stored

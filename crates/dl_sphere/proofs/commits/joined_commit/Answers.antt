@@ -2,7 +2,7 @@ use Rattle.std.proofs.Common.{◌≡◌, ◌++◌, List, map, sym, ap, ◌∙◌
 use Rattle.std.proofs.lemmas.List.{map-append}
 use Rattle.dl_entry.specs.declared.Load.{Load}
 use Rattle.spec_play.specs.Effects.{entry_of}
-use Rattle.spec_protocol.specs.machine.Commits.{joined}
+use Rattle.spec_sphere.specs.sphere.Commits.{joined}
 use Rattle.dl_sphere.proofs.commits.joined_commit.Goals as goal
 
 pub returns : goal.returns

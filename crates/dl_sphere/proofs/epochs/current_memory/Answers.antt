@@ -3,9 +3,9 @@ use Rattle.std.specs.Prelude.{drop}
 use Rattle.std.proofs.lemmas.List.{drop_more}
 use Rattle.spec_isa.specs.Words.{lays}
 use Rattle.spec_isa.proofs.MemoryLaws.{length_lays}
-use Rattle.spec_engine.specs.Flights.{AreInside}
-use Rattle.spec_protocol.specs.machine.Shown.{flying, words_of}
-use Rattle.spec_protocol.proofs.Memory.Laying.{lays_append}
+use Rattle.spec_isa.specs.Inside.{AreInside}
+use Rattle.spec_engine.specs.Flying.{flying, words_of}
+use Rattle.spec_play.proofs.Local.Laying.{lays_append}
 use Rattle.dl_sphere.proofs.Begins.Laid.{inside_parts}
 use Rattle.dl_sphere.proofs.epochs.current_memory.Goals as goal
 

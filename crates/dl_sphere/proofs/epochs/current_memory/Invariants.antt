@@ -1,8 +1,8 @@
 use Rattle.std.proofs.Common.{◌≡◌, length}
 use Rattle.std.specs.Prelude.{drop}
 use Rattle.spec_isa.specs.Words.{lays}
-use Rattle.spec_engine.specs.Flights.{AreInside}
-use Rattle.spec_protocol.specs.machine.Shown.{flying}
+use Rattle.spec_isa.specs.Inside.{AreInside}
+use Rattle.spec_engine.specs.Flying.{flying}
 use Rattle.dl_sphere.proofs.epochs.current_memory.Given as goal
 
 abbrev pub invariant-loop-slot : goal.invariant-loop-slot

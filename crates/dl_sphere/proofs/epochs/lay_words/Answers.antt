@@ -1,7 +1,7 @@
 use Rattle.std.proofs.Common.{ap, ◌∙◌, length, sym, subst}
 use Rattle.std.specs.VecDeque.Iter.{deque_iter_rest}
 use Rattle.spec_isa.specs.Words.{lay, lays}
-use Rattle.spec_engine.specs.Flights.{AreInside}
+use Rattle.spec_isa.specs.Inside.{AreInside}
 use Rattle.dl_sphere.proofs.Begins.Laid.{one_laid, others_inside}
 use Rattle.dl_sphere.proofs.epochs.lay_words.Goals as goal
 

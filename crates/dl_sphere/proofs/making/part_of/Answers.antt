@@ -1,6 +1,6 @@
 use Rattle.std.proofs.Common.{◌≡◌, [], sym, ap, subst, ◌∙◌}
-use Rattle.spec_protocol.specs.machine.Machine.{IsReplayed}
-use Rattle.spec_protocol.specs.promises.Sound.{IsImage, IsRole}
+use Rattle.spec_sphere.specs.sphere.Setups.{IsReplayed}
+use Rattle.spec_sphere.specs.promises.Sound.{IsImage, IsRole}
 use Rattle.dl_kernel.specs.States.{state_in}
 use Rattle.dl_replay.specs.Following.{Following}
 use Rattle.dl_sphere.specs.Roles.{Replaying}

@@ -4,8 +4,9 @@ use Rattle.spec_isa.specs.declared.thread.Parts.{Parts}
 use Rattle.spec_isa.specs.Runs.{Run}
 use Rattle.spec_play.specs.Effects.{chunk_commit}
 use Rattle.spec_play.specs.Verdicts.{chunk_verdict}
-use Rattle.spec_protocol.specs.machine.Commits.{Diverged, Granted, Piece, is_piece, joined, chunk_moved, replayed_chunk}
-use Rattle.spec_protocol.specs.machine.Spheres.{Cursor, Replay}
+use Rattle.spec_sphere.specs.sphere.Commits.{Diverged, Granted, Piece, joined, chunk_moved, replayed_chunk}
+use Rattle.spec_engine.specs.Closing.{is_piece}
+use Rattle.spec_sphere.specs.sphere.Spheres.{Cursor, Replay}
 use Rattle.spec_strata.specs.Standing.{place_of}
 use Rattle.spec_log.proofs.Threads.{log-among}
 use Rattle.dl_kernel.specs.States.{PlayState as State}

@@ -1,9 +1,9 @@
 use Rattle.std.proofs.Common.{◌≡◌, ◌∷◌, ◌++◌, [], length, suc, Some, refl, sym, ap, subst, ◌∙◌, arith}
 use Rattle.spec_play.specs.Effects.{dma_commit}
 use Rattle.spec_play.specs.Transfers.{dma_verdict}
-use Rattle.spec_protocol.specs.machine.Commits.{Diverged, Granted, MovedSphere, dma_moved}
-use Rattle.spec_protocol.specs.machine.Spheres.{Replay}
-use Rattle.spec_protocol.proofs.Logs.Growing.{pushed_length}
+use Rattle.spec_sphere.specs.sphere.Commits.{Diverged, Granted, MovedSphere, dma_moved}
+use Rattle.spec_sphere.specs.sphere.Spheres.{Replay}
+use Rattle.spec_sphere.proofs.Logs.Growing.{pushed_length}
 use Rattle.dl_kernel.specs.States.{PlayState as State}
 use Rattle.dl_kernel.specs.InOrder.{listed}
 use Rattle.dl_replay.specs.Judged.{Judged}

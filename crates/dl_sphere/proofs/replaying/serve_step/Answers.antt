@@ -2,8 +2,8 @@ use Rattle.std.proofs.Common.{◌≡◌, Bool, [], Option, length, refl, sym, ap
 use Rattle.std.specs.Prelude.{option_map}
 use Rattle.spec_play.specs.Effects.{serial_commit}
 use Rattle.spec_play.specs.Verdicts.{serial_verdict}
-use Rattle.spec_protocol.specs.machine.Commits.{Diverged, Granted, serial_moved}
-use Rattle.spec_protocol.specs.machine.Spheres.{Replay}
+use Rattle.spec_sphere.specs.sphere.Commits.{Diverged, Granted, serial_moved}
+use Rattle.spec_sphere.specs.sphere.Spheres.{Replay}
 use Rattle.spec_strata.specs.Standing.{place_of}
 use Rattle.dl_kernel.specs.States.{PlayState as State}
 use Rattle.dl_kernel.specs.InOrder.{listed}

@@ -5,7 +5,7 @@ use Rattle.spec_log.specs.Log.{AreFewBytes}
 use Rattle.spec_kernel.specs.Answers.{dma_bytes}
 use Rattle.spec_kernel.specs.Copies.{dma_words}
 use Rattle.spec_kernel.specs.Devices.{Devices}
-use Rattle.spec_protocol.proofs.Sound.Devices.{dma-bytes}
+use Rattle.spec_sphere.proofs.Sound.Devices.{dma-bytes}
 use Rattle.dl_sphere.specs.Roles.{with_noted, keeping_of}
 use Rattle.dl_sphere.proofs.transferring.live_dma.Goals as goal
 

@@ -1,6 +1,6 @@
 use Rattle.std.proofs.Common.{◌≡◌, ◌≤◌, refl, ap, ◌∙◌, arith}
 use Rattle.spec_log.specs.declared.LogParts.{LogParts}
-use Rattle.spec_protocol.specs.machine.Machine.{IsPlain}
+use Rattle.spec_sphere.specs.sphere.Setups.{IsPlain}
 use Rattle.dl_sphere.specs.Starting.{first_state}
 use Rattle.test_machines.proofs.tests.cut.Goals as goal
 

@@ -1,6 +1,6 @@
 //! What a chunk, a serial step, a DMA and an interrupt make of a sphere.
 ghost use Rattle.std.specs.Prelude.{◌≡◌, Some, IfOk, slice_get};
-ghost use Rattle.spec_protocol.specs.machine.Commits.{is_piece};
+ghost use Rattle.spec_engine.specs.Closing.{is_piece};
 ghost use Rattle.dl_sphere.specs.Moving.{IsTurnOf, IsTurnOfDma};
 
 use super::{Begins, begin};

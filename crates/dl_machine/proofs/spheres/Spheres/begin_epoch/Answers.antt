@@ -1,9 +1,9 @@
 use Rattle.std.proofs.Common.{◌≡◌, ◌<◌, length, OnOk, ap, ◌∙◌, refl, arith}
 use Rattle.std.proofs.lemmas.Grind.{common_steps}
 use Rattle.spec_isa.specs.Words.{lays}
-use Rattle.spec_protocol.specs.machine.Epochs.{epoch_begun}
-use Rattle.spec_protocol.specs.machine.Shown.{flying}
-use Rattle.spec_protocol.specs.machine.Spheres.{Sphere}
+use Rattle.spec_sphere.specs.sphere.Epochs.{epoch_begun}
+use Rattle.spec_engine.specs.Flying.{flying}
+use Rattle.spec_sphere.specs.sphere.Spheres.{Sphere}
 use Rattle.dl_sphere.specs.Setups.{standard_in}
 use Rattle.dl_sphere.specs.SizedSpheres.{SizedSphere, with_sphere}
 use Rattle.dl_machine.specs.Rows.{with_nth}

@@ -2,9 +2,9 @@ use Rattle.std.proofs.Common.{◌≡◌, false, ◌^◌, ◌<◌, length, IfOk, 
 use Rattle.std.proofs.lemmas.Grind.{common_steps}
 use Rattle.spec_kernel.specs.Devices.{Devices}
 use Rattle.spec_engine.specs.declared.answers.How.{How}
-use Rattle.spec_protocol.specs.machine.Asking.{is_short}
-use Rattle.spec_protocol.specs.machine.Commits.{chunk_moved, is_piece}
-use Rattle.spec_protocol.specs.machine.Spheres.{Sphere}
+use Rattle.spec_engine.specs.Closing.{is_short, is_piece}
+use Rattle.spec_sphere.specs.sphere.Commits.{chunk_moved}
+use Rattle.spec_sphere.specs.sphere.Spheres.{Sphere, replays}
 use Rattle.dl_sphere.specs.declared.moved.Moved.{Moved}
 use Rattle.dl_sphere.specs.SizedSpheres.{SizedSphere}
 use Rattle.dl_sphere.specs.Moving.{CanCommit, came}
@@ -13,8 +13,7 @@ use Rattle.dl_machine.proofs.Commits.AsClosed.{how_of, how_is, can_commit_so, if
 use Rattle.dl_machine.proofs.Rows.Spheres.{row_says, said_of_row, others_left, spheres_set}
 use Rattle.dl_machine.proofs.spheres.Spheres.commit_chunk.Goals as goal
 use Rattle.spec_play.specs.Progress.{position}
-use Rattle.spec_protocol.specs.machine.Placing.{replays}
-use Rattle.spec_protocol.specs.promises.Kept.{has_due}
+use Rattle.spec_sphere.specs.promises.Kept.{has_due}
 
 pub commit_chunk-requires : goal.commit_chunk-requires
 commit_chunk-requires g c =

@@ -1,7 +1,7 @@
 use Rattle.std.proofs.Common.{◌<◌, length, ap, ◌∙◌, arith}
 use Rattle.std.proofs.lemmas.Grind.{common_steps}
 use Rattle.spec_engine.specs.Flights.{at, drain}
-use Rattle.spec_protocol.specs.machine.Spheres.{Sphere}
+use Rattle.spec_sphere.specs.sphere.Spheres.{Sphere}
 use Rattle.dl_machine.specs.Rows.{with_nth}
 use Rattle.dl_sphere.specs.Setups.{standard_in}
 use Rattle.dl_sphere.specs.SizedSpheres.{SizedSphere}

@@ -2,14 +2,14 @@ use Rattle.std.proofs.Common.{rules, ◌≡◌, ◌+◌, ◌<◌, ℕ, max, leng
 use Rattle.std.proofs.lemmas.List.{get_or-map, map-append, take_more}
 use Rattle.std.proofs.lemmas.Grind.{common_steps}
 use Rattle.std.proofs.lemmas.Simd.{map-map}
-use Rattle.spec_protocol.specs.machine.Spheres.{Sphere}
-use Rattle.spec_protocol.specs.machine.Machine as protocol
-use Rattle.spec_protocol.specs.machine.Machine.{RoleSetup, IsPlain, IsRecorded, IsReplayed, sphere_as, sphere_of}
+use Rattle.spec_sphere.specs.sphere.Spheres.{Sphere}
+use Rattle.spec_sphere.specs.sphere.Setups as protocol
+use Rattle.spec_sphere.specs.sphere.Setups.{RoleSetup, IsPlain, IsRecorded, IsReplayed, sphere_as, sphere_of}
 use Rattle.dl_sphere.specs.Setups.{HasBegun, IsRecordableIf, role_setup, setup_of, standard_asked, standard_in}
 use Rattle.dl_machine.specs.Setups.{greatest}
 use Rattle.dl_sphere.specs.SizedSpheres.{SizedSphere}
 use Rattle.dl_sphere.specs.declared.setup.SphereSetup.{SphereSetup}
-use Rattle.spec_protocol.specs.promises.Sound.{IsImage}
+use Rattle.spec_sphere.specs.promises.Sound.{IsImage}
 use Rattle.dl_machine.specs.Rows.{IsOfStandard, sphere_in}
 use Rattle.dl_machine.proofs.spheres.Spheres.new.Goals as goal
 

@@ -1,6 +1,6 @@
 use Rattle.std.proofs.Common.{◌≡◌, ◌≤◌, All, length, map, take, vec_len, vec_capacity}
-use Rattle.spec_protocol.specs.machine.Machine.{sphere_of}
-use Rattle.spec_protocol.specs.promises.Sound.{IsChunkSize, IsImage}
+use Rattle.spec_sphere.specs.sphere.Setups.{sphere_of}
+use Rattle.spec_sphere.specs.promises.Sound.{IsChunkSize, IsImage}
 use Rattle.dl_sphere.specs.Setups.{setup_of}
 use Rattle.dl_machine.specs.Rows.{IsOfStandard, sphere_in}
 use Rattle.dl_machine.specs.Setups.{greatest}

@@ -2,8 +2,8 @@ use Rattle.std.proofs.Common.{◌≡◌, ◌<◌, length, OnOk, Some, arith}
 use Rattle.std.specs.Prelude.{slice_get}
 use Rattle.std.proofs.lemmas.Grind.{common_steps}
 use Rattle.spec_isa.specs.declared.thread.Parts.{Parts}
-use Rattle.spec_protocol.specs.machine.Commits.{raised}
-use Rattle.spec_protocol.specs.machine.Spheres.{Sphere}
+use Rattle.spec_sphere.specs.sphere.Commits.{raised}
+use Rattle.spec_sphere.specs.sphere.Spheres.{Sphere}
 use Rattle.dl_sphere.specs.SizedSpheres.{SizedSphere}
 use Rattle.dl_machine.proofs.Rows.Spheres.{said_of_row, others_left, spheres_set}
 use Rattle.dl_machine.proofs.spheres.Spheres.raise.Goals as goal

@@ -2,8 +2,8 @@ use Rattle.std.proofs.Common.{◌≡◌, ◌<◌, length, IfOk, Some, arith}
 use Rattle.std.specs.Prelude.{slice_get}
 use Rattle.std.proofs.lemmas.Grind.{common_steps}
 use Rattle.spec_isa.specs.declared.thread.Parts.{Parts}
-use Rattle.spec_protocol.specs.machine.Commits.{serial_moved}
-use Rattle.spec_protocol.specs.machine.Spheres.{Sphere}
+use Rattle.spec_sphere.specs.sphere.Commits.{serial_moved}
+use Rattle.spec_sphere.specs.sphere.Spheres.{Sphere}
 use Rattle.dl_sphere.specs.SizedSpheres.{SizedSphere}
 use Rattle.dl_sphere.specs.Moving.{IsTurnOf, came}
 use Rattle.dl_machine.proofs.Rows.Spheres.{row_says, said_of_row, others_left, spheres_set}

@@ -1,7 +1,7 @@
 use Rattle.std.proofs.Common.{◌≡◌, false, sym, ap, ◌∙◌, subst}
 use Rattle.spec_protocol.specs.machine.Epochs.{begun_at}
 use Rattle.spec_protocol.specs.machine.World.{World, sphere_at}
-use Rattle.spec_protocol.specs.promises.Kept.{has_due}
+use Rattle.spec_sphere.specs.promises.Kept.{has_due}
 use Rattle.spec_protocol.proofs.Kept.One.{begun-same}
 use Rattle.dl_sphere.specs.SizedSpheres.{SizedSphere}
 use Rattle.dl_machine.specs.Ready.{IsReady}

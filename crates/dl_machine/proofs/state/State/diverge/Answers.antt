@@ -3,8 +3,8 @@ use Rattle.std.proofs.lemmas.Option.{same_Some}
 use Rattle.dl_entry.specs.declared.Actor.{Actor}
 use Rattle.spec_kernel.specs.Devices.{Devices}
 use Rattle.spec_play.specs.Progress.{position}
-use Rattle.spec_protocol.specs.machine.Spheres.{turn_against, Sphere, is_stopped}
-use Rattle.spec_protocol.specs.machine.Commits.{CommitOutcome, Granted, Piece, Diverged, MovedSphere, dma_moved}
+use Rattle.spec_sphere.specs.sphere.Spheres.{turn_against, Sphere, is_stopped}
+use Rattle.spec_sphere.specs.sphere.Commits.{CommitOutcome, Granted, Piece, Diverged, MovedSphere, dma_moved}
 use Rattle.spec_protocol.specs.machine.World.{World, sphere_at}
 use Rattle.spec_protocol.specs.machine.Transferring.{dma_with}
 use Rattle.dl_sphere.specs.declared.moved.Moved.{Moved}

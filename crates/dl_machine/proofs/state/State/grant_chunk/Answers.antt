@@ -5,11 +5,12 @@ use Rattle.dl_entry.specs.declared.CommitKind.{CommitKind}
 use Rattle.dl_entry.specs.declared.Point.{Point}
 use Rattle.spec_engine.specs.Flights.{at}
 use Rattle.spec_protocol.specs.declared.reply.Reply.{Reply}
-use Rattle.spec_protocol.specs.machine.Spheres.{turn_against, Sphere, is_stopped}
-use Rattle.spec_protocol.specs.machine.Commits.{MovedSphere}
+use Rattle.spec_sphere.specs.sphere.Spheres.{turn_against, Sphere, is_stopped}
+use Rattle.spec_sphere.specs.sphere.Commits.{MovedSphere}
+use Rattle.spec_engine.specs.Closing.{is_short}
 use Rattle.spec_protocol.specs.machine.World.{EventOutcome, Occupant, World, sphere_at, with_core}
 use Rattle.spec_protocol.specs.machine.Flying.{younger_of}
-use Rattle.spec_protocol.specs.machine.Asking.{asks_serial, grant_chunk, is_short, promoted}
+use Rattle.spec_protocol.specs.machine.Asking.{asks_serial, grant_chunk, promoted}
 use Rattle.dl_wbuf.specs.Buffers.{Words}
 use Rattle.dl_sphere.specs.declared.moved.Moved.{Moved}
 use Rattle.dl_sphere.specs.declared.moved.Moved.TheVariants as moved_as

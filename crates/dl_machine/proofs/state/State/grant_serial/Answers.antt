@@ -8,8 +8,8 @@ use Rattle.spec_kernel.specs.Devices.{Devices}
 use Rattle.spec_engine.specs.Flights.{at}
 use Rattle.spec_engine.specs.Signatures.{Signature, nothing, signed}
 use Rattle.spec_protocol.specs.declared.reply.Reply.{Reply}
-use Rattle.spec_protocol.specs.machine.Spheres.{turn_against, Sphere, is_stopped}
-use Rattle.spec_protocol.specs.machine.Commits.{MovedSphere, serial_moved}
+use Rattle.spec_sphere.specs.sphere.Spheres.{turn_against, Sphere, is_stopped}
+use Rattle.spec_sphere.specs.sphere.Commits.{MovedSphere, serial_moved}
 use Rattle.spec_protocol.specs.machine.World.{EventOutcome, World, moment, sphere_at, held_afresh, with_core}
 use Rattle.spec_protocol.specs.machine.Asking.{grant_serial}
 use Rattle.dl_sphere.specs.declared.moved.Moved.{Moved}

@@ -1,5 +1,5 @@
 use Rattle.std.proofs.Common.{◌≡◌, All, List, length, sym, ap, ◌∙◌, subst, arith}
-use Rattle.spec_protocol.specs.promises.Sound.{IsImage}
+use Rattle.spec_sphere.specs.promises.Sound.{IsImage}
 use Rattle.dl_sphere.specs.declared.setup.SphereSetup.{SphereSetup}
 use Rattle.dl_sphere.specs.Setups.{setup_of}
 use Rattle.dl_machine.specs.Rows.{Cores, Spheres}

@@ -1,7 +1,7 @@
 use Rattle.std.proofs.Common.{◌≡◌, ◌≤◌, max, false, Some, refl, sym, ap, ◌∙◌, subst, arith}
 use Rattle.std.specs.Prelude.{option_map}
 use Rattle.spec_engine.specs.Flights.{at}
-use Rattle.spec_protocol.specs.machine.Spheres.{is_stopped}
+use Rattle.spec_sphere.specs.sphere.Spheres.{is_stopped}
 use Rattle.spec_protocol.specs.machine.Stepping.{reply_of_step, stepping}
 use Rattle.spec_protocol.specs.machine.World.{World, sphere_at}
 use Rattle.dl_sphere.specs.Setups.{standard_in}

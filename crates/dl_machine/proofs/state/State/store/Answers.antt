@@ -1,8 +1,8 @@
 use Rattle.std.proofs.Common.{◌≡◌, None, false, sym, subst}
 use Rattle.dl_entry.specs.declared.Actor.{Actor}
 use Rattle.spec_kernel.specs.Devices.{Devices}
-use Rattle.spec_protocol.specs.machine.Spheres.{turn_against, Sphere, is_stopped}
-use Rattle.spec_protocol.specs.machine.Commits.{Granted, Diverged, dma_moved}
+use Rattle.spec_sphere.specs.sphere.Spheres.{turn_against, Sphere, is_stopped}
+use Rattle.spec_sphere.specs.sphere.Commits.{Granted, Diverged, dma_moved}
 use Rattle.spec_protocol.specs.machine.World.{World, sphere_at}
 use Rattle.dl_sphere.specs.declared.moved.Moved.{Moved}
 use Rattle.dl_sphere.specs.Moving.{came}

@@ -3,7 +3,7 @@ use Rattle.spec_strata.specs.Standing.{after_thread}
 use Rattle.spec_isa.specs.declared.thread.Parts.{Parts}
 use Rattle.spec_play.specs.Resuming.{IsBounded}
 use Rattle.spec_play.specs.States.{progress_from}
-use Rattle.spec_protocol.specs.promises.Sound.{IsSoundIf}
+use Rattle.spec_sphere.specs.promises.Sound.{IsSoundIf}
 use Rattle.dl_kernel.specs.States.{PlayState as State, state_in}
 use Rattle.dl_replay.specs.Following.{Following, followed}
 use Rattle.dl_replay.specs.Judged.{last_by}

@@ -2,7 +2,7 @@ use Rattle.std.proofs.Common.{◌<◌, length, option_map, ap, ◌∙◌, sym, s
 use Rattle.spec_strata.specs.Standing.{after_dma}
 use Rattle.spec_play.specs.Resuming.{IsBounded}
 use Rattle.spec_play.specs.States.{progress_from}
-use Rattle.spec_protocol.specs.promises.Sound.{IsSoundIf}
+use Rattle.spec_sphere.specs.promises.Sound.{IsSoundIf}
 use Rattle.dl_kernel.specs.States.{PlayState as State, state_in}
 use Rattle.dl_replay.specs.Following.{Following, followed}
 use Rattle.dl_replay.specs.Replays.{IsReplaying}

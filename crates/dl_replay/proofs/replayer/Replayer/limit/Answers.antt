@@ -1,5 +1,5 @@
 use Rattle.std.proofs.Common.{◌≡◌, ◌+◌, ◌≤◌, Bool, sym, subst, arith}
-use Rattle.spec_protocol.specs.machine.Spheres.{Replay}
+use Rattle.spec_sphere.specs.sphere.Spheres.{Replay}
 use Rattle.dl_replay.specs.Limits.{chunk_limit}
 use Rattle.dl_replay.specs.Following.{Following, cursor_of}
 use Rattle.dl_replay.proofs.Limits.{after-is, limit-few, limit-is}

@@ -1,6 +1,6 @@
 use Rattle.std.proofs.Common.{◌≡◌, ap, sym, ◌∙◌, Option}
 use Rattle.dl_entry.specs.declared.Actor.{Actor}
-use Rattle.spec_protocol.specs.machine.Spheres.{actor_of}
+use Rattle.spec_sphere.specs.sphere.Spheres.{actor_of}
 use Rattle.dl_mode.specs.Strata.{is_head, takes_at}
 use Rattle.dl_replay.specs.Following.{Following}
 use Rattle.dl_replay.proofs.Takes.{not-zero, takes-head, takes-now}

@@ -2,7 +2,7 @@ use Rattle.std.proofs.Common.{◌∙◌, ◌≡◌, ap}
 use Rattle.std.proofs.lemmas.Result.{IfOk-weaker}
 use Rattle.dl_account.specs.Account.{account_of}
 use Rattle.dl_account.specs.CommitLists.{commits_in}
-use Rattle.spec_protocol.specs.machine.Spheres.{Sphere}
+use Rattle.spec_sphere.specs.sphere.Spheres.{Sphere}
 use Rattle.spec_protocol.specs.declared.event.Event.{Event}
 use Rattle.std.proofs.Common.{List}
 use Rattle.spec_run.specs.Texts.{account_text}

@@ -1,6 +1,6 @@
 use Rattle.std.proofs.Common.{◌∙◌, ap, sym}
 use Rattle.spec_play.specs.Progress.{position}
-use Rattle.spec_protocol.specs.machine.Spheres.{Sphere}
+use Rattle.spec_sphere.specs.sphere.Spheres.{Sphere}
 use Rattle.spec_protocol.specs.machine.World.{sphere_at}
 use Rattle.dl_sphere.specs.Reading.{end_in}
 use Rattle.dl_entry.specs.declared.End.{End}

@@ -1,7 +1,7 @@
 use Rattle.std.proofs.Common.{◌∙◌, ◌<◌, ◌+◌, ◌++◌, ap, sym, arith, length, drop, List}
 use Rattle.std.proofs.lemmas.List.{append-nil, length-map}
 use Rattle.dl_entry.specs.declared.SphereLine.{SphereLine}
-use Rattle.spec_protocol.specs.machine.Machine.{SphereSetup}
+use Rattle.spec_sphere.specs.sphere.Setups.{SphereSetup}
 use Rattle.spec_run.specs.Runs.{executed}
 use Rattle.spec_run.specs.Texts.{lines_from}
 use Rattle.dl_sphere.specs.Setups.{setup_of}

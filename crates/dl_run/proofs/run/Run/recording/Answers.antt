@@ -2,9 +2,9 @@ use Rattle.std.proofs.Common.{◌∙◌, ◌≡◌, List, ap, refl, sym, subst}
 use Rattle.std.specs.Prelude.{IsSome, None, Some}
 use Rattle.std.proofs.lemmas.Result.{IfOk-weaker}
 use Rattle.spec_protocol.specs.declared.event.Event.{Event}
-use Rattle.spec_protocol.specs.machine.Machine.{RecordSetup, IsRecorded}
+use Rattle.spec_sphere.specs.sphere.Setups.{RecordSetup, IsRecorded}
 use Rattle.spec_protocol.specs.promises.Sound.{image_at}
-use Rattle.spec_protocol.specs.machine.Spheres.{Role, Sphere}
+use Rattle.spec_sphere.specs.sphere.Spheres.{Role, Sphere}
 use Rattle.spec_run.specs.Texts.{log_of_points}
 use Rattle.dl_sphere.specs.Reading.{log_in}
 use Rattle.dl_run.specs.Ran.{IsOver}

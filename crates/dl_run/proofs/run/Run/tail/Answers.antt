@@ -3,9 +3,9 @@ use Rattle.std.specs.Option.{IsSome}
 use Rattle.std.proofs.lemmas.Result.{IfOk-weaker}
 use Rattle.spec_log.specs.Log.{IsLog}
 use Rattle.spec_protocol.specs.declared.event.Event.{Event}
-use Rattle.spec_protocol.specs.machine.Machine.{EpochSetup, RecordSetup, IsRecorded}
-use Rattle.spec_protocol.specs.machine.Spheres.{Role, Sphere}
-use Rattle.spec_protocol.specs.promises.Alike.{epochs_in}
+use Rattle.spec_sphere.specs.sphere.Setups.{EpochSetup, RecordSetup, IsRecorded}
+use Rattle.spec_sphere.specs.sphere.Spheres.{Role, Sphere}
+use Rattle.spec_sphere.specs.promises.Alike.{epochs_in}
 use Rattle.spec_protocol.specs.promises.Sound.{image_at}
 use Rattle.spec_run.specs.Promise.{HasWords}
 use Rattle.spec_run.specs.Tails.{tail_of_points}

@@ -6,11 +6,11 @@ use Rattle.spec_isa.specs.Runs.{Run, run}
 use Rattle.spec_play.specs.Plays.{settled}
 use Rattle.spec_play.specs.Verdicts.{chunk_verdict, serial_verdict}
 use Rattle.spec_play.specs.Turns.{Turn}
-use Rattle.spec_protocol.specs.machine.Spheres.{whole_limit}
-use Rattle.spec_protocol.proofs.Moves.Threads.{run-keeps}
-use Rattle.spec_protocol.proofs.Sound.Limits.{whole-positive}
+use Rattle.spec_sphere.specs.sphere.Spheres.{whole_limit}
+use Rattle.spec_sphere.proofs.Moves.Threads.{run-keeps}
+use Rattle.spec_sphere.proofs.Sound.Limits.{whole-positive}
 use Rattle.spec_query.specs.Stores.{words_gone}
-use Rattle.spec_engine.specs.Flights.{AreInside}
+use Rattle.spec_isa.specs.Inside.{AreInside}
 use Rattle.spec_strata.specs.Footprints.{looks}
 use Rattle.dl_replay.specs.Following.{cursor_of}
 use Rattle.dl_serial.specs.declared.chunk.Chunk.{Chunk}

@@ -4,9 +4,9 @@ use Rattle.spec_isa.specs.Runs.{Run, run}
 use Rattle.spec_play.specs.Plays.{settled}
 use Rattle.spec_play.specs.Verdicts.{chunk_verdict, serial_verdict}
 use Rattle.spec_play.specs.Turns.{Turn}
-use Rattle.spec_protocol.specs.machine.Spheres.{whole_limit}
-use Rattle.spec_protocol.proofs.Moves.Threads.{run-keeps}
-use Rattle.spec_protocol.proofs.Sound.Limits.{whole-positive}
+use Rattle.spec_sphere.specs.sphere.Spheres.{whole_limit}
+use Rattle.spec_sphere.proofs.Moves.Threads.{run-keeps}
+use Rattle.spec_sphere.proofs.Sound.Limits.{whole-positive}
 use Rattle.spec_query.specs.Stores.{words_gone}
 use Rattle.dl_replay.specs.Following.{cursor_of}
 use Rattle.dl_serial.specs.declared.chunk.Chunk.{Chunk}

@@ -2,7 +2,7 @@ use Rattle.std.proofs.Common.{◌≡◌, Bool, List, None, IsTrue, sym, subst, a
 use Rattle.dl_entry.specs.declared.Actor.{Actor}
 use Rattle.spec_isa.specs.declared.thread.Load.{Load}
 use Rattle.spec_play.specs.declared.used.Used.{Used}
-use Rattle.spec_protocol.specs.machine.Spheres.{Replay, Sphere, turn_in}
+use Rattle.spec_sphere.specs.sphere.Spheres.{Replay, Sphere, turn_in}
 use Rattle.dl_replay.specs.Following.{Following, cursor_of}
 use Rattle.dl_sphere.specs.Played.{following_of}
 use Rattle.dl_sphere.proofs.player.Player.takes.Goals as goal

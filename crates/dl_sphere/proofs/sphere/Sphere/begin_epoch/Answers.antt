@@ -1,9 +1,9 @@
 use Rattle.std.proofs.Common.{◌≡◌, ◌-◌, ◌∙◌, drop, sym, ap, subst}
 use Rattle.spec_isa.specs.Words.{lays}
 use Rattle.spec_play.specs.Progress.{nothing_used}
-use Rattle.spec_protocol.specs.machine.Epochs.{epoch_begun, state_in}
-use Rattle.spec_protocol.specs.machine.Shown.{flying}
-use Rattle.spec_protocol.specs.machine.Spheres.{Sphere, Record}
+use Rattle.spec_sphere.specs.sphere.Epochs.{epoch_begun, state_in}
+use Rattle.spec_engine.specs.Flying.{flying}
+use Rattle.spec_sphere.specs.sphere.Spheres.{Sphere, Record}
 use Rattle.dl_kernel.specs.States.{state_in as seen_in}
 use Rattle.dl_kernel.specs.InOrder.{listed}
 use Rattle.dl_record.specs.Epochs as recorder

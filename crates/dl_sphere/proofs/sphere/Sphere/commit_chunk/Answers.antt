@@ -6,13 +6,13 @@ use Rattle.spec_isa.specs.declared.thread.Parts.{Parts}
 use Rattle.spec_log.specs.declared.LogParts.{LogParts}
 use Rattle.dl_entry.specs.declared.Commit.{Commit}
 use Rattle.spec_play.specs.Effects.{chunk_commit, counted}
-use Rattle.spec_protocol.specs.machine.Asking.{is_short}
-use Rattle.spec_protocol.specs.machine.Commits.{Granted, MovedSphere, is_piece, chunk_moved}
-use Rattle.spec_protocol.specs.machine.Spheres.{Sphere}
+use Rattle.spec_engine.specs.Closing.{is_short, is_piece}
+use Rattle.spec_sphere.specs.sphere.Commits.{Granted, MovedSphere, chunk_moved}
+use Rattle.spec_sphere.specs.sphere.Spheres.{Sphere}
 use Rattle.dl_kernel.specs.InOrder.{listed}
 use Rattle.dl_sphere.specs.declared.part.Part.{Part}
 use Rattle.dl_sphere.specs.Moving.{came, CanCommit}
-use Rattle.spec_protocol.proofs.Logs.Growing.{pushed_length}
+use Rattle.spec_sphere.proofs.Logs.Growing.{pushed_length}
 use Rattle.dl_sphere.specs.Roles.{Keeping, keeping_of, role_in, role_of, with_noted, IsLiveOf}
 use Rattle.dl_sphere.specs.Inside.{replayed_at, sphere_in}
 use Rattle.dl_sphere.specs.Pasts.{sphere_at, sphere_with}

@@ -5,10 +5,10 @@ use Rattle.dl_entry.specs.declared.Request.{Request}
 use Rattle.spec_log.specs.declared.LogParts.{LogParts}
 use Rattle.spec_kernel.specs.Answers.{dma_bytes}
 use Rattle.spec_play.specs.Effects.{dma_commit}
-use Rattle.spec_protocol.specs.machine.Commits.{Granted, MovedSphere, dma_moved}
-use Rattle.spec_protocol.specs.machine.Spheres.{Sphere}
-use Rattle.spec_protocol.specs.promises.Sound.{IsSoundIf}
-use Rattle.spec_protocol.proofs.Logs.Growing.{pushed_length}
+use Rattle.spec_sphere.specs.sphere.Commits.{Granted, MovedSphere, dma_moved}
+use Rattle.spec_sphere.specs.sphere.Spheres.{Sphere}
+use Rattle.spec_sphere.specs.promises.Sound.{IsSoundIf}
+use Rattle.spec_sphere.proofs.Logs.Growing.{pushed_length}
 use Rattle.dl_kernel.specs.InOrder.{listed}
 use Rattle.dl_sphere.specs.declared.part.Part.{Part}
 use Rattle.dl_sphere.specs.Inside.{sphere_in}

@@ -1,6 +1,6 @@
 use Rattle.std.proofs.Common.{◌≡◌, ◌≤◌, ◌∙◌, Some, sym, ap, subst}
 use Rattle.std.specs.Prelude.{slice_get}
-use Rattle.spec_protocol.specs.promises.Sound.{commits_if}
+use Rattle.spec_sphere.specs.promises.Sound.{commits_if}
 use Rattle.dl_replay.specs.Limits.{chunk_limit}
 use Rattle.dl_replay.specs.Following.{cursor_of}
 use Rattle.dl_sphere.specs.declared.part.Part.{Part}

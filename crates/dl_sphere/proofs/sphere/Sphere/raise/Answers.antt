@@ -2,9 +2,8 @@ use Rattle.std.proofs.Common.{◌≡◌, ◌∙◌, Some, sym, ap, subst, refl, 
 use Rattle.std.specs.Prelude.{slice_get}
 use Rattle.spec_isa.specs.declared.thread.Parts.{Parts}
 use Rattle.spec_kernel.specs.Interrupts.{interrupted}
-use Rattle.spec_protocol.specs.machine.Spheres.{Sphere, Role}
-use Rattle.spec_protocol.specs.machine.Commits.{raised, role_raised}
-use Rattle.spec_protocol.specs.machine.Placing.{replays}
+use Rattle.spec_sphere.specs.sphere.Spheres.{Sphere, Role, replays}
+use Rattle.spec_sphere.specs.sphere.Commits.{raised, role_raised}
 use Rattle.dl_kernel.specs.InOrder.{listed}
 use Rattle.dl_sphere.specs.Roles.{Keeping, keeping_of, role_in, role_of, with_raised, CanRaise, IsLive, IsLiveOf}
 use Rattle.dl_sphere.specs.Inside.{sphere_in}
@@ -12,7 +11,7 @@ use Rattle.dl_sphere.specs.Pasts.{sphere_with}
 use Rattle.dl_sphere.specs.SizedSpheres.{SizedSphere}
 use Rattle.dl_sphere.specs.Setups.{standard_in}
 use Rattle.dl_sphere.proofs.Standing.Sizes.{raised_size}
-use Rattle.spec_protocol.specs.promises.Kept.{has_due}
+use Rattle.spec_sphere.specs.promises.Kept.{has_due}
 use Rattle.dl_sphere.proofs.Begins.Due.{ready}
 use Rattle.dl_sphere.proofs.Standing.Moves.{can_raise, raised_stand, raised_role}
 use Rattle.dl_sphere.proofs.Replays.Limits.{alone, kept_live, live_role}

@@ -11,13 +11,13 @@ use Rattle.spec_kernel.specs.Needs.{need}
 use Rattle.spec_kernel.specs.Answers.{taken}
 use Rattle.spec_kernel.specs.Serving.{serve}
 use Rattle.spec_play.specs.Effects.{counted, serial_commit}
-use Rattle.spec_protocol.specs.machine.Spheres.{Sphere, Role}
+use Rattle.spec_sphere.specs.sphere.Spheres.{Sphere, Role}
 use Rattle.dl_kernel.specs.InOrder.{listed}
 use Rattle.dl_sphere.specs.declared.part.Part.{Part}
-use Rattle.spec_protocol.specs.machine.Commits.{Granted, MovedSphere, serial_moved}
-use Rattle.spec_protocol.specs.promises.Sound.{IsSoundIf}
-use Rattle.spec_protocol.proofs.Logs.Growing.{commits_if, pushed_length}
-use Rattle.spec_protocol.proofs.Moves.Threads.{serve-keeps}
+use Rattle.spec_sphere.specs.sphere.Commits.{Granted, MovedSphere, serial_moved}
+use Rattle.spec_sphere.specs.promises.Sound.{IsSoundIf, commits_if}
+use Rattle.spec_sphere.proofs.Logs.Growing.{pushed_length}
+use Rattle.spec_sphere.proofs.Moves.Threads.{serve-keeps}
 use Rattle.dl_kernel.specs.Calls.{spawned_list}
 use Rattle.dl_replay.proofs.Requests.{serve-request}
 use Rattle.dl_sphere.specs.Roles.{Keeping, keeping_of, role_in, role_of, most_of, with_noted, IsLiveOf}

@@ -1,6 +1,6 @@
 use Rattle.std.proofs.Common.{◌∙◌, sym, ap, subst}
 use Rattle.spec_log.proofs.Threads.{log-among}
-use Rattle.spec_protocol.specs.promises.Sound.{IsChunkSize}
+use Rattle.spec_sphere.specs.promises.Sound.{IsChunkSize}
 use Rattle.dl_sphere.specs.declared.part.Part.{Part}
 use Rattle.dl_sphere.specs.Roles.{role_in}
 use Rattle.dl_sphere.specs.Setups.{standard_in}

@@ -1,5 +1,5 @@
 use Rattle.std.proofs.Common.{◌≡◌, None, sym, subst, ap, ◌∙◌}
-use Rattle.spec_protocol.specs.machine.Spheres.{Role, turn_against, turn_in}
+use Rattle.spec_sphere.specs.sphere.Spheres.{Role, turn_against, turn_in}
 use Rattle.dl_sphere.specs.declared.part.Part.{Part}
 use Rattle.dl_sphere.specs.Roles.{role_in}
 use Rattle.dl_sphere.specs.SizedSpheres.{SizedSphere}

@@ -2,7 +2,7 @@ use Rattle.std.proofs.Common.{◌≡◌, sym, ap, subst, ◌∙◌, length}
 use Rattle.spec_play.specs.Resuming.{IsBounded}
 use Rattle.spec_play.specs.States as play
 use Rattle.spec_play.proofs.Bounds.{after-bounded}
-use Rattle.spec_protocol.specs.promises.Sound.{IsSoundIf}
+use Rattle.spec_sphere.specs.promises.Sound.{IsSoundIf}
 use Rattle.dl_kernel.specs.States.{PlayState as State, state_in}
 use Rattle.test_spheres.specs.Replaying.{IsFirst}
 use Rattle.test_spheres.proofs.tests.replaying.ended_in.Goals as goal

@@ -6,12 +6,12 @@ use Rattle.std.proofs.lemmas.Option.{slice_get_within}
 use Rattle.spec_isa.specs.declared.thread.Parts.{Parts}
 use Rattle.spec_engine.specs.declared.answers.How.{How}
 use Rattle.spec_engine.specs.Chunks.{Chunk}
-use Rattle.spec_protocol.specs.machine.Commits.{is_piece}
-use Rattle.spec_protocol.specs.machine.Placing.{replays}
+use Rattle.spec_engine.specs.Closing.{is_piece}
+use Rattle.spec_sphere.specs.sphere.Spheres.{replays}
 use Rattle.spec_play.specs.Turns.{TurnOrEnd, Turn}
-use Rattle.spec_protocol.specs.machine.Spheres.{Cursor, Sphere, Role, Plain, Record, Replay, limit_in, limit_of, pieces_of, whole_limit}
+use Rattle.spec_sphere.specs.sphere.Spheres.{Cursor, Sphere, Role, Plain, Record, Replay, limit_in, limit_of, pieces_of, whole_limit}
 use Rattle.dl_sphere.specs.Moving.{CanCommit, IsPartIn, IsTurnOf, MayCommit}
-use Rattle.spec_protocol.proofs.Moves.Joining.{joins-whole, pieces_none}
+use Rattle.spec_sphere.proofs.Moves.Joining.{joins-whole, pieces_none}
 use Rattle.test_spheres.proofs.tests.spheres.moves.commit_chunk.Invariants.{how_of}
 use Rattle.test_spheres.proofs.tests.spheres.moves.commit_chunk.Goals as goal
 

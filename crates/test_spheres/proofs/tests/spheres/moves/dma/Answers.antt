@@ -3,8 +3,8 @@ use Rattle.std.proofs.Common.{rules, ◌≡◌, Option, Some, refl, sym, subst}
 use Rattle.std.specs.Prelude.{IsSome}
 use Rattle.dl_entry.specs.declared.Request.{Request}
 use Rattle.spec_kernel.specs.Devices.{Devices}
-use Rattle.spec_protocol.specs.machine.Commits.{dma_in, dma_log, dma_moved, live_dma}
-use Rattle.spec_protocol.specs.machine.Spheres.{Sphere, Role, Plain, Record, Replay}
+use Rattle.spec_sphere.specs.sphere.Commits.{dma_in, dma_log, dma_moved, live_dma}
+use Rattle.spec_sphere.specs.sphere.Spheres.{Sphere, Role, Plain, Record, Replay}
 use Rattle.test_spheres.proofs.tests.spheres.moves.dma.Goals as goal
 
 some_in : (role : Role) (d : Devices) (p : Sphere) (q : Request) → p.progress.request ≡ Some q → IsSome (dma_in role d p)

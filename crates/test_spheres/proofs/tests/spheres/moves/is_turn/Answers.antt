@@ -3,8 +3,8 @@ use Rattle.std.proofs.Common.{rules, ◌≡◌, inl, false, Some, sym, ◌∙◌
 use Rattle.std.proofs.lemmas.Bool.{true≢false}
 use Rattle.dl_entry.specs.declared.Actor.{Actor}
 use Rattle.spec_play.specs.Turns.{TurnOrEnd, Turn, TurnOfDma, Ended}
-use Rattle.spec_protocol.specs.machine.Placing.{replays}
-use Rattle.spec_protocol.specs.machine.Spheres.{Sphere, Role, Plain, Record, Replay, actor_of, head_in, head_of}
+use Rattle.spec_sphere.specs.sphere.Spheres.{replays}
+use Rattle.spec_sphere.specs.sphere.Spheres.{Sphere, Role, Plain, Record, Replay, actor_of, head_in, head_of}
 use Rattle.dl_sphere.specs.Moving.{IsTurnOf}
 use Rattle.test_spheres.proofs.tests.spheres.moves.is_turn.Goals as goal
 use Rattle.test_spheres.proofs.tests.spheres.moves.is_turn.Goals.{then-not-replays, else-not-replays}

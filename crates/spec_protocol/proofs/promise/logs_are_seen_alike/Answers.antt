@@ -1,5 +1,0 @@
-use Rattle.spec_protocol.proofs.Logs.SeenAlike.{seen_alike}
-use Rattle.spec_protocol.proofs.promise.logs_are_seen_alike.Goals as goal
-
-pub returns : goal.returns
-returns c = seen_alike

@@ -1,5 +1,0 @@
-use Rattle.spec_protocol.proofs.Moves.AsRecorded.{plain_moves}
-use Rattle.spec_protocol.proofs.promise.plain_moves_as_recorded.Goals as goal
-
-pub returns : goal.returns
-returns c = plain_moves

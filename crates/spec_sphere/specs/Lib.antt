@@ -1,0 +1,2 @@
+pub mod sphere
+pub mod promises

@@ -1,0 +1,58 @@
+"""docs/answers.md, from the texts of rules.py: `page()` gives it whole."""
+
+from explain.rules import IMAGE, LOG, OTHERS, PLAN, SCRIPT, SOURCE, STRATA
+
+INTRODUCTION = """# Answers
+
+What each answer of `delorean` means, and what to do. The [manual](delorean.1.md#exit-status) has the same by status.
+
+If standard error is a terminal, `bin/delorean` adds a sentence or two after a status other than 0 and 1. They name the key, the
+word, the byte or the file, as far as that can be found:
+
+    $ delorean run plan.toml
+    refused plan 4
+    delorean: plan.toml, line 1: `cores` is 9, but it has to be 1 to 8.
+
+The line on standard output and the status are the program's own, and never change. Everything else goes to standard error alone.
+`DELOREAN_EXPLAIN=1` in the environment adds the sentences also if standard error isn't a terminal, for example in a script, and
+`DELOREAN_EXPLAIN=0` leaves them out everywhere.
+
+They are found by Python code in `explain/`, which isn't proved. It reads the words and the files once more, by rules that are
+written down a second time there, and writes nothing. If it doesn't come to the program's answer, only what is certain is said:
+the rule in words, as it is here. The same goes for a file that came through a pipe, or is too large to read in some seconds. The
+program's line is known only if standard output is a file. Otherwise the status alone is compared, so a file that has changed since
+the program read it is explained as it is now.
+"""
+
+SECTIONS = (
+    ("Plans", "`refused plan RULE`, status 3. RULE is the first rule that the whole plan breaks.", "RULE", PLAN),
+    ("Images", "`refused image SPHERE RULE`, status 4.", "RULE", IMAGE),
+    ("Logs and tails", "`refused log SPHERE NUMBER OFFSET`, status 5. OFFSET is the first byte of the field or entry that isn't\n"
+     "good; with 1 it is the length of the file. A tail is refused in the same way, by `tail`.", "NUMBER", LOG),
+    ("Strata", "`refused strata SPHERE NUMBER OFFSET`, status 5. With 8 and 9 the last number is that of a commit.",
+     "NUMBER", STRATA),
+    ("Scripts", "`refused script LINE`, status 5. LINE is the first wrong line.", "", {"": SCRIPT}),
+    ("Sources", "`refused source LINE RULE`, status 9. LINE is the first line that breaks a rule.", "RULE", SOURCE),
+)
+COLUMNS = ["What is wrong", "What to do"]
+LINES = {2: "`usage`", 6: "`fault NAME`", 7: "what got through", 8: "nothing, or a beginning", 10: "`absent NAME`"}
+
+ENDING = """A replay that diverges isn't an error: its status is 1, and the [reasons](delorean.1.md#reasons-to-diverge) are in the
+manual.
+"""
+
+
+def page():
+    parts = [INTRODUCTION]
+    for title, text, number, rules in SECTIONS:
+        columns = [number, *COLUMNS] if number else COLUMNS
+        rows = [[str(n), *rule] if number else rule for n, rule in rules.items()]
+        parts.append("## %s\n\n%s\n\n%s" % (title, text, table(columns, rows)))
+    rows = [[str(status), LINES[status], *rule] for status, rule in OTHERS.items()]
+    parts.append("## Other answers\n\n" + table(["Status", "Line", *COLUMNS], rows))
+    return "\n".join([*parts, ENDING])
+
+
+def table(columns, rows):
+    head, *lines = ("| %s |\n" % " | ".join(line) for line in [columns, *rows])
+    return head + "|" + len(columns) * "---|" + "\n" + "".join(lines)
