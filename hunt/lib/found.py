@@ -57,14 +57,16 @@ class Folder:
             return False
 
     def clear(self):
-        """Takes away what an earlier find has left, and the folder if that was all."""
+        """Takes away what an earlier find has left, and the folder if that was all. Else it stays known."""
         if not self.is_known():
             return
         names = json.loads((self.path / RESULT).read_text()).get("files", [])
         for name in {*names, LOG, PICTURE, PLAN, *REPLAYED, RESULT}:
             if Path(name).name == name:
                 (self.path / name).unlink(missing_ok=True)
-        if not any(self.path.iterdir()):
+        if any(self.path.iterdir()):
+            (self.path / RESULT).write_text(json.dumps({"written by": "delorean-find", "files": [RESULT]}) + "\n")
+        else:
             self.path.rmdir()
 
     def write(self, image, files, result):
