@@ -166,7 +166,8 @@ class Folders(InScratch):
         self.assertFalse((self.out / "account.elf").exists())
         self.assertEqual((self.out / "mine.txt").read_text(), "mine")
         self.assertEqual(self.found("account-mended.elf")[0], 0)
-        self.assertEqual([path.name for path in self.out.iterdir()], ["mine.txt"])
+        self.assertEqual(sorted(path.name for path in self.out.iterdir()), ["found.json", "mine.txt"])
+        self.assertEqual(self.found("account.elf")[0], 1)
 
     def test_others_folder(self):
         self.out.mkdir()
