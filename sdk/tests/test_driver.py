@@ -45,6 +45,14 @@ class Driver(Case):
         (self.at / "a.toml").write_text(with_lines(plan, {"memory": made.memory - 4096}))
         self.assertIn("refused image 0 10", call(program(), "run", self.at / "a.toml").stdout)
 
+    def test_same_bytes_each_time(self):
+        hello = self.written(HELLO)
+        images = []
+        for _ in range(2):
+            image(self.at, hello)
+            images.append((self.at / "a.elf").read_bytes())
+        self.assertEqual(images[0], images[1])
+
     def test_several_sources(self):
         """Compiled apart, from names with spaces, with a header in a folder, and called by a link from elsewhere."""
         one = self.written('#include "number.h"\nint number(void) { return NUMBER + MORE; }\n', "the one.c")
