@@ -8,7 +8,7 @@ from all_ends import met_ends
 from lib.conditions import read_condition
 from lib.engine import Options
 from lib.symbols import Names
-from small_programs import CODE_OF_THREAD, LR, OWN, SC, SPAWN, add, addi, atomic, beq, call, lw, slli, sw
+from small_programs import CODE_OF_THREAD, LR, OWN, SC, SPAWN, add, addi, atomic, beq, bne, call, lw, slli, sw
 from test_search import CAN_BUILD, NO_COMPILER, searched
 from test_search_states import A, ANSWER, B, BUFFER, DELAY, ENDS, HANDLER, IRET, REQUEST, SEEN, SPAWNS, laid, sets
 
@@ -71,17 +71,17 @@ class Keys(unittest.TestCase):
 
     def test_reservation(self):
         ends = self.met([*SPAWNS, *sets(A, 1), *sets(A, 0), *ENDS],
-                        [lw(7, A), addi(6, 0, OWN), beq(7, 0, 8), atomic(LR, 9, 6, 0), addi(7, 0, 0), lw(9, B), atomic(SC, 8, 6, 0),
-                         sw(8, ANSWER), *ENDS])
+                        [lw(7, A), addi(6, 0, OWN), slli(7, 7, 2), add(6, 6, 7), atomic(LR, 9, 6, 0), *CLEARED, lw(9, B),
+                         addi(6, 0, OWN + 4), atomic(SC, 8, 6, 0), sw(8, ANSWER), *ENDS])
         self.assertEqual({end[3] for end in ends}, {0, 1})
 
     def test_age_of_a_reservation(self):
-        """After a delay of 2,000 steps another one of 2,100 is too long for a chunk; and a chunk may end in any order."""
-        delay = [addi(9, 0, 1050), addi(9, 9, -1), *DELAY[2:]]
+        """Two delays of more than 2,000 steps are too long for a chunk, and without the first one the SC succeeds."""
+        delay = [addi(9, 0, 1050), *DELAY[1:]]
         met = met_ends(laid([*SPAWNS, *sets(A, 1), *sets(A, 0), *ENDS],
-                            [addi(6, 0, OWN), atomic(LR, 9, 6, 0), lw(7, A), *if_seen(DELAY), addi(7, 0, 0), addi(9, 0, 0),
+                            [addi(6, 0, OWN), atomic(LR, 9, 6, 0), lw(7, A), bne(7, 0, 16), *delay, addi(7, 0, 0), addi(9, 0, 0),
                              lw(5, B), *delay, atomic(SC, 8, 6, 0), sw(8, ANSWER), *ENDS]))
-        self.assertEqual(met[1], {(0, 0, 0, 0): 0, (0, 0, 0, 1): 1})
+        self.assertEqual(met[1], {(0, 0, 0, 0): 1, (0, 0, 0, 1): 0})
 
     def test_exit_code(self):
         image = laid([*SPAWNS, *sets(A, 1), *sets(A, 0), lw(9, B), *ENDS], [lw(10, A), *call(0)])
@@ -103,8 +103,17 @@ class Interrupts(unittest.TestCase):
         self.assertEqual(self.met([addi(5, 0, 0), sw(5, SEEN)], [addi(5, 0, 1)], 1), {0, 1})
 
     def test_which_have_come(self):
-        """The first one changes nothing, and the second one comes only after it."""
-        self.assertEqual(self.met([], [addi(10, 10, -1), beq(10, 0, 12), addi(9, 0, 7), sw(9, SEEN)], 1, 2), {0, 7})
+        """The first one changes nothing, and the second one, which comes after it, only something if x5 is set."""
+        self.assertEqual(self.met([addi(17, 0, IRET), addi(5, 0, 1), addi(0, 0, 0), addi(0, 0, 0)],
+                                  [addi(10, 10, -1), beq(10, 0, 16), beq(5, 0, 12), addi(9, 0, 7), sw(9, SEEN)], 1, 2), {0, 7})
+
+    def test_handler(self):
+        """Thread 1 has a handler only if it sees A set. It does something only later."""
+        sets_handler = [addi(10, 0, 2 * CODE_OF_THREAD), *call(HANDLER)]
+        how, met, _ = met_ends(laid([*SPAWNS, *sets(A, 1), *sets(A, 0), *ENDS],
+                                    [lw(7, A), *if_seen(sets_handler), *CLEARED, lw(9, B), addi(5, 0, 1), addi(0, 0, 0), *ENDS],
+                                    [beq(5, 0, 8), sw(10, SEEN), *call(IRET)]), Options(steps=100000, raises=((1, 5),)))
+        self.assertEqual((how, {end[2] for end in met}), ("all", {0, 5}))
 
     def test_masked(self):
         """Whoever leaves a handler without IRET gets no interrupt any more."""
@@ -113,33 +122,58 @@ class Interrupts(unittest.TestCase):
 
 @unittest.skipUnless(CAN_BUILD, NO_COMPILER)
 class Places(unittest.TestCase):
-    def ends(self, *threads):
-        how, met, _ = met_ends(laid(*threads))
-        self.assertEqual(how, "all")
+    def ends(self, *threads, **options):
+        how, met, hang = met_ends(laid(*threads), Options(steps=100000, **options))
+        self.assertEqual((how, hang), ("all", False))
         return set(met)
 
-    def test_spawn(self):
-        """Who spawns first gets the lesser number."""
-        spawns = calls(SPAWN, 2 * CODE_OF_THREAD, 0, 0)
-        ends = self.ends([*SPAWNS, *spawns, *SAW], [*spawns, sw(10, ANSWER), *ENDS], [*ENDS])
-        self.assertEqual({end[2:4] for end in ends}, {(2, 3), (3, 2)})
-
-    def test_exit_and_fault(self):
-        """2: a thread was left between its store and its end."""
-        for end in (ENDS, [0]):
-            asks = [lw(9, A), addi(10, 0, 1), *call(HAS_ENDED), slli(9, 9, 1), add(10, 10, 9), *SAW]
-            how, met, _ = met_ends(laid([*SPAWNS, *asks], [*sets(A, 1), *end]))
-            self.assertEqual((how, {seen for _, _, seen, _ in met}), ("all", {0, 1, 2, 3}))
+    def parted(self, does, asks, first, second, **options):
+        """Thread 1 sets A, and then does something. Thread 0 may ask between the two; or thread 1 does both before thread 0 asks,
+        and after it has looked at A. The answers: thread 0's and thread 1's, if thread 0 is the first one and if it is the second."""
+        ends = self.ends([*SPAWNS, lw(9, A), *asks, sw(9, B), *SAW], [*sets(A, 1), *does, sw(10, ANSWER), *ENDS], [*ENDS], **options)
+        self.assertIn((1, 1, *first), ends)
+        self.assertIn((1, 0, *second), ends)
 
     def test_calls(self):
-        """Each is done by two threads, and who does it first gets another answer."""
-        for asks in call(CLOCK), calls(REQUEST, BUFFER, 4), [*calls(RANDOM, OWN, 1), lw(10, OWN)]:
-            ends = self.ends([*SPAWNS, *asks, *SAW], [*asks, sw(10, ANSWER), *ENDS])
-            self.assertGreater(len({end[2:4] for end in ends}), 1)
+        spawns = calls(SPAWN, 2 * CODE_OF_THREAD, 0, 0)
+        self.parted(call(CLOCK), call(CLOCK), (64, 128), (128, 64))
+        self.parted(calls(REQUEST, BUFFER, 4), calls(REQUEST, BUFFER, 4), (0, REFUSED), (REFUSED, 0))
+        self.parted(calls(WRITE, PIPE, OWN, 1), calls(READ, PIPE, OWN + 4, 1), (NOTHING_NOW, 1), (1, 1))
+        self.parted(calls(READ, PIPE, OWN, 1), calls(WRITE, PIPE, OWN + 4, 1), (1, 1), (1, NOTHING_NOW))
+        self.parted([*ENDS], calls(HAS_ENDED, 1), (0, 0), (1, 0))
+        self.parted([0], calls(HAS_ENDED, 1), (0, 0), (1, 0))
+        ends = self.ends([*SPAWNS, lw(9, A), *spawns, sw(9, B), *SAW], [*sets(A, 1), *spawns, sw(10, ANSWER), *ENDS], [*ENDS])
+        self.assertTrue({(1, 1, 2, 3), (1, 0, 3, 2)} <= {end[:4] for end in ends})
 
-    def test_pipe(self):
-        ends = self.ends([*SPAWNS, *calls(READ, PIPE, B, 1), *SAW], [*calls(WRITE, PIPE, OWN, 1), *ENDS])
-        self.assertEqual({end[2] for end in ends}, {1, NOTHING_NOW})
+    def test_outside(self):
+        with tempfile.NamedTemporaryFile() as given:
+            given.write(b"ab")
+            given.flush()
+            reads = [[*calls(READ, INPUT, at, 1), lw(10, at)] for at in (OWN, OWN + 4)]
+            self.parted(*reads, (ord("a"), ord("b")), (ord("b"), ord("a")), input=given.name)
+        draws = [[*calls(RANDOM, at, 1), lw(10, at)] for at in (OWN, OWN + 4)]
+        (alone,) = self.ends([*draws[0], sw(10, A), *draws[0], *SAW])
+        first, second = alone[0], alone[2]
+        self.parted(*draws, (first, second), (second, first))
+
+    def test_ends_that_are_waited_for(self):
+        """A thread that is known to wait goes on once what it asks for is there."""
+        ends = self.ends([*SPAWNS, *calls(HAS_ENDED, 1), beq(10, 0, -12), *SAW], [lw(9, A), *ENDS])
+        self.assertEqual({end[2] for end in ends}, {1})
+        ends = self.ends([*SPAWNS, *calls(READ, PIPE, OWN, 1), addi(9, 0, 1), bne(10, 9, -24), *SAW],
+                         [lw(9, A), *calls(WRITE, PIPE, OWN + 4, 1), *ENDS])
+        self.assertEqual({end[2] for end in ends}, {1})
+
+    def test_device(self):
+        moment = [0xF0000000 | 6 << 7 | 0x37, 0x2003 | 10 << 7 | 6 << 15]  # lui and lw
+        self.parted(moment, moment, (64, 128), (128, 64))
+
+    def test_changed_code(self):
+        """Thread 1 makes the 1 that thread 0 loads a 2, maybe after thread 0 has looked at A."""
+        changed, other = 4 * (len(SPAWNS) + 1), 2 * CODE_OF_THREAD
+        ends = self.ends([*SPAWNS, lw(9, A), addi(10, 0, 1), sw(9, B), *SAW], [*sets(A, 1), lw(7, other), sw(7, changed), *ENDS],
+                         [addi(10, 0, 2)])
+        self.assertEqual({end[1:3] for end in ends}, {(0, 1), (0, 2), (1, 1), (1, 2)})
 
     def test_dma(self):
         """The DMA clears the word before the thread loads it, or after that."""
