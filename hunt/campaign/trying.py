@@ -19,6 +19,7 @@ from .program import Failed, Runner
 
 GOOD, BAD, LIVE, HUNG = range(4)
 OUTCOMES = ("good", "bad", "live", "hung")
+TOLD = {"exit", "fault", "hang", "stuck", "word", "is", "has"}  # kinds of conditions that an account meets, or doesn't
 MORE = 4  # times the events of the try before
 CALLS = 3  # of a run that a signal ends
 
@@ -44,9 +45,16 @@ def condition_of(campaign):
         raise Refused("refused image %d %d" % (campaign.plan.number, *error.args)) from None
     except NoWord as error:
         raise Refused("%s: %s" % error.args) from None
-    if "epoch" in sphere and any(atom.kind in ("is", "has") for case in condition for atom in case):
-        raise Refused("a recording in epochs doesn't keep the whole console: leave out epoch and keep")
+    check_kinds({atom.kind for case in condition for atom in case}, sphere)
     return image, condition
+
+
+def check_kinds(kinds, sphere):
+    """Refuses what an account, or that of the last part of a recording, doesn't tell."""
+    if not kinds <= TOLD:
+        raise Refused("an account tells how a run ended, and not what came before: search and shrink look at each moment")
+    if "epoch" in sphere and kinds & {"is", "has"}:
+        raise Refused("a recording in epochs doesn't keep the whole console: leave out epoch and keep")
 
 
 class Trier:

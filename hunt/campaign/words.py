@@ -19,6 +19,7 @@ the plan writes is written.
 EPILOG = """\
 CONDITION, of a bad end:
 %s
+A campaign looks at ends alone, so `ever` is for search and shrink.
 
 KEY: %s. VALUES are numbers and ranges, as 16,32 or 1-4.
 

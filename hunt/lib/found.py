@@ -2,6 +2,7 @@
 has files and isn't known is left as it is."""
 
 import json
+import os
 from pathlib import Path
 import shutil
 
@@ -44,6 +45,8 @@ class Folder:
             raise Refused("%s is there, and isn't a folder" % self.path)
         if not self.path.parent.is_dir():
             raise Refused("%s: there is no such folder" % self.path.parent)
+        if not os.access(self.path if self.path.exists() else self.path.parent, os.W_OK | os.X_OK):
+            raise Refused("%s: nothing can be written there" % self.path)
         if self.path.is_dir() and any(self.path.iterdir()) and not self.is_known():
             raise Refused("%s has files that delorean-find hasn't written: give another folder by --out" % self.path)
 
@@ -54,14 +57,16 @@ class Folder:
             return False
 
     def clear(self):
-        """Takes away what an earlier find has left, and the folder if that was all."""
+        """Takes away what an earlier find has left, and the folder if that was all. Else it stays known."""
         if not self.is_known():
             return
         names = json.loads((self.path / RESULT).read_text()).get("files", [])
         for name in {*names, LOG, PICTURE, PLAN, *REPLAYED, RESULT}:
             if Path(name).name == name:
                 (self.path / name).unlink(missing_ok=True)
-        if not any(self.path.iterdir()):
+        if any(self.path.iterdir()):
+            (self.path / RESULT).write_text(json.dumps({"written by": "delorean-find", "files": [RESULT]}) + "\n")
+        else:
             self.path.rmdir()
 
     def write(self, image, files, result):

@@ -1,10 +1,11 @@
-"""What comes of a thread that is left between two stores, or between a store and a load: `early_looks(trace)`, `overwritten(trace)`,
-and `taken_over(trace, stale)`."""
+"""What comes of a thread that is left between two stores, or between a store and a load: `early_looks(trace)`, `early_at_end(trace)`,
+`overwritten(trace)`, and `taken_over(trace, load, until)`."""
 
 from bisect import bisect_right
 from collections import namedtuple
 
 from . import isa
+from .loops import next_store
 from .whatif import Otherwise
 from .words import bits_of, shared_words
 
@@ -46,6 +47,24 @@ def early_looks(trace):
                 if early:
                     found.setdefault((trace.context(pair[0]), early.second[1].step), early)
     return sorted(found.values(), key=lambda early: early.load[1].step)
+
+
+def early_at_end(trace):
+    """Looks that were too early for a store that the log doesn't have any more, as (Early, the Trace of the log that is longer by it).
+    Each live thread goes on alone to its next store, and that is walked."""
+    if trace.longer is None or trace.end[0] != "complete":
+        return []
+    found = []
+    for k, thread in enumerate(trace.machine.threads):
+        commits = next_store(trace.machine, k, trace.log.s, _words_of_others(trace, k)) if thread.live() else None
+        if commits:
+            longer = trace.longer([(k, *commit) for commit in commits])
+            found += [(early, longer) for early in early_looks(longer) if early.second[0].number >= len(trace.commits)]
+    return found
+
+
+def _words_of_others(trace, k):
+    return {a.addr & ~3 for commit in trace.commits if commit.actor != k for a in trace.accesses_of(commit)}
 
 
 def _early(trace, shared, stores, load):

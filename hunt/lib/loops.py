@@ -1,7 +1,9 @@
-"""Whether a thread waits: `loop_of(machine, k)` lets it go on alone until it is back in a state in which it was."""
+"""A thread goes on alone: `loop_of(machine, k, standard)` until it is back in a state in which it was, so it waits; and
+`next_store(machine, k, standard, words)` until it has stored to one of the words."""
 
 from collections import namedtuple
 
+from . import isa
 from .logs import Input
 from .machine import NOTHING, READ, WRITE
 
@@ -13,7 +15,7 @@ MOST_STEPS = 50_000
 Loop = namedtuple("Loop", "before commits accesses calls changed")
 
 
-class _Alone:
+class Alone:
     """A thread that goes on alone. Its instructions are cut into commits as a log would have them."""
 
     def __init__(self, machine, k, standard):
@@ -64,7 +66,7 @@ def loop_of(machine, k, standard):
     """The Loop of a live thread, or None if it doesn't come back within 50,000 steps. The machine is left as it was."""
     mark = machine.mark()
     try:
-        return _loop(_Alone(machine, k, standard))
+        return _loop(Alone(machine, k, standard))
     finally:
         machine.back(mark)
 
@@ -87,3 +89,20 @@ def _loop(alone):
 def _made(alone, commits, accesses, calls):
     return Loop(alone.commits[:commits], alone.commits[commits:], alone.machine.accesses[accesses:], alone.calls[calls:],
                 sorted(alone.changed))
+
+
+def next_store(machine, k, standard, words):
+    """The commits in which a live thread comes to its next store to one of the words, as (size, Input or None); None if it doesn't
+    within 50,000 steps, or asks for an answer before. The machine is left as it was."""
+    mark, alone = machine.mark(), Alone(machine, k, standard)
+    try:
+        for _ in range(MOST_STEPS):
+            done = len(machine.accesses)
+            if not alone.step():
+                return None
+            if any(a.kind in isa.STORES and a.addr & ~3 in words for a in machine.accesses[done:]):
+                alone.cut()
+                return alone.commits
+        return None
+    finally:
+        machine.back(mark)

@@ -45,6 +45,8 @@ def covered(result):
     if result.limited:
         yield "no failure in %s, but what comes after them isn't covered" % counted(result.tries, "run")
         yield "%s came to the limit of steps (--steps)" % counted(result.limited, "run")
+        if result.how not in ("all", "bound"):
+            yield "%s with %d forced" % (why_it_ended(result), result.bound)
     elif result.how == "all":
         done = bound_done(result)
         yield "no order fails, with however many switches: all states were met, %d in %s" % (done.states, counted(result.tries, "run"))

@@ -6,7 +6,7 @@ import tempfile
 
 from . import isa
 from .account import Differs, NotWalked
-from .halfway import Early, Overwritten, early_looks, overwritten, taken_over
+from .halfway import Early, Overwritten, early_at_end, early_looks, overwritten, taken_over
 from .hangs import hang_lines
 from .stacks import stack_lines
 from .telling import place, what_served
@@ -110,12 +110,14 @@ def explained(image, memory, log, is_hang=False):
 
 def switch_lines(trace):
     """Two lines for each switch at which a load became stale and was used, or at which others saw what was half done. If there are
-    none, those at which the load had been announced, or a thread found another value than its own. None at all: []."""
+    none, those at which the load had been announced, or a thread found another value than its own; or else those at which others saw
+    what would be done only after the log's end. None at all: []."""
     stale = stale_uses(trace)
     known = {s.load[1].step for s in stale}
     first = [s for s in stale if not s.is_announced] + [e for e in early_looks(trace) if e.load[1].step not in known]
     told = sorted(first or stale + overwritten(trace), key=lambda found: found.load[1].step)
-    return [line for found in told[:MOST_TOLD] for line in _TELL[type(found)](trace, found)] + _more(told)
+    lines = [line for found in told[:MOST_TOLD] for line in _TELL[type(found)](trace, found)] + _more(told)
+    return lines or [line for early, longer in early_at_end(trace) for line in _early_lines(longer, early, "after the log's end")]
 
 
 def _more(told):
@@ -126,8 +128,8 @@ def _who(trace, pair):
     return context_name(trace.context(pair[0]))
 
 
-def _at(trace, pair):
-    return ", ".join(filter(None, ("commit %d" % pair[0].number, place(trace, pair[1].pc))))
+def _at(trace, pair, when=None):
+    return ", ".join(filter(None, (when or "commit %d" % pair[0].number, place(trace, pair[1].pc))))
 
 
 def _value(access):
@@ -149,11 +151,11 @@ def _stale_lines(trace, stale):
             _value(own[1]))
 
 
-def _early_lines(trace, early):
+def _early_lines(trace, early, when=None):
     first, load, second = early.first, early.load, early.second
     yield "%s is left after it stores %s to %s (%s), before it stores %s to %s (%s)," % (
         _who(trace, first), _value(first[1]), trace.names.name(first[1].addr), _at(trace, first), _value(second[1]),
-        trace.names.name(second[1].addr), _at(trace, second))
+        trace.names.name(second[1].addr), _at(trace, second, when))
     yield "    and %s loads %s from there too early (%s): it %s" % (
         _who(trace, load), _value(load[1]), _at(trace, load), _use(trace, early.use))
 

@@ -7,6 +7,7 @@ import importlib.util
 import io
 import json
 import os
+import re
 import shutil
 import subprocess
 import tempfile
@@ -16,11 +17,17 @@ from unittest import mock
 
 import support
 from lib.account import program
+from test_guide import HAS_LINES
 
 CAN_BUILD = shutil.which(os.environ.get("CC", "cc")) is not None
 IMAGES, EXAMPLES = support.TOP / "hunt/tests/images", support.TOP / "sdk/examples"
 LEFT_OUT = "hunt/find, since there is no C compiler for its engine, or the proved program isn't built"
+NO_LINES = "what hunt/find says of source lines, since pyelftools isn't there"
 NO_CROSS_COMPILER = "hunt/find of sources, since there is no compiler for RISC-V"
+
+
+def without_counts(text):
+    return re.sub(r"in \d+ runs?, \d+\.\d\d s", "in .. runs", text)
 
 
 def find(*words):
@@ -43,8 +50,9 @@ class InScratch(unittest.TestCase):
         return find(IMAGES / name, "--out", self.out, *words)
 
 
+@unittest.skipUnless(HAS_LINES, NO_LINES)
 @unittest.skipUnless(CAN_BUILD and support.can_walk(), LEFT_OUT)
-class Found(InScratch):
+class Lines(InScratch):
     def test_what_is_told(self):
         status, said, _ = self.found("account.elf")
         self.assertEqual(status, 1)
@@ -54,22 +62,6 @@ class Found(InScratch):
         order = said.partition("the order:")[2]
         self.assertEqual(order.count("-- forced switch: it could have gone on"), 1)
         self.assertRegex(order, r"loads +balance +\w+ +add, account.c:12\n +-- forced")
-
-    def test_files(self):
-        self.found("account.elf")
-        files = {path.name for path in self.out.iterdir()}
-        self.assertEqual(files, {"account.elf", "found.log", "found.html", "found.json", "replay.toml"})
-        self.assertEqual((self.out / "account.elf").read_bytes(), (IMAGES / "account.elf").read_bytes())
-
-    def test_replayed_on_one_core_and_on_eight(self):
-        self.found("account.elf")
-        memory = next(line.split()[2] for line in (self.out / "replay.toml").read_text().splitlines() if line.startswith("memory"))
-        walked = subprocess.run([*program(), "walk", "account.elf", memory, "found.log"], cwd=self.out, capture_output=True).stdout
-        plan = (self.out / "replay.toml").read_text()
-        for cores in (4, 1, 8):
-            (self.out / "replay.toml").write_text(plan.replace("cores = 4", "cores = %d" % cores))
-            subprocess.run([*program(), "run", "replay.toml"], cwd=self.out, check=True, stdout=subprocess.DEVNULL)
-            self.assertEqual((self.out / "replayed.account").read_bytes(), walked)
 
     def test_locks_of_a_circle(self):
         status, said, _ = self.found("deadlock.elf")
@@ -86,6 +78,25 @@ class Found(InScratch):
                       "(replace, usedafterfree.c:25)\n", said)
         self.assertRegex(said, r"frees +block of usedafterfree.c:13 +replace, usedafterfree.c:25\n")
 
+
+@unittest.skipUnless(CAN_BUILD and support.can_walk(), LEFT_OUT)
+class Found(InScratch):
+    def test_files(self):
+        self.found("account.elf")
+        files = {path.name for path in self.out.iterdir()}
+        self.assertEqual(files, {"account.elf", "found.log", "found.html", "found.json", "replay.toml"})
+        self.assertEqual((self.out / "account.elf").read_bytes(), (IMAGES / "account.elf").read_bytes())
+
+    def test_replayed_on_one_core_and_on_eight(self):
+        self.found("account.elf")
+        memory = next(line.split()[2] for line in (self.out / "replay.toml").read_text().splitlines() if line.startswith("memory"))
+        walked = subprocess.run([*program(), "walk", "account.elf", memory, "found.log"], cwd=self.out, capture_output=True).stdout
+        plan = (self.out / "replay.toml").read_text()
+        for cores in (4, 1, 8):
+            (self.out / "replay.toml").write_text(plan.replace("cores = 4", "cores = %d" % cores))
+            subprocess.run([*program(), "run", "replay.toml"], cwd=self.out, check=True, stdout=subprocess.DEVNULL)
+            self.assertEqual((self.out / "replayed.account").read_bytes(), walked)
+
     def test_json(self):
         status, said, _ = self.found("deadlock.elf", "--json")
         told = json.loads(said)
@@ -93,6 +104,22 @@ class Found(InScratch):
         self.assertEqual([t["function"] for t in told["found"]["threads"]], ["main", "first", "second"])
         stored = json.loads((self.out / "found.json").read_text())
         self.assertEqual({key: stored[key] for key in told}, told)
+
+
+@unittest.skipUnless(HAS_LINES, NO_LINES)
+@unittest.skipUnless(CAN_BUILD and support.can_walk(), LEFT_OUT)
+class Page(InScratch):
+    """What find.md shows is said of the images of the same programs, but for numbers of runs and seconds."""
+
+    def test_what_it_shows(self):
+        blocks = re.findall(r"^    \$ \.\./\.\./hunt/find (\w+)\.c\n((?:    .*\n|\n)+)", (support.TOP / "hunt/find.md").read_text(), re.M)
+        self.assertEqual([name for name, _ in blocks], ["account", "deadlock"])
+        for name, block in blocks:
+            with self.subTest(name):
+                said = self.found(name + ".elf")[1].replace(str(IMAGES / name) + ".elf", name + ".c")
+                for line in block.splitlines():
+                    if line.strip() != "..":
+                        self.assertIn(without_counts(line[4:]) + "\n", without_counts(said))
 
 
 @unittest.skipUnless(CAN_BUILD and support.can_walk(), LEFT_OUT)
@@ -139,7 +166,8 @@ class Folders(InScratch):
         self.assertFalse((self.out / "account.elf").exists())
         self.assertEqual((self.out / "mine.txt").read_text(), "mine")
         self.assertEqual(self.found("account-mended.elf")[0], 0)
-        self.assertEqual([path.name for path in self.out.iterdir()], ["mine.txt"])
+        self.assertEqual(sorted(path.name for path in self.out.iterdir()), ["found.json", "mine.txt"])
+        self.assertEqual(self.found("account.elf")[0], 1)
 
     def test_others_folder(self):
         self.out.mkdir()
@@ -172,7 +200,7 @@ class Words(unittest.TestCase):
             status, said, _ = find(support.TOP / "examples/race/race.elf", "--out", Path(scratch) / "out")
         self.assertEqual(status, 1)
         self.assertIn("race.elf fails with 2 forced switches", said)
-        self.assertRegex(said, r"stores +counter +\w+ over \w+ +work, race.c:22\n")
+        self.assertRegex(said, r"stores +counter +\w+ over \w+ +work")
 
 
 @unittest.skipUnless(support.tool("riscv64-unknown-elf-gcc") and CAN_BUILD and support.can_walk(), NO_CROSS_COMPILER)

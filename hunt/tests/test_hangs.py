@@ -67,19 +67,21 @@ def two_locks():
     return code, commits
 
 
+def walked(test, code, commits):
+    """The Trace of these commits, as (thread, size), walked by the proved program."""
+    folder = tempfile.TemporaryDirectory()
+    test.addCleanup(folder.cleanup)
+    image, name = Path(folder.name) / "a.elf", Path(folder.name) / "a.log"
+    image.write_bytes(elf(code))
+    order, sizes = [k for k, _ in commits], [size for _, size in commits]
+    name.write_bytes(write_log(Log(1, 15, ORDER_SIZE, 4096, len(order), order, sizes, {}, [], [])))
+    return open_trace(image, SIZE, name)
+
+
 @unittest.skipUnless(support.can_walk(), support.NOT_BUILT)
 class Walked(unittest.TestCase):
-    def traced(self, code, commits):
-        folder = tempfile.TemporaryDirectory()
-        self.addCleanup(folder.cleanup)
-        image, name = Path(folder.name) / "a.elf", Path(folder.name) / "a.log"
-        image.write_bytes(elf(code))
-        order, sizes = [k for k, _ in commits], [size for _, size in commits]
-        name.write_bytes(write_log(Log(1, 15, ORDER_SIZE, 4096, len(order), order, sizes, {}, [], [])))
-        return open_trace(image, SIZE, name)
-
     def test_a_circle(self):
-        trace = self.traced(*two_locks())
+        trace = walked(self, *two_locks())
         found = waits(trace)
         self.assertEqual([(wait.words, waits_for(trace, wait)) for wait in found], [([SHARED + 4], [1]), ([SHARED], [0])])
         self.assertEqual(sorted(circle(trace, found)), [0, 1])
@@ -87,7 +89,7 @@ class Walked(unittest.TestCase):
 
     def test_one_that_goes_on(self):
         code, commits = two_locks()
-        trace = self.traced(code, commits[:3])
+        trace = walked(self, code, commits[:3])
         first, second = waits(trace)
         self.assertEqual((first.loop, second.loop), (None, None))  # each could take the lock that is free
         self.assertIn("thread 0 could go on", hang_lines(trace)[0])

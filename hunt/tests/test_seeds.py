@@ -131,6 +131,7 @@ class Campaigns(Scratch):
                 (("absent.toml", "--bad", "fault"), "absent.toml: No such file or directory"),
                 (("plan.toml", "--bad", "none"), "`none` is no condition"),
                 (("plan.toml", "--bad", "word nowhere = 1"), "nowhere"),
+                (("plan.toml", "--bad", "ever word counter = 3"), "an account tells how a run ended"),
                 (("plan.toml", "--bad", "fault", "--vary", "chunk=5000", "--seeds", "7"), "seed 7, chunk=5000: refused plan 8"),
                 (("plan.toml", "--bad", "fault", "--sphere", "1"), "sphere 1 of the plan isn't recorded"),
                 (("plan.toml", "--bad", "fault", "--resume"), "--resume needs --keep, the folder of the campaign")):

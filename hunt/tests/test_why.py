@@ -3,9 +3,11 @@
 import unittest
 
 import support
-from lib.halfway import early_looks, overwritten, taken_over
+from lib.halfway import early_at_end, early_looks, overwritten, taken_over
 from lib.why import stale_uses, switch_lines
+from small_programs import EXIT, SHARED, SPAWN, addi, call, lw, sw
 from test_guide import HAS_LINES, NO_LINES
+from test_hangs import walked
 from test_words import ADD, LBU, LW, SB, SW, by_hand, interrupted
 
 # Of each bug: the plan, the word, and the source lines of the load, of the store that made it stale, and of what was done then.
@@ -151,6 +153,32 @@ class ByHand(unittest.TestCase):
 
     def test_overwritten(self):
         self.assertEqual(overwritten(by_hand((0, SW), (1, ADD), (0, LW))), [])
+
+
+@unittest.skipUnless(support.can_walk(), support.NOT_BUILT)
+class AtTheEnd(unittest.TestCase):
+    """Thread 0 stores a flag and then the data. Thread 1 sees the flag, loads the data, and ends with them; or stores to them first."""
+
+    def code(self, *last):
+        first = [addi(10, 0, 0x100), *call(SPAWN), addi(5, 0, 1), sw(5, SHARED), addi(5, 0, 7), sw(5, SHARED + 4)]
+        second = [*last, lw(6, SHARED), lw(10, SHARED + 4), *call(EXIT)]
+        code = {4 * j: word for j, word in enumerate(first)}
+        code.update({0x100 + 4 * j: word for j, word in enumerate(second)})
+        return code
+
+    def test_a_store_that_would_have_come(self):
+        trace = walked(self, self.code(sw(0, SHARED + 4)), [(0, 2), (0, 0), (0, 2), (1, 4), (1, 0)])
+        ((early, longer),) = early_at_end(trace)
+        self.assertEqual((early.second[1].addr, early.second[1].new, early.second[0].number), (SHARED + 4, 7, 5))
+        self.assertEqual(len(longer.commits), 6)
+        first, second = switch_lines(trace)
+        self.assertIn("(after the log's end, ", first)
+        self.assertIn("calls exit(0)", second)
+
+    def test_none_that_makes_a_difference(self):
+        """Thread 1 loads the data when they are there."""
+        trace = walked(self, self.code(sw(0, SHARED + 4)), [(0, 2), (0, 0), (0, 4), (1, 4), (1, 0)])
+        self.assertEqual((early_at_end(trace), switch_lines(trace)), ([], []))
 
 
 if __name__ == "__main__":

@@ -4,6 +4,7 @@ from pathlib import Path
 import os
 import re
 import subprocess
+import sys
 import tempfile
 
 from .missing import explained
@@ -18,19 +19,23 @@ def _quoted(text):
 
 
 def settings(words):
-    """What the library asks for by address, as assembler: the words of main, and whether waits may return without a signal."""
+    """What the library takes from the command, as assembler: the words of main, whether waits may return without a signal, and how long an
+    event is."""
     name = Path(words.output).name.removesuffix(".elf")
     texts = [name, *words.arguments]
-    lines = [".data", ".balign 4", ".globl __argument_count, __arguments", "__argument_count: .word %d" % len(texts), "__arguments:"]
+    lines = ['.file "settings.S"', ".data", ".balign 4", ".globl __argument_count, __arguments"]
+    lines += ["__argument_count: .word %d" % len(texts), "__arguments:"]
     lines += [" .word argument_%d" % j for j in range(len(texts))] + [" .word 0"]
     lines += ["argument_%d: .asciz %s" % (j, _quoted(text)) for j, text in enumerate(texts)]
-    lines += [".section .rodata", ".balign 4", ".globl __spurious", "__spurious: .word %d" % words.spurious]
+    lines += [".section .rodata", ".balign 4", ".globl __spurious", "__spurious: .word %d" % words.spurious,
+              ".globl __event_time", "__event_time: .word %d" % words.numbers["event-time"]]
     return "\n".join(lines) + "\n"
 
 
 def _symbols(words):
     numbers = words.numbers
-    given = {"__stack_size": numbers["stack"], "__most_threads": numbers["threads"], "__heap_size": numbers["heap"], "__main_extra": MAIN_EXTRA}
+    given = {"__stack_size": numbers["stack"], "__most_threads": numbers["threads"], "__heap_size": numbers["heap"],
+             "__main_extra": MAIN_EXTRA}
     return ["-Wl,--defsym=%s=%d" % pair for pair in given.items()]
 
 
@@ -38,14 +43,15 @@ def link(top, tools, folder, words, defaults):
     with tempfile.TemporaryDirectory() as aside:
         made = Path(aside) / "settings.S"
         made.write_text(settings(words))
-        command = [*tools.compiler, *defaults, *words.passed, str(made), str(folder / "start.o"), "-nostdlib", "-static", "-Wl,--build-id=none",
-                   "-Wl,-n", "-Wl,--gc-sections", *tools.linker, "-T", str(top / "lib/program.ld"), *_symbols(words),
+        same = "-ffile-prefix-map=%s=sdk" % aside  # so that the image has the same bytes each time
+        command = [*tools.compiler, *defaults, same, *words.passed, str(made), str(folder / "start.o"), "-nostdlib", "-static",
+                   "-Wl,--build-id=none", "-Wl,-n", "-Wl,--gc-sections", *tools.linker, "-T", str(top / "lib/program.ld"), *_symbols(words),
                    "-Wl,--start-group", str(folder / "libdelorean.a"), *tools.archives, "-Wl,--end-group", "-o", words.output]
         done = subprocess.run(command, stderr=subprocess.PIPE, text=True, errors="replace")
     if done.returncode:
         raise Refused(explained(done.stderr))
     if done.stderr:
-        print(done.stderr, end="", file=os.sys.stderr)
+        print(done.stderr, end="", file=sys.stderr)
 
 
 def memory_used(tools, image):

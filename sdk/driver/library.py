@@ -8,7 +8,8 @@ import tempfile
 
 from .words import Refused
 
-FLAGS = ["-O2", "-g", "-std=gnu17", "-D_GNU_SOURCE", "-Wall", "-Wextra", "-fno-builtin", "-fno-delete-null-pointer-checks", "-fno-strict-aliasing"]
+FLAGS = ["-O2", "-g", "-std=gnu17", "-D_GNU_SOURCE", "-Wall", "-Wextra", "-fno-builtin", "-fno-delete-null-pointer-checks",
+         "-fno-strict-aliasing"]
 
 
 def _sources(top):

@@ -12,6 +12,7 @@ Compiles and links a C program that uses pthreads and the C library, for delorea
   --stack BYTES   of each thread's stack (2048); the first thread has 6144 more
   --heap BYTES    of malloc (32768)
   --threads N     threads at once, with the first (15; up to 63 with logs of version 2)
+  --event-time N  microseconds of an event, a power of ten (1)
   --spurious      each wait for a condition variable may return once without a signal
   --clang         clang with lld, also if gcc is there"""
 
@@ -42,14 +43,14 @@ class Words:
     sources: list = field(default_factory=list)  # those of `passed` that are files
     arguments: list = field(default_factory=list)
     numbers: dict = field(default_factory=lambda: {
-        "stack": 2048, "heap": 32768, "threads": 15, "events": 0, "cores": 4, "chunk": 16, "seed": 1})
+        "stack": 2048, "heap": 32768, "threads": 15, "events": 0, "cores": 4, "chunk": 16, "seed": 1, "event-time": 1})
     plan: str | None = None
     spurious: bool = False
     clang: bool = False
 
 
 LIMITS = {"stack": (512, 1 << 20), "heap": (0, 15 << 20), "threads": (1, 63), "events": (1, 1 << 24), "cores": (1, 8), "chunk": (16, 4096),
-          "seed": (0, (1 << 63) - 1)}
+          "seed": (0, (1 << 63) - 1), "event-time": (1, 100000)}
 
 
 def _number(name, text):
@@ -106,6 +107,8 @@ def read_words(given):
     while rest:
         _one(words, rest.pop(0), rest)
     numbers = words.numbers
+    if str(numbers["event-time"]).strip("0") != "1":
+        raise Refused("--event-time is a power of ten from 1 to 100000")
     numbers["events"] = numbers["events"] or (200000 if numbers["threads"] <= DRAWN else 1000000)
     numbers["stack"] = (numbers["stack"] + 15) // 16 * 16
     numbers["heap"] = (numbers["heap"] + 63) // 64 * 64

@@ -23,7 +23,13 @@ enum { mtx_plain = 0, mtx_recursive = 1, mtx_timed = 2 };
 #define TSS_DTOR_ITERATIONS PTHREAD_DESTRUCTOR_ITERATIONS
 
 static inline int __delorean_thrd(int error) {
-    return error == 0 ? thrd_success : error == EBUSY ? thrd_busy : error == ETIMEDOUT ? thrd_timedout : error == EAGAIN ? thrd_nomem : thrd_error;
+    switch (error) {
+    case 0: return thrd_success;
+    case EBUSY: return thrd_busy;
+    case ETIMEDOUT: return thrd_timedout;
+    case EAGAIN: return thrd_nomem;
+    default: return thrd_error;
+    }
 }
 
 static inline int thrd_join(thrd_t thread, int *code) {

@@ -45,6 +45,9 @@ static inline struct thread *me(void) { return (struct thread *)((char *)__built
 static inline struct thread *thread_of(unsigned slot) {
     return (struct thread *)(__threads + slot * __numbers.thread_room + __numbers.stack_size);
 }
+static inline char *stack_end(struct thread *t) {
+    return (char *)t - (t->slot == 0 ? __numbers.main_stack_room : __numbers.stack_size);
+}
 static inline void *tp_of(struct thread *t) { return (char *)t + BLOCK_SIZE; }
 
 #endif

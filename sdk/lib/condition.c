@@ -28,8 +28,8 @@ static int give_up(pthread_cond_t *c, unsigned number) {
     return 1;
 }
 
-/* ---- waits that return without a signal, with delorean-cc --spurious: each thread may do so once. A thread of the library's own says when,
-   so that this comes at any point of an order, or never. */
+/* ---- waits that return without a signal, with delorean-cc --spurious: each thread may do so once. A thread of the library's own says
+   when, so that this comes at any point of an order, or never. */
 
 enum { NONE, ASKED, GRANTED, USED }; /* `chance` of a thread */
 

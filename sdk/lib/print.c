@@ -30,7 +30,7 @@ static void put_piece(struct sink *s, char c) {
 }
 
 static unsigned left_on_stack(void) {
-    char here, *end = (char *)me() - __numbers.stack_size;
+    char here, *end = stack_end(me());
     return &here > end ? (unsigned)(&here - end) : 0;
 }
 

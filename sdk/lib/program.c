@@ -46,12 +46,8 @@ _Noreturn void _Exit(int status) { _exit(status); }
 
 enum { MARKS = 8, STACK_MARK = 0x57ACC0DE, NULL_WORDS = 16, NULL_MARK = 0x4E554C4D };
 
-static unsigned *marks_of(struct thread *t) {
-    return (unsigned *)((char *)t - (t->slot == 0 ? __numbers.main_stack_room : __numbers.stack_size));
-}
-
 void __mark_stack(struct thread *t) {
-    unsigned *marks = marks_of(t);
+    unsigned *marks = (unsigned *)stack_end(t);
 #pragma GCC unroll 8
     for (unsigned j = 0; j < MARKS; j++)
         marks[j] = STACK_MARK;
@@ -68,7 +64,7 @@ static int are_whole(const unsigned *words, unsigned count, unsigned mark) {
 }
 
 void __check_stack(struct thread *t) {
-    if (!are_whole(marks_of(t), MARKS, STACK_MARK))
+    if (!are_whole((unsigned *)stack_end(t), MARKS, STACK_MARK))
         __fail("a stack has grown past its end: give delorean-cc a larger --stack", "");
 }
 

@@ -25,7 +25,8 @@
     T __delorean_set_##N(volatile T *p, T value) { return __atomic_exchange_n(p, value, __ATOMIC_SEQ_CST); }
 
 #define ALL(N, T) \
-    OPERATION(N, T, add) OPERATION(N, T, sub) OPERATION(N, T, and) OPERATION(N, T, or) OPERATION(N, T, xor) OPERATION(N, T, nand) EXCHANGES(N, T)
+    OPERATION(N, T, add) OPERATION(N, T, sub) OPERATION(N, T, and) OPERATION(N, T, or) OPERATION(N, T, xor) OPERATION(N, T, nand) \
+    EXCHANGES(N, T)
 
 ALL(1, uint8_t)
 ALL(2, uint16_t)

@@ -45,6 +45,14 @@ class Driver(Case):
         (self.at / "a.toml").write_text(with_lines(plan, {"memory": made.memory - 4096}))
         self.assertIn("refused image 0 10", call(program(), "run", self.at / "a.toml").stdout)
 
+    def test_same_bytes_each_time(self):
+        hello = self.written(HELLO)
+        images = []
+        for _ in range(2):
+            image(self.at, hello)
+            images.append((self.at / "a.elf").read_bytes())
+        self.assertEqual(images[0], images[1])
+
     def test_several_sources(self):
         """Compiled apart, from names with spaces, with a header in a folder, and called by a link from elsewhere."""
         one = self.written('#include "number.h"\nint number(void) { return NUMBER + MORE; }\n', "the one.c")
@@ -64,6 +72,11 @@ class Driver(Case):
         done = call(there / "cc", self.written(HELLO), "-o", self.at / "a.elf", env={"XDG_CACHE_HOME": str(self.at / "cache")})
         self.assertEqual(done.returncode, 0, done.stdout)
         self.assertTrue(list((self.at / "cache").glob("delorean-sdk/*/libdelorean.a")))
+
+    def test_a_frame_larger_than_a_stack(self):
+        source = self.written("int f(char *); int main(void) { char local[3000]; return f(local); } int f(char *p) { return *p; }")
+        self.assertIn("larger than 2048 bytes", compiled(self.at, source).text)
+        self.assertNotIn("warning", compiled(self.at, source, "--stack", 4096).text)
 
     REFUSED = [
         ('#include <stdio.h>\nint main(void) { return fopen("x", "r") != 0; }', "there are no files"),
@@ -92,7 +105,8 @@ class Driver(Case):
     def test_words_that_will_not_do(self):
         hello = self.written(HELLO)
         for words, sentence in [([hello, "-fsanitize=thread"], "sanitizers need an operating system"), ([self.at / "a.cpp"], "only C is compiled"),
-                                ([hello, "--threads", "64"], "--threads is a number from 1 to 63"), ([hello, "-o"], "-o has no value"),
+                                ([hello, "--threads", "64"], "--threads is a number from 1 to 63"), ([hello, "-o"], "-o has no value"), ([hello, "--event-time", "7"], "a power of ten"),
+                                
                                 (["-O2"], "no source is given")]:
             got = call(CC, *words)
             self.assertEqual(got.returncode, 2, got.stdout)
@@ -102,6 +116,9 @@ class Driver(Case):
 
 MANY = """#include <pthread.h>
 #include <stdio.h>
+#ifndef ROUNDS
+#define ROUNDS 1
+#endif
 static pthread_barrier_t barrier;
 static int total;
 static void *work(void *p) {
@@ -112,12 +129,16 @@ static void *work(void *p) {
 int main(void) {
     pthread_t t[COUNT];
     pthread_barrier_init(&barrier, 0, COUNT);
+    for (int r = 1; r < ROUNDS; r++) {
+        for (int j = 0; j < COUNT; j++) if (pthread_create(&t[j], 0, work, 0)) return 1;
+        for (int j = 0; j < COUNT; j++) pthread_join(t[j], 0);
+    }
     for (int j = 0; j < COUNT; j++) {
         if (pthread_create(&t[j], 0, work, 0)) return 1;
         if (!AT_ONCE) pthread_join(t[j], 0);
     }
     for (int j = 0; AT_ONCE && j < COUNT; j++) pthread_join(t[j], 0);
-    return total != COUNT;
+    return total != COUNT * ROUNDS;
 }
 """
 
@@ -128,6 +149,11 @@ class ManyThreads(Case):
             source = Path(folder) / "a.c"
             source.write_text(MANY)
             return ran(source, *words, **lines)
+
+    def test_in_rounds(self):
+        """Nine at once, and nine again when they are joined, four times."""
+        got = self.ran("-DCOUNT=9", "-DAT_ONCE=1", "-DROUNDS=4")
+        self.assertEqual((got.code, got.console), (0, ""))
 
     def test_one_after_another(self):
         """A hundred, of which the first twelve end in the kernel, and the rest shares the last two places."""

@@ -37,6 +37,13 @@ class Examples(unittest.TestCase):
                                           capture_output=True, text=True)
                     self.assertEqual((done.returncode, done.stderr), (0, ""))
 
+    def test_each_is_on_the_page(self):
+        page = (EXAMPLES / "README.md").read_text()
+        kinds, _, table = page.partition("## What finds them")
+        for source in sorted(EXAMPLES.glob("*.c")):
+            self.assertIn("`%s`" % source.stem, kinds)
+            self.assertIn("| `%s` |" % source.stem, table)
+
     def test_each_names_its_line(self):
         for source in sorted(EXAMPLES.glob("**/*.c")):
             with self.subTest(source.name):

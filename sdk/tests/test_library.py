@@ -35,6 +35,10 @@ class SameAsHost(Case):
         wanted = on_host(PROGRAMS / "threads.c", "-latomic")
         self.assertEqual((wanted.returncode, without_host("threads")()), (0, (0, wanted.stdout)))
 
+    def test_sleeping_for_long(self):
+        """Two seconds are two thousand events of a millisecond."""
+        self.assertEqual(without_host("sleeping")("--event-time", 1000, cores=1, events=20000), (0, on_host(PROGRAMS / "sleeping.c").stdout))
+
     @unittest.skipUnless(shutil.which("clang") and shutil.which("ld.lld"), "no clang and lld: programs aren't compiled by them")
     def test_threads_by_clang(self):
         self.assertEqual(without_host("threads")("--clang"), (0, on_host(PROGRAMS / "threads.c", "-latomic").stdout))

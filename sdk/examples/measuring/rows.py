@@ -1,7 +1,7 @@
 """Measured results as rows of the table in README.md."""
 
 HEAD = """\
-| Program | Forced | Runs | Seconds | Its line is told in | Mended: no order fails | TSan | Helgrind | DRD | Plain |
+| Program | Forced | Runs | Seconds | Told in | Mended: no order fails | TSan | Helgrind | DRD | Plain |
 |---|---|---|---|---|---|---|---|---|---|"""
 
 
