@@ -69,19 +69,24 @@ class Keys(unittest.TestCase):
                                     [lw(7, A), *if_seen(spawns), *CLEARED, lw(9, B), *ENDS], [*ENDS]))
         self.assertEqual((how, {end[2] for end in met}), ("all", {2, 3}))
 
+    def reserved(self, *words):
+        """Thread 1 sees A first; what it sees of B later shows whether thread 0 has ended by then."""
+        met = met_ends(laid([*SPAWNS, *sets(A, 1), *sets(A, 0), *sets(B, 1), *ENDS],
+                            [lw(7, A), *words, sw(8, ANSWER), sw(9, SEEN), *ENDS]))
+        return {end[2:]: forced for end, forced in met[1].items()}
+
     def test_reservation(self):
-        ends = self.met([*SPAWNS, *sets(A, 1), *sets(A, 0), *ENDS],
-                        [lw(7, A), addi(6, 0, OWN), slli(7, 7, 2), add(6, 6, 7), atomic(LR, 9, 6, 0), *CLEARED, lw(9, B),
-                         addi(6, 0, OWN + 4), atomic(SC, 8, 6, 0), sw(8, ANSWER), *ENDS])
-        self.assertEqual({end[3] for end in ends}, {0, 1})
+        """It is of another word if A was seen as 1, and that is the word of the SC."""
+        ends = self.reserved(slli(7, 7, 2), addi(6, 7, OWN), atomic(LR, 9, 6, 0), *CLEARED, lw(9, B), addi(6, 0, OWN + 4),
+                             atomic(SC, 8, 6, 0))
+        self.assertEqual(set(ends), {(0, 0), (0, 1), (1, 0), (1, 1)})
 
     def test_age_of_a_reservation(self):
         """Two delays of more than 2,000 steps are too long for a chunk, and without the first one the SC succeeds."""
         delay = [addi(9, 0, 1050), *DELAY[1:]]
-        met = met_ends(laid([*SPAWNS, *sets(A, 1), *sets(A, 0), *ENDS],
-                            [addi(6, 0, OWN), atomic(LR, 9, 6, 0), lw(7, A), bne(7, 0, 16), *delay, addi(7, 0, 0), addi(9, 0, 0),
-                             lw(5, B), *delay, atomic(SC, 8, 6, 0), sw(8, ANSWER), *ENDS]))
-        self.assertEqual(met[1], {(0, 0, 0, 0): 1, (0, 0, 0, 1): 0})
+        ends = self.reserved(addi(6, 0, OWN), atomic(LR, 9, 6, 0), bne(7, 0, 16), *delay, *CLEARED[2:4], lw(5, B), addi(9, 0, 1050),
+                             *DELAY[1:], atomic(SC, 8, 6, 0), addi(9, 5, 0))
+        self.assertEqual(ends, {(0, 0): 1, (0, 1): 1, (1, 0): 2, (1, 1): 0})
 
     def test_exit_code(self):
         image = laid([*SPAWNS, *sets(A, 1), *sets(A, 0), lw(9, B), *ENDS], [lw(10, A), *call(0)])
@@ -104,16 +109,27 @@ class Interrupts(unittest.TestCase):
 
     def test_which_have_come(self):
         """The first one changes nothing, and the second one, which comes after it, only something if x5 is set."""
-        self.assertEqual(self.met([addi(17, 0, IRET), addi(5, 0, 1), addi(0, 0, 0), addi(0, 0, 0)],
+        self.assertEqual(self.met([addi(17, 0, IRET), addi(5, 0, 1), addi(0, 0, 0), addi(0, 0, 0), 0],
                                   [addi(10, 10, -1), beq(10, 0, 16), beq(5, 0, 12), addi(9, 0, 7), sw(9, SEEN)], 1, 2), {0, 7})
 
+    def of_two(self, main, handler):
+        """What is left in SEEN and ANSWER if the interrupt is thread 1's; thread 0 as above."""
+        how, met, _ = met_ends(laid([*SPAWNS, *sets(A, 1), *sets(A, 0), *sets(B, 1), *ENDS], [*main, *ENDS], [*handler, *call(IRET)]),
+                               Options(steps=100000, raises=((1, 5),)))
+        self.assertEqual(how, "all")
+        return {end[2:] for end in met}
+
     def test_handler(self):
-        """Thread 1 has a handler only if it sees A set. It does something only later."""
+        """Thread 1 has a handler only if it sees A set, and that does something only if thread 0 has ended by then."""
         sets_handler = [addi(10, 0, 2 * CODE_OF_THREAD), *call(HANDLER)]
-        how, met, _ = met_ends(laid([*SPAWNS, *sets(A, 1), *sets(A, 0), *ENDS],
-                                    [lw(7, A), *if_seen(sets_handler), *CLEARED, lw(9, B), addi(5, 0, 1), addi(0, 0, 0), *ENDS],
-                                    [beq(5, 0, 8), sw(10, SEEN), *call(IRET)]), Options(steps=100000, raises=((1, 5),)))
-        self.assertEqual((how, {end[2] for end in met}), ("all", {0, 5}))
+        ends = self.of_two([lw(7, A), *if_seen(sets_handler), *CLEARED, lw(9, B), addi(0, 0, 0)], [beq(9, 0, 8), sw(10, SEEN)])
+        self.assertEqual(ends, {(0, 0), (5, 0)})
+
+    def test_saved_register(self):
+        """Thread 1 holds what it has seen of A in a0, when the interrupt comes. The handler looks at B."""
+        ends = self.of_two([addi(10, 0, 2 * CODE_OF_THREAD), *call(HANDLER), lw(10, A), addi(0, 0, 0), sw(10, ANSWER), sw(9, SEEN)],
+                           [lw(9, B)])
+        self.assertEqual(ends, {(0, 0), (0, 1), (1, 0), (1, 1)})
 
     def test_masked(self):
         """Whoever leaves a handler without IRET gets no interrupt any more."""
