@@ -101,6 +101,7 @@ class Story:
             self.functions.setdefault(who, self.names.function(pc))
         if step in self.begins:
             self.within[who] = self.begins[step]
+            self._look_at_free(self.begins[step])
 
     def _of_heap(self, call):
         if call.name in GIVING:
@@ -132,12 +133,18 @@ class Story:
 
     def _look_at_block(self, a, who, call):
         block = self.block(a.addr)
-        if block is None or block.freed is None or call and call.name in GIVING + TAKING_BACK:
-            return
-        where = block_name(self.names, block)
-        place = self.place_of(self.at.get(who, a.pc))
+        if block and block.freed and not (call and call.name in GIVING + TAKING_BACK):
+            self._note_use(who, verb(a.kind), block, self.at.get(who, a.pc))
+
+    def _look_at_free(self, call):
+        block = self.block(call.arguments[0])
+        if block and block.freed and call.name in TAKING_BACK:
+            self._note_use(call.who, "frees", block, call.at)
+
+    def _note_use(self, who, what, block, pc):
+        place = self.place_of(pc)
         self.after_free.setdefault((block.addr, place), "%s %s the %s (%s), which %s has freed (%s)" % (
-            context_name(who), verb(a.kind), where, place, context_name(block.freed.who), self.place_of(block.freed.at)))
+            context_name(who), what, block_name(self.names, block), place, context_name(block.freed.who), self.place_of(block.freed.at)))
 
     def _is_in_lock(self, addr):
         return any(lock < addr < lock + LOCK_BYTES for lock in self.locks)

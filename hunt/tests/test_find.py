@@ -211,6 +211,11 @@ class Sources(InScratch):
         self.assertIn("account.c fails with 1 forced switch", said)
         self.assertTrue((self.out / "account.elf").is_file())
 
+    @unittest.skipUnless(HAS_LINES, NO_LINES)
+    def test_block_freed_twice(self):
+        _, said, _ = find(EXAMPLES / "doublefree.c", "--out", self.out)
+        self.assertRegex(said, r"thread \d frees the block of doublefree.c:30 \(close_connection, doublefree.c:18\), which thread \d has freed ")
+
     def test_words_for_the_compiler(self):
         status, said, errors = find("-DMENDED", EXAMPLES / "account.c", "-O1", "--out", self.out)
         self.assertEqual(status, 0, said + errors)
