@@ -70,7 +70,8 @@ def _words(trace, k, loop):
 
 
 def _chain(trace, k, loop, words):
-    """The pcs of the first look at one of the words, or of the first call, and of what called it."""
+    """The pcs of the first look at one of the words, or of the first call, and of what called it. If there is neither, of where the
+    loop begins."""
     machine = trace.machine
     look = next((a.pc for a in loop.accesses if a.addr & ~3 in words), None)
     mark = machine.mark()
@@ -78,7 +79,9 @@ def _chain(trace, k, loop, words):
         for size, answer in loop.before:
             machine.run(k, size) if size else machine.serve(k, answer)
         thread = machine.threads[k]
-        while thread.pc != look and (look is not None or not machine.serial(k)):
+        for _ in range(sum(max(1, size) for size, _ in loop.commits)):
+            if thread.pc == look or (look is None and machine.serial(k)):
+                break
             if not machine.run(k, 1):
                 machine.serve(k, next((answer for _, answer in loop.commits if answer), None))
         return _calls(trace, machine, thread)
