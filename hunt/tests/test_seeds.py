@@ -145,7 +145,7 @@ class Campaigns(Scratch):
 class Killed(Scratch):
     """checks/seeds-killed does the same for longer."""
 
-    TIMES, SECONDS, LAST = 4, (0.1, 0.5), 30
+    TIMES, SECONDS, LAST = 4, (0.1, 0.4), 300
 
     def test_no_seed_is_lost_or_twice(self):
         self.copy(RACE / "plan.toml", RACE / "race.elf")
