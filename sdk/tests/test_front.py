@@ -24,11 +24,15 @@ def blocks():
 
 
 def shown(command):
-    """What the page shows below a command, as a pattern: `..` is any lines, and counts and seconds may differ."""
+    """What the page shows below a command, as a pattern: `..` is any lines, and counts, seconds and numbers of commits may differ."""
     text = next(block for block in blocks() if block.startswith(command + "\n"))[len(command) + 1:].lstrip("\n")
-    escaped = (r"(?:.*\n)*" if line == ".." else re.sub(r"\d+(?=\\ runs|\\ in|\\\.\d\d\\ s)|(?<=\\\.)\d\d(?=\\ s)", r"\\d+", re.escape(line)) + r"\n"
-               for line in text.splitlines())
-    return re.compile("".join(escaped))
+    return re.compile("".join(r"(?:.*\n)*" if line == ".." else loose(line) + r"\n" for line in text.splitlines()))
+
+
+def loose(line):
+    """A pattern of the line, in which these numbers are any."""
+    parts = re.split(r"((?<=commit )\d+|\d+(?= commits| runs| in \d)|\d+\.\d\d(?= s))", line)
+    return "".join(r"[\d.]+" if place % 2 else re.escape(part) for place, part in enumerate(parts))
 
 
 class Front(unittest.TestCase):
