@@ -43,7 +43,7 @@ def why_it_ended(result):
 def covered(result):
     """What was covered without a failure, and never more."""
     if result.limited:
-        yield "no failure in %s, but what comes after them isn't covered" % counted(result.tries, "run")
+        yield "no failure in %s, but what comes after that isn't covered" % counted(result.tries, "run")
         yield "%s came to the limit of steps (--steps)" % counted(result.limited, "run")
         if result.how not in ("all", "bound"):
             yield "%s with %d forced" % (why_it_ended(result), result.bound)
