@@ -106,7 +106,7 @@ class Permission(Explained):
         os.chmod(".", 0o755)
         try:
             done = subprocess.run([PROGRAM, *words.split()], stdout=subprocess.PIPE, env=SILENT, **other)
-            told = subprocess.run([TOP / "explain/main", "6", *words.split()], stderr=subprocess.PIPE, **other)
+            told = subprocess.run([TOP / "explain/main", "6", *words.split()], stdout=subprocess.DEVNULL, stderr=subprocess.PIPE, **other)
         except PermissionError:
             self.skipTest("permissions, because no other user may run the program where it is")
         self.assertEqual((done.returncode, done.stdout.decode()), (6, line + "\n"))
