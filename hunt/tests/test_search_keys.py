@@ -67,25 +67,28 @@ class Keys(unittest.TestCase):
         self.assertEqual(ends, {(0, NOTHING_NOW): 0, (0, 1): 1, (1, 1): 1})
 
     def test_request(self):
-        ends = self.seen(if_seen(calls(REQUEST, BUFFER, 4)), calls(REQUEST, BUFFER + 64, 4))
+        """Its buffer and length are 0, as if there were none."""
+        ends = self.seen(if_seen(calls(REQUEST, 0, 0)), calls(REQUEST, BUFFER, 4))
         self.assertEqual(ends, {(0, 0): 0, (0, REFUSED): 1})
 
     def requested(self, *asks, **options):
-        """What a DMA leaves of two words. Thread 1 requests it, with A in x7, and ends."""
-        ends = self.met([*sets(SEEN, 5), *sets(ANSWER, 5), *SPAWNS, *sets(A, 1), *sets(A, 0), *waits_for(1), *ENDS],
+        """What a DMA leaves of two words. Thread 1 requests it, with A in x7, and ends. Then thread 0 makes both 5, so a DMA before
+        that leaves nothing."""
+        ends = self.met([*SPAWNS, *sets(A, 1), *sets(A, 0), *waits_for(1), *sets(SEEN, 5), *sets(ANSWER, 5), *ENDS],
                         [lw(7, A), *asks, *call(REQUEST), *CLEARED, *ENDS], **options)
         return {end[2:]: forced for end, forced in ends.items()}
 
-    def test_where_a_request_goes(self):
+    def test_buffer_of_a_request(self):
         ends = self.requested(slli(10, 7, 2), addi(10, 10, SEEN), addi(11, 0, 0))
-        self.assertEqual(ends, {(0, 5): 0, (5, 0): 1})
+        self.assertEqual(ends, {(5, 5): 0, (0, 5): 0, (5, 0): 1})
 
     def test_length_of_a_request(self):
+        """A DMA between the two stores is one forced switch more."""
         with tempfile.NamedTemporaryFile() as given:
             given.write(b"ab")
             given.flush()
             ends = self.requested(addi(10, 0, SEEN), addi(11, 7, 0), input=given.name)
-        self.assertEqual(ends, {(0, 5): 0, (1, ord("a")): 1})
+        self.assertEqual(ends, {(5, 5): 0, (0, 5): 0, (1, ord("a")): 1, (1, 5): 2})
 
     def test_number_of_threads(self):
         spawns = calls(SPAWN, 2 * CODE_OF_THREAD, 0, 0)
