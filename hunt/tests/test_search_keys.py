@@ -8,12 +8,13 @@ from all_ends import met_ends
 from lib.conditions import read_condition
 from lib.engine import Options
 from lib.symbols import Names
-from small_programs import CODE_OF_THREAD, LR, OWN, SC, SPAWN, add, addi, atomic, beq, bne, call, lw, slli, sw
+from small_programs import CODE_OF_THREAD, EXIT, LR, OWN, SC, SPAWN, add, addi, atomic, beq, bne, call, lw, slli, sw
 from test_search import CAN_BUILD, NO_COMPILER, searched
 from test_search_states import A, ANSWER, B, BUFFER, DELAY, ENDS, HANDLER, IRET, REQUEST, SEEN, SPAWNS, laid, sets
 
 WRITE, READ, RANDOM, CLOCK, HAS_ENDED = 2, 3, 4, 5, 11
-PIPE, INPUT = 0, 9
+PIPE, CONSOLE, INPUT = 0, 8, 9
+EBREAK = 0x100073
 NOTHING_NOW, REFUSED = 0xFFFFFFFD, 0xFFFFFFFC
 CLEARED = [addi(register, 0, 0) for register in (5, 6, 7, 8, 9, 10, 11, 12, 17)]
 SAW = [sw(10, SEEN), *ENDS]
@@ -27,41 +28,67 @@ def calls(number, *values):
     return [*[addi(10 + place, 0, value) for place, value in enumerate(values)], *call(number)]
 
 
+def waits_for(thread):
+    return [*calls(HAS_ENDED, thread), beq(10, 0, -12)]
+
+
 @unittest.skipUnless(CAN_BUILD, NO_COMPILER)
 class Keys(unittest.TestCase):
     def met(self, *threads, **options):
         how, met, _ = met_ends(laid(*threads), Options(steps=100000, **options))
         self.assertEqual(how, "all")
-        return set(met)
+        return met
 
     def seen(self, does, asks, **options):
-        """What thread 0 gets when it asks. Thread 1 does something if it sees A set, as it is for a moment; of that nothing is left
-        in memory and registers."""
+        """B, and what thread 0 gets when it asks, with the fewest forced switches. Thread 1 does something if it sees A set, as it
+        is for a moment; of that nothing is left in memory and registers. With more switches another state may lead to the end."""
         ends = self.met([*SPAWNS, *sets(A, 1), *sets(A, 0), *CLEARED, *asks, *SAW],
                         [lw(7, A), *does, *CLEARED, lw(9, B), *ENDS], [*ENDS], **options)
-        return {end[2] for end in ends}, {end[1:3] for end in ends}
+        return {end[1:3]: forced for end, forced in ends.items()}
 
     def test_clock(self):
-        self.assertEqual(self.seen(if_seen(call(CLOCK)), call(CLOCK))[0], {64, 128})
+        self.assertEqual(self.seen(if_seen(call(CLOCK)), call(CLOCK)), {(0, 64): 0, (0, 128): 1})
 
     def test_random_bytes(self):
         does = [*calls(RANDOM, OWN + 4, 1), sw(0, OWN + 4)]
-        self.assertEqual(len(self.seen(if_seen(does), [*calls(RANDOM, OWN, 1), lw(10, OWN)])[0]), 2)
+        seen = self.seen(if_seen(does), [*calls(RANDOM, OWN, 1), lw(10, OWN)])
+        self.assertEqual(sorted(seen.values()), [0, 1])
 
     def test_input(self):
         with tempfile.NamedTemporaryFile() as given:
             given.write(b"ab")
             given.flush()
             does = [*calls(READ, INPUT, OWN + 4, 1), sw(0, OWN + 4)]
-            seen, _ = self.seen(if_seen(does), [*calls(READ, INPUT, OWN, 1), lw(10, OWN)], input=given.name)
-        self.assertEqual(seen, {ord("a"), ord("b")})
+            seen = self.seen(if_seen(does), [*calls(READ, INPUT, OWN, 1), lw(10, OWN)], input=given.name)
+        self.assertEqual(seen, {(0, ord("a")): 0, (0, ord("b")): 1})
 
     def test_pipe(self):
-        _, ends = self.seen([sw(7, OWN), *calls(WRITE, PIPE, OWN, 1), sw(0, OWN)], calls(READ, PIPE, B, 1))
-        self.assertEqual(ends, {(0, NOTHING_NOW), (0, 1), (1, 1)})
+        ends = self.seen([sw(7, OWN), *calls(WRITE, PIPE, OWN, 1), sw(0, OWN)], calls(READ, PIPE, B, 1))
+        self.assertEqual(ends, {(0, NOTHING_NOW): 0, (0, 1): 1, (1, 1): 1})
 
     def test_request(self):
-        self.assertEqual(self.seen(if_seen(calls(REQUEST, BUFFER, 4)), calls(REQUEST, BUFFER + 64, 4))[0], {0, REFUSED})
+        """Its buffer and length are 0, as if there were none."""
+        ends = self.seen(if_seen(calls(REQUEST, 0, 0)), calls(REQUEST, BUFFER, 4))
+        self.assertEqual(ends, {(0, 0): 0, (0, REFUSED): 1})
+
+    def requested(self, *asks, **options):
+        """What a DMA leaves of two words. Thread 1 requests it, with A in x7, and ends. Then thread 0 makes both 5, so a DMA before
+        that leaves nothing."""
+        ends = self.met([*SPAWNS, *sets(A, 1), *sets(A, 0), *waits_for(1), *sets(SEEN, 5), *sets(ANSWER, 5), *ENDS],
+                        [lw(7, A), *asks, *call(REQUEST), *CLEARED, *ENDS], **options)
+        return {end[2:]: forced for end, forced in ends.items()}
+
+    def test_buffer_of_a_request(self):
+        ends = self.requested(slli(10, 7, 2), addi(10, 10, SEEN), addi(11, 0, 0))
+        self.assertEqual(ends, {(5, 5): 0, (0, 5): 0, (5, 0): 1})
+
+    def test_length_of_a_request(self):
+        """A DMA between the two stores is one forced switch more."""
+        with tempfile.NamedTemporaryFile() as given:
+            given.write(b"ab")
+            given.flush()
+            ends = self.requested(addi(10, 0, SEEN), addi(11, 7, 0), input=given.name)
+        self.assertEqual(ends, {(5, 5): 0, (0, 5): 0, (1, ord("a")): 1, (1, 5): 2})
 
     def test_number_of_threads(self):
         spawns = calls(SPAWN, 2 * CODE_OF_THREAD, 0, 0)
@@ -88,11 +115,23 @@ class Keys(unittest.TestCase):
                              *DELAY[1:], atomic(SC, 8, 6, 0), addi(9, 5, 0))
         self.assertEqual(ends, {(0, 0): 1, (0, 1): 1, (1, 0): 2, (1, 1): 0})
 
+    def ends_so(self, does, *conditions):
+        """Thread 1 looks at A, which is set for a moment, and ends. Thread 0 waits for that, and is then in the same state."""
+        image = laid([*SPAWNS, *sets(A, 1), *sets(A, 0), *waits_for(1), *ENDS], [lw(7, A), *does])
+        for text in conditions:
+            condition = read_condition(["word %X = 0 and %s" % (A, text)], Names(image))
+            self.assertEqual(searched(image, condition).how, "found", text)
+
     def test_exit_code(self):
-        image = laid([*SPAWNS, *sets(A, 1), *sets(A, 0), lw(9, B), *ENDS], [lw(10, A), *call(0)])
-        for code in 0, 1:
-            ends = read_condition(["word %X = 0 and exit 1 = %d" % (A, code)], Names(image))
-            self.assertEqual(searched(image, ends).how, "found")
+        self.ends_so([addi(10, 7, 0), *call(EXIT)], "exit 1 = 0", "exit 1 = 1")
+
+    def test_exit_and_fault(self):
+        """Both with a 3, that of EBREAK."""
+        self.ends_so([*if_seen([EBREAK]), *calls(EXIT, 3)], "exit 1 = 3", "fault 1 = 3")
+
+    def test_console(self):
+        writes = calls(WRITE, CONSOLE, OWN, 1)
+        self.ends_so([addi(9, 0, ord("x")), sw(9, OWN), *if_seen(writes), *CLEARED, *ENDS], "console != x", "console = x")
 
 
 @unittest.skipUnless(CAN_BUILD, NO_COMPILER)
@@ -112,9 +151,10 @@ class Interrupts(unittest.TestCase):
         self.assertEqual(self.met([addi(17, 0, IRET), addi(5, 0, 1), addi(0, 0, 0), addi(0, 0, 0), 0],
                                   [addi(10, 10, -1), beq(10, 0, 16), beq(5, 0, 12), addi(9, 0, 7), sw(9, SEEN)], 1, 2), {0, 7})
 
-    def of_two(self, main, handler):
-        """What is left in SEEN and ANSWER if the interrupt is thread 1's; thread 0 as above."""
-        how, met, _ = met_ends(laid([*SPAWNS, *sets(A, 1), *sets(A, 0), *sets(B, 1), *ENDS], [*main, *ENDS], [*handler, *call(IRET)]),
+    def of_two(self, main, handler, values=(1, 0)):
+        """What is left in SEEN and ANSWER if the interrupt is thread 1's; thread 0 stores the values to A, and then sets B."""
+        stores = [word for value in values for word in sets(A, value)]
+        how, met, _ = met_ends(laid([*SPAWNS, *stores, *sets(B, 1), *ENDS], [*main, *ENDS], [*handler, *call(IRET)]),
                                Options(steps=100000, raises=((1, 5),)))
         self.assertEqual(how, "all")
         return {end[2:] for end in met}
@@ -125,11 +165,14 @@ class Interrupts(unittest.TestCase):
         ends = self.of_two([lw(7, A), *if_seen(sets_handler), *CLEARED, lw(9, B), addi(0, 0, 0)], [beq(9, 0, 8), sw(10, SEEN)])
         self.assertEqual(ends, {(0, 0), (5, 0)})
 
-    def test_saved_register(self):
-        """Thread 1 holds what it has seen of A in a0, when the interrupt comes. The handler looks at B."""
-        ends = self.of_two([addi(10, 0, 2 * CODE_OF_THREAD), *call(HANDLER), lw(10, A), addi(0, 0, 0), sw(10, ANSWER), sw(9, SEEN)],
-                           [lw(9, B)])
-        self.assertEqual(ends, {(0, 0), (0, 1), (1, 0), (1, 1)})
+    def test_saved_registers(self):
+        """Thread 1 has what it has seen of A in a0 or a1 alone, when the interrupt comes. The handler looks at B, if x9 tells that
+        the word isn't stored yet."""
+        for register in 10, 11:
+            ends = self.of_two([addi(10, 0, 2 * CODE_OF_THREAD), *call(HANDLER), addi(9, 0, 1), lw(register, A), addi(9, 0, 0),
+                                sw(register, ANSWER)],
+                               [addi(11, 0, 0), beq(9, 0, 12), lw(8, B), sw(8, SEEN)], values=(1, 2, 0))
+            self.assertEqual(ends, {(seen, answer) for seen in (0, 1) for answer in (0, 1, 2)}, register)
 
     def test_masked(self):
         """Whoever leaves a handler without IRET gets no interrupt any more."""
@@ -176,9 +219,10 @@ class Places(unittest.TestCase):
         """A thread that is known to wait goes on once what it asks for is there."""
         ends = self.ends([*SPAWNS, *calls(HAS_ENDED, 1), beq(10, 0, -12), *SAW], [lw(9, A), *ENDS])
         self.assertEqual({end[2] for end in ends}, {1})
-        ends = self.ends([*SPAWNS, *calls(READ, PIPE, OWN, 1), addi(9, 0, 1), bne(10, 9, -24), *SAW],
-                         [lw(9, A), *calls(WRITE, PIPE, OWN + 4, 1), *ENDS])
-        self.assertEqual({end[2] for end in ends}, {1})
+        reads = [*calls(READ, PIPE, OWN, 1), addi(9, 0, 1), bne(10, 9, -24)]
+        for waits in [], waits_for(0):
+            ends = self.ends([*SPAWNS, *reads, *SAW], [lw(9, A), *calls(WRITE, PIPE, OWN + 4, 1), *waits, *ENDS])
+            self.assertEqual({end[2] for end in ends}, {1})
 
     def test_device(self):
         moment = [0xF0000000 | 6 << 7 | 0x37, 0x2003 | 10 << 7 | 6 << 15]  # lui and lw
