@@ -66,6 +66,12 @@ class Keys(unittest.TestCase):
         ends = self.seen([sw(7, OWN), *calls(WRITE, PIPE, OWN, 1), sw(0, OWN)], calls(READ, PIPE, B, 1))
         self.assertEqual(ends, {(0, NOTHING_NOW): 0, (0, 1): 1, (1, 1): 1})
 
+    def test_which_pipe(self):
+        """Thread 1 writes to pipe 0 or 1, and thread 0 reads both."""
+        writes = [addi(10, 7, 0), addi(11, 0, OWN), addi(12, 0, 1), *call(WRITE)]
+        ends = self.seen(writes, [*calls(READ, PIPE, OWN + 4, 1), sw(10, B), *calls(READ, PIPE + 1, OWN + 4, 1)])
+        self.assertEqual(ends, {(NOTHING_NOW, NOTHING_NOW): 0, (1, NOTHING_NOW): 1, (NOTHING_NOW, 1): 1})
+
     def test_request(self):
         """Its buffer and length are 0, as if there were none."""
         ends = self.seen(if_seen(calls(REQUEST, 0, 0)), calls(REQUEST, BUFFER, 4))

@@ -4,10 +4,12 @@ knows where others may come. What they can come to was found by hand."""
 import unittest
 
 from all_ends import met_ends
+from lib.conditions import read_condition
 from lib.engine import Options
+from lib.symbols import Names
 from small_programs import (CODE_OF_THREAD, EXIT, LR, OWN, RESULTS, SC, SHARED, SPAWN, add, addi, atomic, beq, bne, call, image_of,
                             lw, sees, sets, slli, sw)
-from test_search import CAN_BUILD, NO_COMPILER
+from test_search import CAN_BUILD, NO_COMPILER, searched
 
 A, B, FLAG, Q, W = SHARED, SHARED + 4, SHARED + 8, SHARED + 12, SHARED + 20
 SEEN, ANSWER = RESULTS, RESULTS + 4
@@ -85,6 +87,16 @@ class States(unittest.TestCase):
             [lw(7, FLAG), beq(7, 0, 8), lw(7, W), lw(9, B), sw(7, ANSWER), *ENDS],
             [*DELAY, *sets(FLAG, 1), *sets(FLAG, 0), *sets(B, 1), *sets(W, 1), *ENDS])
         self.assertEqual(met, {(0, 1, 0, 0, 0): 0, (0, 1, 0, 1, 0): 2})
+
+    def test_segments_after_a_fork(self):
+        """Thread 1 stores to W only if its SC fails. Thread 0 sees that if it is left before its load, and the chunk ends before the
+        SC. Only one run shows that W is met: thread 0 is left at its end, and the chunk ends then; and from the same SC the search
+        has just tried that thread 0 comes, and ends."""
+        image = laid([*SPAWNS, lw(8, W), sw(8, SEEN), *ENDS],
+                     [*DELAY, addi(6, 0, OWN), atomic(LR, 7, 6, 0), atomic(SC, 8, 6, 0), beq(8, 0, 8), sw(8, W), *ENDS])
+        for switches, how in (1, "bound"), (2, "found"):
+            condition = read_condition(["word %X = 1" % SEEN], Names(image))
+            self.assertEqual(searched(image, condition, switches).how, how)
 
     def test_words_of_a_waiting_loop_are_places(self):
         """Thread 1 is known to wait in its loop while A is 0, and isn't run. But it may have looked at A, and not yet at W. That is
