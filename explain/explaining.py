@@ -47,7 +47,7 @@ def certain(status, line):
         return named_fault(line[6:])
     if status in OTHERS:
         return sentence(OTHERS[status])
-    return "%s The rules in words are in docs/answers.md, or in `man delorean`." % WHERE[status]
+    return "%s The rules in words are in docs/answers.md, or in `man delorean-answers`." % WHERE[status]
 
 
 def sentence(rule):

@@ -4,7 +4,8 @@ from explain.rules import IMAGE, LOG, OTHERS, PLAN, SCRIPT, SOURCE, STRATA
 
 INTRODUCTION = """# Answers
 
-What each answer of `delorean` means, and what to do. The [manual](delorean.1.md#exit-status) has the same by status.
+What each answer of `delorean` means, and what to do. `checks/answers --page` makes this page; the
+[manual](delorean.1.md#exit-status) has the statuses.
 
 If standard error is a terminal, `bin/delorean` adds a sentence or two after a status other than 0 and 1. They name the key, the
 word, the byte or the file, as far as that can be found:
@@ -13,15 +14,13 @@ word, the byte or the file, as far as that can be found:
     refused plan 4
     delorean: plan.toml, line 1: `cores` is 9, but it has to be 1 to 8.
 
-The line on standard output and the status are the program's own, and never change. Everything else goes to standard error alone.
-`DELOREAN_EXPLAIN=1` in the environment adds the sentences also if standard error isn't a terminal, for example in a script, and
-`DELOREAN_EXPLAIN=0` leaves them out everywhere.
+`DELOREAN_EXPLAIN=1` in the environment adds them also if standard error isn't a terminal, and `DELOREAN_EXPLAIN=0` leaves them out
+everywhere. The line on standard output and the status are the program's own, and never change.
 
-They are found by Python code in `explain/`, which isn't proved. It reads the words and the files once more, by rules that are
-written down a second time there, and writes nothing. If it doesn't come to the program's answer, only what is certain is said:
-the rule in words, as it is here. The same goes for a file that came through a pipe, or is too large to read in some seconds. The
-program's line is known only if standard output is a file. Otherwise the status alone is compared, so a file that has changed since
-the program read it is explained as it is now.
+The sentences are found by Python code in `explain/`, which isn't proved. It reads the words and the files once more, by rules that are
+written down a second time there. If it doesn't come to the program's answer, or a file came through a pipe or is too large to read in
+some seconds, only the rule in words is said, as it is here. The program's line is known only if standard output is a file; otherwise
+the status alone is compared, so a file that has changed since is explained as it is now.
 """
 
 SECTIONS = (
@@ -29,8 +28,8 @@ SECTIONS = (
     ("Images", "`refused image SPHERE RULE`, status 4.", "RULE", IMAGE),
     ("Logs and tails", "`refused log SPHERE NUMBER OFFSET`, status 5. OFFSET is the first byte of the field or entry that isn't\n"
      "good; with 1 it is the length of the file. A tail is refused in the same way, by `tail`.", "NUMBER", LOG),
-    ("Strata", "`refused strata SPHERE NUMBER OFFSET`, status 5. With 8 and 9 the last number is that of a commit.",
-     "NUMBER", STRATA),
+    ("Strata", "`refused strata SPHERE NUMBER OFFSET`, status 5. The numbers are those of logs, and two more, with which the last number is\n"
+     "that of a commit.", "NUMBER", {n: rule for n, rule in STRATA.items() if LOG.get(n) != rule}),
     ("Scripts", "`refused script LINE`, status 5. LINE is the first wrong line.", "", {"": SCRIPT}),
     ("Sources", "`refused source LINE RULE`, status 9. LINE is the first line that breaks a rule.", "RULE", SOURCE),
 )

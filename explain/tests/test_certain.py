@@ -5,7 +5,7 @@ import unittest
 from support import explain
 
 NO_FILE = ["run", "/dev/null"]  # which isn't a regular file, so it isn't read
-IN_WORDS = " The rules in words are in docs/answers.md, or in `man delorean`."
+IN_WORDS = " The rules in words are in docs/answers.md, or in `man delorean-answers`."
 
 
 class Certain(unittest.TestCase):

@@ -55,7 +55,7 @@ class Main(Explained):
         """It was used up by the program."""
         told = self.said("3", "run", "/dev/stdin", input=b"")
         self.assertEqual(told, "delorean: The number is that of the first rule of plans that the plan breaks. The rules in "
-                         "words are in docs/answers.md, or in `man delorean`.\n")
+                         "words are in docs/answers.md, or in `man delorean-answers`.\n")
 
     def test_a_plan_from_a_file_as_standard_input(self):
         self.put("plan.toml", PLAN.replace("cores = 1", "cores = 9"))

@@ -166,7 +166,7 @@ class Plans(Explained):
         self.assertEqual(explain(3, ["run", "plan.toml"], "refused plan 4"),
                          "A number is out of its range, or there are no spheres or over 8. Change the number.")
         self.assertEqual(explain(3, ["run", "plan.toml"]), "The number is that of the first rule of plans that the plan "
-                         "breaks. The rules in words are in docs/answers.md, or in `man delorean`.")
+                         "breaks. The rules in words are in docs/answers.md, or in `man delorean-answers`.")
 
 
 if __name__ == "__main__":
