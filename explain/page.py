@@ -24,16 +24,15 @@ the status alone is compared, so a file that has changed since is explained as i
 """
 
 SECTIONS = (
-    ("Plans", "`refused plan RULE`, status 3. RULE is the first rule that the whole plan breaks.", "RULE", PLAN),
-    ("Images", "`refused image SPHERE RULE`, status 4.", "RULE", IMAGE),
+    ("Plans", "`refused plan RULE`, status 3. RULE is the first rule that the whole plan breaks. For each: what is wrong, and what to do.", PLAN),
+    ("Images", "`refused image SPHERE RULE`, status 4.", IMAGE),
     ("Logs and tails", "`refused log SPHERE NUMBER OFFSET`, status 5. OFFSET is the first byte of the field or entry that isn't\n"
-     "good; with 1 it is the length of the file. A tail is refused in the same way, by `tail`.", "NUMBER", LOG),
+     "good; with 1 it is the length of the file. A tail is refused in the same way, by `tail`.", LOG),
     ("Strata", "`refused strata SPHERE NUMBER OFFSET`, status 5. The numbers are those of logs, and two more, with which the last number is\n"
-     "that of a commit.", "NUMBER", {n: rule for n, rule in STRATA.items() if LOG.get(n) != rule}),
-    ("Scripts", "`refused script LINE`, status 5. LINE is the first wrong line.", "", {"": SCRIPT}),
-    ("Sources", "`refused source LINE RULE`, status 9. LINE is the first line that breaks a rule.", "RULE", SOURCE),
+     "that of a commit.", {n: rule for n, rule in STRATA.items() if LOG.get(n) != rule}),
+    ("Scripts", "`refused script LINE`, status 5. LINE is the first wrong line.", {"": SCRIPT}),
+    ("Sources", "`refused source LINE RULE`, status 9. LINE is the first line that breaks a rule.", SOURCE),
 )
-COLUMNS = ["What is wrong", "What to do"]
 LINES = {2: "`usage`", 6: "`fault NAME`", 7: "what got through", 8: "nothing, or a beginning", 10: "`absent NAME`"}
 
 ENDING = """A replay that diverges isn't an error: its status is 1, and the [reasons](delorean.1.md#reasons-to-diverge) are in the
@@ -43,13 +42,15 @@ manual.
 
 def page():
     parts = [INTRODUCTION]
-    for title, text, number, rules in SECTIONS:
-        columns = [number, *COLUMNS] if number else COLUMNS
-        rows = [[str(n), *rule] if number else rule for n, rule in rules.items()]
-        parts.append("## %s\n\n%s\n\n%s" % (title, text, table(columns, rows)))
+    for title, text, rules in SECTIONS:
+        parts.append("## %s\n\n%s\n\n%s" % (title, text, listed(rules)))
     rows = [[str(status), LINES[status], *rule] for status, rule in OTHERS.items()]
-    parts.append("## Other answers\n\n" + table(["Status", "Line", *COLUMNS], rows))
+    parts.append("## Other answers\n\n" + table(["Status", "Line", "What is wrong", "What to do"], rows))
     return "\n".join([*parts, ENDING])
+
+
+def listed(rules):
+    return "".join("%s %s. %s\n" % ("%s." % number if number else "-", *rule) for number, rule in rules.items())
 
 
 def table(columns, rows):
