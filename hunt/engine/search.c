@@ -72,7 +72,7 @@ static struct hash state_after_chunk(void) {
     return state;
 }
 
-enum { AT_PLACE_KEY = 0, FRESH = 1, COMING = 2, AFTER_CUT = 3 };
+enum { AT_PLACE_KEY, COMING, AFTER_CUT };
 
 /* ---------------------------------------------------------------- choices */
 
@@ -116,7 +116,8 @@ static uint32_t new_item(const struct trial *t, uint32_t choice) {
 
 static void put_off(const struct trial *t, uint32_t choice) { push(&later, new_item(t, choice)); }
 
-/* Another thread comes, or the chunk ends before the SC. Whoever has touched nothing might as well come later. */
+/* Another thread comes, or the chunk ends before the SC. Whoever has touched nothing might as well come later; so nothing is lost
+   either if this state is met again by a thread that has touched something, and the key doesn't tell the two. */
 static void offer_switches(const struct trial *t) {
     const struct machine *m = &run->machine;
     const struct thread *current = &m->threads[run->current];
@@ -259,7 +260,7 @@ static enum result at_place(struct trial *t, enum stop stop, bool *past) {
     if (follow(t, FORCED))
         return GOES_ON;
     if (t->done == t->length) {
-        struct hash key = key_of(whole_state(), run->current, is_fresh(t) ? FRESH : AT_PLACE_KEY);
+        struct hash key = key_of(whole_state(), run->current, AT_PLACE_KEY);
         if (is_new(key, tally->bound)) {
             keep_key(key);
             offer(t, stop);

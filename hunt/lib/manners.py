@@ -1,9 +1,10 @@
 """How every command of hunt/ begins and ends: `run(name, main)` calls main, and `try_output(name)` sees whether a file that is
 to be written can be.
 
-Ctrl-C ends a command with status 130 and a line on standard error. If whoever reads its output closes it (`| head -1`), the
-command ends without a word, with status 141, as programs do that the signal ends. What the system refuses, for example a full
-disk, ends it with 2 and a line; and a fault of the command itself with 70, and where it was.
+Ctrl-C ends a command with status 130 and a line on standard error. It is kept waiting while Python starts and imports, because the
+first line of each command starts Python so (--block-signal); `run` lets it come. If whoever reads a command's output closes it
+(`| head -1`), the command ends without a word, with status 141, as programs do that the signal ends. What the system refuses, for
+example a full disk, ends it with 2 and a line; and a fault of the command itself with 70, and where it was.
 """
 
 import os
@@ -23,9 +24,11 @@ def run(name, main):
     """Ends the program with main's status."""
     try:
         try:
+            signal.pthread_sigmask(signal.SIG_UNBLOCK, {signal.SIGINT})
             status = main()
         finally:
             print(end="", flush=True)
+            signal.pthread_sigmask(signal.SIG_BLOCK, {signal.SIGINT})
     except KeyboardInterrupt:
         signal.signal(signal.SIGINT, signal.SIG_IGN)
         print("%s: stopped" % name, file=sys.stderr)

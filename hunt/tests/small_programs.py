@@ -49,6 +49,11 @@ def beq(a, b, away):
     return bne(a, b, away) & ~0x1000
 
 
+def jal(rd, away):
+    imm = away & 0x1FFFFF
+    return 0x6F | rd << 7 | (imm >> 20) << 31 | (imm >> 1 & 0x3FF) << 21 | (imm >> 11 & 1) << 20 | (imm >> 12 & 0xFF) << 12
+
+
 ECALL = 0x73
 ADD, SWAP, LR, SC = 0, 1, 2, 3
 

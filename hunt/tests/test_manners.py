@@ -4,6 +4,7 @@ import os
 import signal
 import subprocess
 import tempfile
+import time
 import unittest
 from pathlib import Path
 
@@ -72,6 +73,61 @@ class Interrupted(unittest.TestCase):
                                        "(.*\n)*no order .* ends so, in [0-9]+ runs\n"
                                        "it was stopped with [12] forced: [0-9]+ runs? of them tried, the rest isn't covered\n$")
         self.assertFalse((self.folder / "a.log").exists())
+
+
+@unittest.skipUnless(CAN_BUILD and support.can_walk(), support.NOT_BUILT)
+class FromTheStart(unittest.TestCase):
+    """Ctrl-C at any moment, also while Python starts and imports. Each command would take a minute."""
+
+    MOMENTS = 0, 0.01, 0.03, 0.06, 0.11, 0.2  # seconds
+
+    def setUp(self):
+        folder = tempfile.TemporaryDirectory()
+        self.addCleanup(folder.cleanup)
+        self.folder = Path(folder.name)
+        self.slow = self.folder / "slow"
+        self.slow.write_text("#!/bin/sh\nexec sleep 60\n")
+        self.slow.chmod(0o755)
+        os.mkfifo(self.folder / "nothing.c")
+        self.commands = {
+            "ask": ["watch", *LOGGED, "counter"], "find": [self.folder / "nothing.c"], "gdb": LOGGED,
+            "pack": [self.folder / "nothing.c", self.folder / "a.log"], "picture": LOGGED,
+            "search": [HUNT / "examples/aba/mended.elf", "8192", "--bad", "hang", "--out", self.folder / "a.log"],
+            "seeds": ["plan.toml", "--bad", "hang", "--seeds", "1-10000000", "--jobs", "1"], "shrink": [*LOGGED, "--out", self.folder / "a.log"], "trace": LOGGED,
+            "../sdk/cc": [self.folder / "nothing.c", "-o", self.folder / "a.elf"]}
+
+    def started(self, name, **more):
+        """What they call is slow, except the tries of seeds, which come to their end after Ctrl-C."""
+        slow = {} if name == "seeds" else {"DELOREAN": str(self.slow), "DELOREAN_CC": str(self.slow)}
+        return started(name, *self.commands[name], stdout=subprocess.DEVNULL, env=os.environ | slow | more, cwd=RACE)
+
+    @staticmethod
+    def line_of(name):
+        return "%s: stopped\n" % name.replace("../sdk/", "delorean-")
+
+    def test_at_many_moments(self):
+        """With the line; without one before Python is there, and where standard output says what was covered."""
+        for moment in self.MOMENTS:
+            processes = {name: self.started(name) for name in self.commands}
+            time.sleep(moment)
+            ended = [interrupted(process) for process in processes.values()]
+            for name, (status, said) in zip(processes, ended):
+                self.assertIn(said, (self.line_of(name), ""), (name, moment))
+                self.assertIn(status, (STOPPED, -signal.SIGINT), (name, moment))
+
+    def test_while_python_starts(self):
+        """Before the first line of the command is read."""
+        (self.folder / "sitecustomize.py").write_text("import time\nopen(%r, 'w').close()\ntime.sleep(0.3)\n"
+                                                      % str(self.folder / "begun"))
+        os.mkfifo(self.folder / "begun")
+        for name in self.commands:
+            process = self.started(name, PYTHONPATH=str(self.folder))
+            (self.folder / "begun").read_text()
+            self.assertEqual(interrupted(process), (STOPPED, self.line_of(name)))
+
+    def test_all_commands_are_here(self):
+        found = {path.name for path in HUNT.iterdir() if path.is_file() and os.access(path, os.X_OK)}
+        self.assertEqual(found | {"../sdk/cc"}, set(self.commands))
 
 
 class NotRead(unittest.TestCase):

@@ -8,7 +8,7 @@ from all_ends import met_ends
 from lib.conditions import read_condition
 from lib.engine import Options
 from lib.symbols import Names
-from small_programs import CODE_OF_THREAD, EXIT, LR, OWN, SC, SPAWN, add, addi, atomic, beq, bne, call, lw, slli, sw
+from small_programs import CODE_OF_THREAD, EXIT, LR, OWN, SC, SPAWN, add, addi, atomic, beq, bne, call, jal, lw, slli, sw
 from test_search import CAN_BUILD, NO_COMPILER, searched
 from test_search_states import A, ANSWER, B, BUFFER, DELAY, ENDS, HANDLER, IRET, REQUEST, SEEN, SPAWNS, laid, sets
 
@@ -183,6 +183,19 @@ class Interrupts(unittest.TestCase):
     def test_masked(self):
         """Whoever leaves a handler without IRET gets no interrupt any more."""
         self.assertEqual(self.met([addi(0, 0, 0)], [lw(9, SEEN), addi(9, 9, 1), sw(9, SEEN), *ENDS], 1, 2), {0, 1})
+
+    def test_masked_at_address_0(self):
+        """An interrupt there with 0 in a0 and a1 saves nothing but 0. The thread jumps to 0 with a link in x12, which is cleared
+        there, so its handler knows. If the interrupt came before, to another handler, the thread jumps to this one itself, with
+        the same registers; and there IRET is refused."""
+        link = 4 * 12
+        sets_up = [addi(10, 0, 2 * CODE_OF_THREAD), *call(HANDLER), addi(10, 0, CODE_OF_THREAD), *call(HANDLER), addi(5, 0, 1),
+                   addi(10, 0, 0), addi(17, 0, 0), jal(12, 4 - link)]
+        jumps = [addi(14, 0, 0), addi(17, 0, 0), addi(10, 0, 1), addi(12, 0, link), jal(0, CODE_OF_THREAD - link - 20)]
+        how, met, _ = met_ends(laid([addi(12, 0, 0), bne(5, 0, link - 4), *sets_up, beq(14, 0, 24), *jumps, sw(9, SEEN), *ENDS],
+                                    [beq(12, 0, 8), addi(9, 0, 7), *call(IRET), addi(9, 9, 1), sw(9, SEEN), *ENDS],
+                                    [addi(14, 0, 1), *call(IRET)]), Options(steps=100000, raises=((0, 1),)))
+        self.assertEqual((how, {end[2] for end in met}), ("all", {0, 7, 8}))
 
 
 @unittest.skipUnless(CAN_BUILD, NO_COMPILER)

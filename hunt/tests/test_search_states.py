@@ -109,6 +109,16 @@ class States(unittest.TestCase):
              bne(8, 0, 8), sw(6, W), *ENDS])
         self.assertEqual(met, {(1, 0, 0, 0, 0): 0, (1, 0, 0, 1, 0): 5})
 
+    def test_words_that_become_places_later(self):
+        """The same, but W is found to be shared only after thread 1 was seen to wait, when its loop had one place."""
+        met = self.outcomes(
+            [*sets(A, 1), *SPAWNS_TWO, *ENDS],
+            [*DELAY, addi(9, 0, 1), sw(9, FLAG), addi(9, 0, 2), sw(9, FLAG), lw(7, A), bne(7, 0, 16), lw(8, W), beq(8, 0, -12),
+             addi(5, 0, 1), sw(5, ANSWER), *ENDS],
+            [*DELAY, lw(7, FLAG), addi(7, 7, -1), lw(8, FLAG), addi(8, 8, -2), *DELAY, addi(6, 0, 1), sw(0, A), sw(6, A),
+             bne(7, 0, 12), bne(8, 0, 8), sw(6, W), *ENDS])
+        self.assertEqual(met, {(1, 0, 0, 0, 0): 0, (1, 0, 0, 1, 0): 5})
+
 
 if __name__ == "__main__":
     unittest.main()

@@ -2,6 +2,7 @@
 early, and a limit from either. The logs are those of seeds, some that are cut, and some of small programs."""
 
 import re
+import subprocess
 import tempfile
 import unittest
 from argparse import Namespace
@@ -89,6 +90,32 @@ class Seeds(Shrunk):
             if status == 0:
                 self.assertTrue(small.meets(read_condition([example.bad], names_of(example.folder)), True), said)
         self.assertEqual(told, {(False, False), (True, False), (True, True)})
+
+
+class EverySeed(Shrunk):
+    """Every log with which an example fails, of seeds 1 to 60, as hunt/seeds keeps them. What shrink does first is done of each:
+    it walks the log, takes it exactly, and judges the end. So none is denied, and what is written has been walked."""
+
+    def test_none_is_denied(self):
+        with mock.patch.object(searching, "explained", lambda *_: []):
+            for example in FAILING:
+                with tempfile.TemporaryDirectory() as folder:
+                    kept = Path(folder) / "kept"
+                    subprocess.run([support.TOP / "hunt/seeds", "plan.toml", "--bad", example.bad, "--seeds", "1-60", "--keep", kept],
+                                   cwd=example.folder, check=True, stdout=subprocess.DEVNULL)
+                    logs = {int(file.stem[5:]): file.read_bytes() for file in kept.glob("seed-*.log")}
+                self.assertGreater(len(logs), 0)
+                for seed, log in logs.items():
+                    self.is_taken(example, seed, log)
+
+    def is_taken(self, example, seed, log):
+        sphere = sphere_of(example.folder)
+        status, said, ended = self.shrunk(*sphere, log, "--bad", example.bad, "--seconds", "0")
+        self.assertEqual(status, 0, (example.folder.name, seed, said))
+        condition = read_condition([example.bad], names_of(example.folder))
+        self.assertTrue(ended.meets(condition, True), (example.folder.name, seed, said))
+        if example.bad != "hang":
+            self.assertTrue(walked(*sphere, log).meets(condition, True), (example.folder.name, seed))
 
 
 class OfRing(Shrunk):
