@@ -129,7 +129,7 @@ def _who(trace, pair):
 
 
 def _at(trace, pair, when=None):
-    return ", ".join(filter(None, (when or "commit %d" % pair[0].number, place(trace, pair[1].pc))))
+    return ", ".join(filter(None, (when or "commit %d" % pair[0].told, place(trace, pair[1].pc))))
 
 
 def _value(access):
@@ -179,7 +179,7 @@ def _use(trace, use):
     what = "faults, cause %d" % served.result if served.name in ("fault", "break") else "calls " + what_served(use.commit)
     pc, x = trace.pcs[use.commit.first], use.commit.before.x
     caller = trace.frames.chain(pc, x, lambda addr: trace.value_before(addr, use.commit.first))[0]
-    return "%s (commit %d, %s)" % (what, use.commit.number, place(trace, caller))
+    return "%s (commit %d, %s)" % (what, use.commit.told, place(trace, caller))
 
 
 _TELL = {Stale: _stale_lines, Early: _early_lines, Overwritten: _overwritten_lines}
