@@ -213,7 +213,7 @@ def open_trace(image, memory, log, account=None):
     """The Trace of files, played and compared with the account of the proved program's walk, or with the file `account`.
     Raises NotWalked if that program refuses the files, NotRead if this one does, Differs if the accounts aren't the same."""
     size = memory_size(memory)
-    walk = None if account else Walk(image, size, log, _begins_tail(log))
+    walk = None if account else Walk(image, size, log, begins_tail(log))
     try:
         loaded = read_image(Path(image).read_bytes(), size)
         read, tail = _read(Path(log).read_bytes())
@@ -231,7 +231,7 @@ def open_trace(image, memory, log, account=None):
     return trace
 
 
-def _begins_tail(name):
+def begins_tail(name):
     try:
         with open(name, "rb") as file:
             return is_tail(file.read(4))

@@ -123,6 +123,11 @@ class Tails(unittest.TestCase):
         with self.assertRaises(Malformed):
             read_tail(data[:-1])
 
+    def test_asked(self):
+        status, _, error = said("ask", "watch", *self.bank(), "account")
+        self.assertEqual(status, 2)
+        self.assertIn("bank.tail is a tail", error)
+
     def test_another_image(self):
         _, memory, tail = self.bank()
         status, _, error = said("trace", EXAMPLES / "race/race.elf", memory, tail)
