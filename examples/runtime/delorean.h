@@ -93,4 +93,11 @@ static inline void print(const char *text) {
     write(CONSOLE, text, length);
 }
 
+/* Ends the thread by a fault if what must hold doesn't. A search for --bad fault ends there. */
+#define must(holds)           \
+    do {                      \
+        if (!(holds))         \
+            __builtin_trap(); \
+    } while (0)
+
 #endif

@@ -12,8 +12,8 @@ the environment variable DELOREAN. With `account="a.txt"` the file is compared, 
 A run is a list of **steps**, numbered from 0. Each instruction is a step, a serial one too; so is a DMA, which has no pc.
 Each step is in a **commit**, and each access to memory, to a device's word or by the kernel is an **Access** of its step:
 
-    trace.commits                   a list of Commit (play.py): number, actor, handler, kind, size, first, last (steps),
-                                    first_access, last_access, before (the thread's Registers), served (what a serial step
+    trace.commits                   a list of Commit (play.py): number, told (its number in accounts, which differs in a tail),
+                                    actor, handler, kind, size, first, last (steps), first_access, last_access, before (the thread's Registers), served (what a serial step
                                     did), raised (the value of an interrupt that came after it), threads, request
     trace.pcs[step]                 the pc of a step; machine.NO_PC for a DMA
     trace.accesses                  a list of Access (isa.py): step, pc, kind, addr, width, value, old, new. kind is one of
@@ -23,7 +23,7 @@ Each step is in a **commit**, and each access to memory, to a device's word or b
     trace.accesses_of(commit)       those of one commit
     trace.of_word(addr)             those of one word, in order, as (Commit, Access)
     trace.words                     the accesses of each word, as indices
-    trace.first_value(addr)         the word in the image
+    trace.first_value(addr)         the word in the image; of a tail, as it begins
     trace.value_before(addr, step)  the word as a step found it
     trace.commit_of(step)           the Commit that has it
     trace.context(commit)           who acted: Context(thread, handler). An interrupt is a context of its own, by its number

@@ -14,7 +14,7 @@ TOP = Path(__file__).resolve().parent.parent.parent
 
 
 def commit_lines(commit, accesses):
-    lines = ["c %d %d %d" % (commit.number, commit.actor, commit.size)]
+    lines = ["c %d %d %d" % (commit.told, commit.actor, commit.size)]
     told = isa.TOLD
     lines += ["l %08X %08X" % (a.addr, a.value) for a in accesses[commit.first_access : commit.last_access]
               if a.kind in told]
@@ -92,9 +92,9 @@ def compare(played, account):
 def _place(played, number, nth_load):
     """In words: the commit, its thread, and the pc of the load, if the line is of one."""
     if number is None:
-        return "after commit %d" % (len(played.commits) - 1) if played.commits else "at the end"
+        return "after commit %d" % played.commits[-1].told if played.commits else "at the end"
     commit = played.commits[number]
-    text = "commit %d, %s" % (number, "a DMA" if commit.actor == DMA else "thread %d" % commit.actor)
+    text = "commit %d, %s" % (commit.told, "a DMA" if commit.actor == DMA else "thread %d" % commit.actor)
     if nth_load is not None:
         told = [a for a in played.machine.accesses[commit.first_access : commit.last_access] if a.kind in isa.TOLD]
         text += ", pc %08X" % told[nth_load].pc
@@ -116,14 +116,14 @@ def program():
 
 
 class Walk:
-    """A walk of the proved program. It runs beside this one until its account is asked for. Messages of bin/delorean, which may
+    """A walk of the proved program, or, of a tail, what its `tail` puts. It runs beside this one until its account is asked for. Messages of bin/delorean, which may
     have to build the program first, go to standard error."""
 
-    def __init__(self, image, memory, log):
+    def __init__(self, image, memory, log, is_tail=False):
         self.output = tempfile.TemporaryFile()  # and no pipe, which would hold the walk up when it is full
+        words = ("tail", "--", str(log)) if is_tail else ("walk", "--", str(image), str(memory), str(log))
         try:
-            self.process = subprocess.Popen([*program(), "walk", "--", str(image), str(memory), str(log)],
-                                            stdin=subprocess.DEVNULL, stdout=self.output)
+            self.process = subprocess.Popen([*program(), *words], stdin=subprocess.DEVNULL, stdout=self.output)
         except OSError as error:
             self.output.close()
             raise NotWalked("%s: %s" % (program()[0], error.strerror), 125) from error

@@ -138,13 +138,16 @@ def read_condition(texts, names):
 # ---------------------------------------------------------------- accounts
 
 
+_TOLD = re.compile(rb"^(?:[thdm] |o 8 |end ).*", re.M)  # most lines of an account are of loads, and are passed over
+
+
 class Ended:
     """What an account tells of the end: of each thread its state, the words of memory, and what the console got."""
 
     def __init__(self, account):
-        self.threads, self.rows, self.console, self.state, self.commits = [], {}, b"", [], 0
-        self.is_complete = False
-        for line in account.decode().split("\n"):
+        self.threads, self.rows, self.console, self.state = [], {}, b"", []
+        self.commits, self.is_complete = account.count(b"\nc ") + account.startswith(b"c "), False
+        for line in map(bytes.decode, _TOLD.findall(account)):
             words = line.split(" ")
             if words[0] == "t":
                 status, _, code = words[3].partition(":")
@@ -153,8 +156,6 @@ class Ended:
                 self.rows[int(words[1], 16)] = bytes.fromhex(words[2])
             elif words[:2] == ["o", "8"]:
                 self.console += bytes.fromhex(words[2])
-            elif words[0] == "c":
-                self.commits += 1
             elif words[:2] == ["end", "complete"]:
                 self.is_complete = True
             if words[0] in ("t", "h", "d", "m"):

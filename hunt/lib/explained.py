@@ -22,7 +22,7 @@ def why_lines(trace, story):
     """Blocks that were used after they were freed, and what why.switch_lines says of the program's own code."""
     yield from story.after_free.values()
     own, is_kept = story.own.files(), True
-    for line in switch_lines(trace):
+    for line in switch_lines(trace, True):
         if not line.startswith(" "):
             places = re.findall(r"\(commit \d+, [^,()]+, ([^:()]+):\d+", line)
             is_kept = not story.own.has_library or all(file in own for file in places)

@@ -63,10 +63,13 @@ def _is_walked(trace, k, loop):
 
 
 def _words(trace, k, loop):
-    """The words that the loop looks at and others use, or if there are none all that it looks at."""
+    """The words that the loop looks at and others use; if there are none, as in a tail, those that aren't in the symbol that the
+    thread's stack is in; else all that it looks at."""
     looked = list(dict.fromkeys(a.addr & ~3 for a in loop.accesses if a.kind in isa.LOADS))
     shared = [word for word in looked if any(commit.actor != k for commit, _ in trace.of_word(word))]
-    return (shared or looked)[:MOST_WORDS]
+    stack = trace.names.symbol(trace.machine.threads[k].x[2])
+    others = [word for word in looked if stack is None or trace.names.symbol(word) != stack]
+    return (shared or others or looked)[:MOST_WORDS]
 
 
 def _chain(trace, k, loop, words):
@@ -155,8 +158,8 @@ def _reasons(trace, wait):
     for word in wait.words:
         last = last_change(trace, word)
         value = trace.machine.words[word >> 2]
-        who = "as it was at first" if last is None else "stored by %s (commit %d, %s)" % (
-            _name(trace, last[0], wait), last[0].number, place(trace, last[1].pc))
+        who = "as it was %s" % trace.begun() if last is None else "stored by %s (commit %d, %s)" % (
+            _name(trace, last[0], wait), last[0].told, place(trace, last[1].pc))
         yield "%s, which is %08X, %s" % (trace.names.name(word), value, who)
     for thread in wait.threads:
         yield "thread %d to end" % thread

@@ -1,5 +1,5 @@
-"""The play of a log: its commits, one after another, on a machine. `play(image, log)` gives the whole Played; a Player does
-one commit at a time."""
+"""The play of a log: its commits, one after another, on a machine. `play(image, log)` gives the whole Played, and
+`play(image, tail.log, tail)` that of a tail, whose memory is the image's; a Player does one commit at a time."""
 
 from collections import namedtuple
 import gc
@@ -10,12 +10,12 @@ from .machine import Machine, Thread, fits
 CHUNK, SERIAL, TRANSFER = "chunk", "serial", "dma"
 NO_THREAD, SHORT, NOT_SERIAL, INPUT, INTERRUPT, BAD_DMA, SIZE_OF_SERIAL, LEFT_OVER = range(1, 9)
 
-# One commit. number: from 0. actor: a thread, or DMA. handler: 0, or which interrupt of the thread (from 1) is being handled.
+# One commit. number: from 0. told: its number in accounts, which for a tail is higher by the tail's base. actor: a thread, or DMA. handler: 0, or which interrupt of the thread (from 1) is being handled.
 # kind: chunk, serial or dma. size: its instructions as an account tells them (0 except for a chunk). first, last: its steps
 # are those from first to below last; first_access, last_access: its accesses likewise. before: the thread's Registers at the
 # beginning (None for a DMA). served: what a serial step did. raised: the value of an interrupt that came after it, or None.
 # threads, request: the number of threads, and the outstanding DMA, before it.
-Commit = namedtuple("Commit", "number actor handler kind size first last first_access last_access before served raised"
+Commit = namedtuple("Commit", "number told actor handler kind size first last first_access last_access before served raised"
                     " threads request")
 # end: ("complete", commits) or ("diverged", commits, reason, ..).
 Played = namedtuple("Played", "commits machine end")
@@ -32,21 +32,37 @@ class _Leaves(Exception):
 class Player:
     """`end` is None until the play has ended; `step` does one more commit."""
 
-    def __init__(self, image, log):
+    def __init__(self, image, log, tail=None):
         self.log, self.machine, self.commits, self.end = log, Machine(image, log.threads), [], None
-        self.last = None  # the last thread that committed
+        self.base, self.last = 0, None  # last: the last thread that committed
         self.inputs = self.dmas = self.raised = self.sized = 0
         self.slots = {slot for slot, _ in log.dmas}
-        self.look()
+        if tail:
+            self.begin_at(tail)
+        if self.end is None:
+            self.look()
+
+    def begin_at(self, tail):
+        """Takes the state in which a tail begins, with the interrupts that came right then."""
+        self.base, self.last, self.machine.request = tail.base, tail.last, tail.request
+        self.machine.threads = [Thread.of(registers) for registers in tail.threads]
+        try:
+            for k in range(len(tail.threads)):
+                self.interrupt(k)
+        except _Leaves as leaves:
+            self.end = ("diverged", self.base) + leaves.args
+
+    def place(self):
+        """The number of the next commit, as accounts have it."""
+        return self.base + len(self.commits)
 
     # ------------------------------------------------------------ what the log says
 
     def head(self):
         """The next actor, or None if no thread is live."""
-        i = len(self.commits)
         if self.log.mode != PICOLOG:
-            return self.log.order[i]
-        return DMA if i in self.slots else self.turn()
+            return self.log.order[len(self.commits)]
+        return DMA if self.place() in self.slots else self.turn()
 
     def turn(self):
         threads = self.machine.threads
@@ -64,8 +80,8 @@ class Player:
 
     def look(self):
         """Sets the end, if there is one before the next commit."""
-        i, log = len(self.commits), self.log
-        if i == log.count:
+        i, log = self.place(), self.log
+        if len(self.commits) == log.count:
             sizes = 0 if log.mode == ORDER_SIZE else len(log.sizes)
             used = (self.sized, self.raised, self.inputs, self.dmas)
             whole = used == (sizes, len(log.interrupts), len(log.inputs), len(log.dmas))
@@ -84,7 +100,7 @@ class Player:
             done = self.transfer() if actor == DMA else self.thread_step(actor)
         except _Leaves as leaves:
             self.undo(actor, start)
-            self.end = ("diverged", len(self.commits)) + leaves.args
+            self.end = ("diverged", self.place()) + leaves.args
             return
         self.commits.append(self.commit(actor, start, done))
         if actor != DMA:
@@ -99,7 +115,7 @@ class Player:
     def commit(self, actor, start, done):
         m, (kind, size, served, raised), before = self.machine, done, start.before
         handler = before.interrupts if before and before.masked else 0
-        return Commit(len(self.commits), actor, handler, kind, size, start.steps, len(m.pcs), start.accesses, len(m.accesses),
+        return Commit(len(self.commits), self.place(), actor, handler, kind, size, start.steps, len(m.pcs), start.accesses, len(m.accesses),
                       before, served, raised, start.threads, start.request)
 
     def undo(self, actor, start):
@@ -115,7 +131,7 @@ class Player:
         size = self.size(DMA)
         if size:
             raise _Leaves(SIZE_OF_SERIAL, size)
-        i, request = len(self.commits), self.machine.request
+        i, request = self.place(), self.machine.request
         slot, data = self.log.dmas[self.dmas] if self.dmas < len(self.log.dmas) else (None, b"")
         if request is None or slot != i or len(data) > request[1]:
             raise _Leaves(BAD_DMA)
@@ -159,9 +175,9 @@ class Player:
         return value
 
 
-def play(image, log):
+def play(image, log, tail=None):
     """The whole play."""
-    player, collects = Player(image, log), gc.isenabled()
+    player, collects = Player(image, log, tail), gc.isenabled()
     gc.disable()  # nothing here is a cycle, and looking for some takes most of the time
     try:
         while player.end is None:

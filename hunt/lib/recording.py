@@ -5,6 +5,8 @@ of it. If threads are live at the log's end, the engine goes on from there: all 
 on any more, or the limit of steps is met before.
 """
 
+import re
+
 from .account import NotWalked
 from .conditions import ANY, COMPARISONS, Atom, Ended
 from .engine import EXACTLY, TO_LAST_TURN
@@ -16,7 +18,7 @@ from .shrinking import turns_of
 
 def commits_of(account):
     """(actor, size) of each commit that the account tells."""
-    return [tuple(map(int, line.split()[2:])) for line in account.decode().split("\n") if line.startswith("c ")]
+    return [(int(actor), int(size)) for actor, size in re.findall(rb"^c \d+ (\d+) (\d+)$", account, re.M)]
 
 
 class Recording:

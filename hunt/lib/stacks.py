@@ -85,4 +85,4 @@ def stack_lines(trace):
         commit, pc = trace.commit_of(over.step), trace.pcs[over.step]
         where = "" if over.whose is None else ", into that of thread %d" % over.whose
         yield "the stack of thread %d is run over: its sp comes down to %08X, and it begins at %08X%s (first in commit %d, %s)" % (
-            over.thread, over.lowest, over.begin, where, commit.number, place(trace, pc))
+            over.thread, over.lowest, over.begin, where, commit.told, place(trace, pc))

@@ -137,11 +137,16 @@ class Names:
 
     def name(self, addr):
         """An address of data in words: `counter`, `stacks+0x40`, or its number."""
+        symbol = self.symbol(addr)
+        if symbol is None:
+            return "%08X" % addr
+        away = addr - symbol.addr
+        return symbol.name + ("+0x%X" % away if away else "")
+
+    def symbol(self, addr):
+        """The Symbol of data that an address is in, or None."""
         j = bisect_right(self.data_at, addr) - 1
-        if j >= 0 and addr < self.data[j].addr + self.data[j].size:
-            away = addr - self.data[j].addr
-            return self.data[j].name + ("+0x%X" % away if away else "")
-        return "%08X" % addr
+        return self.data[j] if j >= 0 and addr < self.data[j].addr + self.data[j].size else None
 
     def words(self, text):
         """The addresses of all words of a symbol, or of the one word that a WORD means."""

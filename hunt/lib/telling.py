@@ -57,7 +57,7 @@ def answer_line(line):
 
 
 def access_row(trace, commit, a, note=""):
-    return ("commit %d" % commit.number, context_name(trace.context(commit)), verb(a.kind), values(a), place(trace, a.pc), note)
+    return ("commit %d" % commit.told, context_name(trace.context(commit)), verb(a.kind), values(a), place(trace, a.pc), note)
 
 
 def folded_rows(trace, pairs):
@@ -66,10 +66,10 @@ def folded_rows(trace, pairs):
     for commit, a in pairs:
         row = access_row(trace, commit, a)
         if rows and a.kind not in isa.STORES and row[1:] == rows[-1][1:]:
-            runs[-1] = runs[-1][0] + 1, runs[-1][1], commit.number
+            runs[-1] = runs[-1][0] + 1, runs[-1][1], commit.told
         else:
             rows.append(row)
-            runs.append((1, commit.number, commit.number))
+            runs.append((1, commit.told, commit.told))
     return [(*row[:-1], times(*run)) for row, run in zip(rows, runs)]
 
 
@@ -97,7 +97,7 @@ _ARGUMENTS = {"random": 2, "clock": 0, "handler": 1, "iret": 0, "dma": 2, "self"
 
 def commit_line(trace, commit):
     """For example `commit 14: thread 2, 15 instructions, work, race.c:20 to work, race.c:24`."""
-    head = "commit %d: %s" % (commit.number, context_name(trace.context(commit)))
+    head = "commit %d: %s" % (commit.told, context_name(trace.context(commit)))
     if commit.served:
         return "%s, %s, %s" % (head, what_served(commit), place(trace, trace.pcs[commit.first]))
     if commit.actor == DMA:

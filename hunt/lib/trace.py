@@ -1,8 +1,9 @@
-"""What a log's play did, checked against the account of the proved program: `open_trace(image, memory, log)`."""
+"""What a log's or a tail's play did, checked against the account of the proved program: `open_trace(image, memory, log)`."""
 
 from bisect import bisect_left, bisect_right
 from collections import namedtuple
 from pathlib import Path
+import sys
 import tempfile
 
 from . import isa
@@ -10,9 +11,10 @@ from .account import Walk, compare
 from .frames import Frames
 from .image import NotAnImage, read_image
 from .logs import DMA, ORDER_SIZE, Malformed, read_log, write_log
-from .machine import Machine, Thread
+from .machine import NO_PC, Machine, Thread
 from .play import play
 from .symbols import Names
+from .tails import is_tail, read_tail
 
 # Who acts: thread (or DMA), and handler: 0, or which of the thread's interrupts (from 1).
 Context = namedtuple("Context", "thread handler")
@@ -25,14 +27,16 @@ def context_name(context):
 
 
 class Trace:
-    """commits: a list of Commit. accesses: all Accesses in order. pcs: the pc of each step. machine: as it is at the end.
+    """commits: a list of Commit. accesses: all Accesses in order. pcs: the pc of each step. machine: as it is at the end. image: its
+    memory is that before the first commit. tail: the Tail that was played, or None. base: the first commit's number in accounts.
     longer: as `longer(commits)` it is the Trace of a longer log, walked and compared like this one, where commits are (thread,
     size, Input or None); None if nothing was walked. atomic: addresses of words that count as atomic."""
 
     longer, atomic = None, ()
 
-    def __init__(self, image, log, played):
+    def __init__(self, image, log, played, tail=None):
         self.image, self.log, self.end = image, log, played.end
+        self.tail, self.base = tail, tail.base if tail else 0
         self.commits, self.machine = played.commits, played.machine
         self.accesses, self.pcs = played.machine.accesses, played.machine.pcs
         self.names = Names(image)
@@ -49,6 +53,10 @@ class Trace:
         if self._frames is None:
             self._frames = Frames(self.image)
         return self._frames
+
+    def begun(self):
+        """Of what was so before the first commit: when that was."""
+        return "before commit %d" % self.base if self.base else "at first"
 
     # ------------------------------------------------------------ steps and commits
 
@@ -205,21 +213,63 @@ def open_trace(image, memory, log, account=None):
     """The Trace of files, played and compared with the account of the proved program's walk, or with the file `account`.
     Raises NotWalked if that program refuses the files, NotRead if this one does, Differs if the accounts aren't the same."""
     size = memory_size(memory)
-    walk = None if account else Walk(image, size, log)
+    walk = None if account else Walk(image, size, log, begins_tail(log))
     try:
         loaded = read_image(Path(image).read_bytes(), size)
-        read = read_log(Path(log).read_bytes())
+        read, tail = _read(Path(log).read_bytes())
         text = Path(account).read_bytes() if account else None
     except (OSError, NotAnImage, Malformed) as error:
         if walk:
             walk.account()  # refuses it in the program's own words
         raise NotRead(_in_words(error)) from error
-    played = play(loaded, read)
+    loaded = _at_base(loaded, tail) if tail else loaded
+    played = play(loaded, read, tail)
     compare(played, walk.account() if walk else text)
-    trace = Trace(loaded, read, played)
+    trace = Trace(loaded, read, played, tail)
     if walk:
         trace.longer = lambda commits: _longer(image, memory, trace, commits)
     return trace
+
+
+def begins_tail(name):
+    try:
+        with open(name, "rb") as file:
+            return is_tail(file.read(4))
+    except OSError:
+        return False
+
+
+def _read(data):
+    """(Log, Tail or None) of a file's bytes."""
+    tail = read_tail(data) if is_tail(data) else None
+    return (tail.log, tail) if tail else (read_log(data), None)
+
+
+def _at_base(image, tail):
+    """The image with the memory that a tail begins with."""
+    if len(tail.memory) != image.size:
+        raise NotRead("MEMORY is %d, and the tail's memory has %d bytes" % (image.size, len(tail.memory)))
+    return image._replace(memory=tail.memory)
+
+
+def doubted(command, trace):
+    """Says on standard error what is to be doubted of all that is told of a trace. Gives the command's status: 0, or 1 if there is any."""
+    doubts = []
+    if trace.end[0] != "complete":
+        doubts.append("the log leaves the program at commit %d, reason %d: all this is of the commits before. Is the image that with "
+                      "which the log was recorded?" % trace.end[1:3])
+    if trace.tail and not _has_code(trace):
+        doubts.append("the tail has other instructions than the image, so names and lines may be wrong. Is the image that with which "
+                      "it was recorded?")
+    for doubt in doubts:
+        print("%s: %s" % (command, doubt), file=sys.stderr)
+    return 1 if doubts else 0
+
+
+def _has_code(trace):
+    """Whether what was executed first is the image's. Programs may change their instructions later."""
+    memory = read_image(trace.image.file, trace.image.size).memory
+    return all(trace.first_value(pc) == int.from_bytes(memory[pc : pc + 4], "little") for pc in set(trace.pcs) - {NO_PC})
 
 
 def _longer(image, memory, trace, commits):
@@ -229,7 +279,7 @@ def _longer(image, memory, trace, commits):
     inputs = log.inputs + [answer for _, _, answer in commits if answer]
     longer = log._replace(mode=ORDER_SIZE, count=len(order), order=order, sizes=sizes, inputs=inputs)
     with tempfile.NamedTemporaryFile(prefix="longer-", suffix=".log") as file:
-        file.write(write_log(longer))
+        file.write((trace.tail.head if trace.tail else b"") + write_log(longer))
         file.flush()
         return open_trace(image, memory, file.name)
 

@@ -9,6 +9,7 @@ from .account import Differs, NotWalked
 from .halfway import Early, Overwritten, early_at_end, early_looks, overwritten, taken_over
 from .hangs import hang_lines
 from .stacks import stack_lines
+from .switches import Crossing, crossing, ends_badly, forced_switches
 from .telling import place, what_served
 from .trace import NotRead, context_name, open_trace
 from .whatif import Otherwise
@@ -103,25 +104,67 @@ def explained(image, memory, log, is_hang=False):
         file.flush()
         try:
             trace = open_trace(image, memory, file.name)
-            return [*stack_lines(trace), *switch_lines(trace), *(hang_lines(trace) if is_hang else [])]
+            return [*stack_lines(trace), *switch_lines(trace, True), *(hang_lines(trace) if is_hang else [])]
         except (Differs, NotRead, NotWalked):
             return []
 
 
-def switch_lines(trace):
-    """Two lines for each switch at which a load became stale and was used, or at which others saw what was half done. If there are
-    none, those at which the load had been announced, or a thread found another value than its own; or else those at which others saw
-    what would be done only after the log's end. None at all: []."""
+def switch_lines(trace, is_bad=None):
+    """Two lines or so for each switch at which a load became stale and was used, or at which others saw what was half done. If there
+    are none, those at which the load had been announced, or a thread found another value than its own; or else those at which others
+    saw what would be done only after the log's end. If the run is bad, which is looked up if it isn't said, and has few forced switches, what came of each other one."""
+    told = [(trace, found) for found in _used(trace)] or [(longer, early) for early, longer in early_at_end(trace)]
+    if ends_badly(trace) if is_bad is None else is_bad:
+        told = told + [(trace, found) for found in _others(trace, told)]
+    groups = _folded(sorted(told, key=lambda pair: _left(pair[1])[0][1].step))
+    lines = [line for group in groups[:MOST_TOLD] for line in _group_lines(trace, group)]
+    return lines + (["%d more like these" % (len(groups) - MOST_TOLD)] if len(groups) > MOST_TOLD else [])
+
+
+def _others(trace, told):
+    """The Crossings of forced switches that aren't told."""
+    for switch in forced_switches(trace):
+        found = crossing(trace, switch)
+        if found and not any(_is_of(switch, *_left(it)) for _, it in told):
+            yield found
+
+
+def _used(trace):
     stale = stale_uses(trace)
     known = {s.load[1].step for s in stale}
     first = [s for s in stale if not s.is_announced] + [e for e in early_looks(trace) if e.load[1].step not in known]
-    told = sorted(first or stale + overwritten(trace), key=lambda found: found.load[1].step)
-    lines = [line for found in told[:MOST_TOLD] for line in _TELL[type(found)](trace, found)] + _more(told)
-    return lines or [line for early, longer in early_at_end(trace) for line in _early_lines(longer, early, "after the log's end")]
+    return sorted(first or stale + overwritten(trace), key=lambda found: found.load[1].step)
 
 
-def _more(told):
-    return ["%d more like these" % (len(told) - MOST_TOLD)] if len(told) > MOST_TOLD else []
+def _left(found):
+    """(the access after which its thread is left, what another one does meanwhile), each as (Commit, Access)."""
+    if isinstance(found, Crossing):
+        return found.last or found.own, found.other
+    if isinstance(found, Early):
+        return found.first, found.load
+    return (found.load, found.stores[-1]) if isinstance(found, Stale) else (found.own, found.others[-1])
+
+
+def _is_of(switch, left, other):
+    return left[0].actor == switch.thread and switch.last < other[0].number < switch.back
+
+
+def _folded(told):
+    """Those that are at the same places, of the same word, as one list."""
+    groups = {}
+    for trace, found in told:
+        left, other = _left(found)
+        use = getattr(found, "use", None)
+        groups.setdefault((left[1].pc, other[1].pc, other[1].addr, use and use.access and use.access.pc), []).append((trace, found))
+    return list(groups.values())
+
+
+def _group_lines(trace, group):
+    """The lines of the first one, with how many more there are."""
+    its, found = group[0]
+    first, *rest = _TELL[type(found)](its, found, "after the log's end" if its is not trace else None)
+    more = "" if len(group) == 1 else ", and once more" if len(group) == 2 else ", and %d times more" % (len(group) - 1)
+    return [first, rest[0] + more, *rest[1:]] if rest else [first + more]
 
 
 def _who(trace, pair):
@@ -129,7 +172,7 @@ def _who(trace, pair):
 
 
 def _at(trace, pair, when=None):
-    return ", ".join(filter(None, (when or "commit %d" % pair[0].number, place(trace, pair[1].pc))))
+    return ", ".join(filter(None, (when or "commit %d" % pair[0].told, place(trace, pair[1].pc))))
 
 
 def _value(access):
@@ -137,7 +180,7 @@ def _value(access):
     return "%0*X" % (2 * access.width, access.new >> shift & bits)
 
 
-def _stale_lines(trace, stale):
+def _stale_lines(trace, stale, _):
     load, last = stale.load, stale.stores[-1]
     more = ", after %d more" % (len(stale.stores) - 1) if len(stale.stores) > 1 else ""
     yield "%s is left with %s = %s (%s); %s stores %s (%s%s)," % (
@@ -160,13 +203,37 @@ def _early_lines(trace, early, when=None):
         _who(trace, load), _value(load[1]), _at(trace, load), _use(trace, early.use))
 
 
-def _overwritten_lines(trace, found):
+def _overwritten_lines(trace, found, _):
     own, last, load = found.own, found.others[-1], found.load
     yield "%s is left after it stores %s to %s (%s); %s stores %s (%s)," % (
         _who(trace, own), _value(own[1]), trace.names.name(found.word), _at(trace, own), _who(trace, last), _value(last[1]),
         _at(trace, last))
     yield "    and %s finds that (%s), and goes another way than with %s: it %s" % (
         _who(trace, load), _at(trace, load), _value(own[1]), _use(trace, found.use))
+
+
+def _crossing_lines(trace, found, _):
+    """What another thread does meanwhile with a word that the thread uses after it, or else has used before."""
+    last, own, other, is_before = found
+    head = "%s is left %s it %s (%s); %s %s (%s)" % (
+        _who(trace, own), "after" if last else "before", _does(trace, last or own), _at(trace, last or own), _who(trace, other),
+        _does(trace, other), _at(trace, other))
+    if last is None or is_before and own == last:
+        yield head
+        return
+    yield head + ","
+    if is_before:
+        yield "    where %s had %s (%s)" % (_who(trace, own), "stored" if own[1].kind in isa.STORES else "loaded", _at(trace, own))
+    elif other[1].kind in isa.STORES and trace.is_look(own[1]):
+        yield "    and %s finds that (%s)" % (_who(trace, own), _at(trace, own))
+    else:
+        how = "over it" if other[1].kind in isa.STORES else "there only then"
+        yield "    and %s stores %s %s (%s)" % (_who(trace, own), _value(own[1]), how, _at(trace, own))
+
+
+def _does(trace, pair):
+    how = "stores %s to %s" if pair[1].kind in isa.STORES else "loads %s of %s"
+    return how % (_value(pair[1]), trace.names.name(pair[1].addr))
 
 
 def _use(trace, use):
@@ -179,8 +246,8 @@ def _use(trace, use):
     what = "faults, cause %d" % served.result if served.name in ("fault", "break") else "calls " + what_served(use.commit)
     pc, x = trace.pcs[use.commit.first], use.commit.before.x
     caller = trace.frames.chain(pc, x, lambda addr: trace.value_before(addr, use.commit.first))[0]
-    return "%s (commit %d, %s)" % (what, use.commit.number, place(trace, caller))
+    return "%s (commit %d, %s)" % (what, use.commit.told, place(trace, caller))
 
 
-_TELL = {Stale: _stale_lines, Early: _early_lines, Overwritten: _overwritten_lines}
+_TELL = {Stale: _stale_lines, Early: _early_lines, Overwritten: _overwritten_lines, Crossing: _crossing_lines}
 MOST_TOLD = 8

@@ -108,8 +108,8 @@ def uses(trace, word):
     found = {}
     for commit, a in trace.of_word(word):
         key = (_lane(commit), a.kind, a.pc)
-        count, first = found[key][:2] if key in found else (0, commit.number)
-        found[key] = (count + 1, first, commit.number)
+        count, first = found[key][:2] if key in found else (0, commit.told)
+        found[key] = (count + 1, first, commit.told)
     return [Use(lane, kind, pc, *rest) for (lane, kind, pc), rest in found.items()]
 
 

@@ -7,7 +7,7 @@ from lib.halfway import early_at_end, early_looks, overwritten, taken_over
 from lib.why import stale_uses, switch_lines
 from small_programs import EXIT, SHARED, SPAWN, addi, call, lw, sw
 from test_guide import HAS_LINES, NO_LINES
-from test_hangs import walked
+from test_hangs import two_locks, walked
 from test_words import ADD, LBU, LW, SB, SW, by_hand, interrupted
 
 # Of each bug: the plan, the word, and the source lines of the load, of the store that made it stale, and of what was done then.
@@ -86,10 +86,11 @@ class Examples(unittest.TestCase):
             self.assertIn(text, source(recording, trace, access.pc))
 
     def test_at_most_five_lines(self):
-        """Of what a search or a seed finds; the race's log has two switches more, and that of ticks.c five interrupts."""
+        """The first two name the store that made the load stale; of what comes again at the same places the first is told."""
         for plan in [plan for plan, *_ in STALE] + ["once, plan.toml", "last-reader, plan.toml"]:
-            if plan not in ("race, plan.toml", "interrupt, plan.toml"):
-                self.assertLessEqual(len(switch_lines(traced(plan)[1])), 5, plan)
+            self.assertLessEqual(len(switch_lines(traced(plan)[1])), 5, plan)
+        self.assertIn(", and 4 times more", switch_lines(traced("interrupt, plan.toml")[1])[1])
+        self.assertIn(", and once more", switch_lines(traced("race, plan.toml")[1])[3])
 
     def test_mended(self):
         for plan in ("last-reader, mended.toml", "below-zero, mended.toml","race, mended.toml", "once, mended.toml", "release, mended.toml"):
@@ -179,6 +180,42 @@ class AtTheEnd(unittest.TestCase):
         """Thread 1 loads the data when they are there."""
         trace = walked(self, self.code(sw(0, SHARED + 4)), [(0, 2), (0, 0), (0, 4), (1, 4), (1, 0)])
         self.assertEqual((early_at_end(trace), switch_lines(trace)), ([], []))
+
+
+@unittest.skipUnless(support.can_walk(), support.NOT_BUILT)
+class NothingStale(unittest.TestCase):
+    """A thread is left though it could go on, and none of its loads is stale."""
+
+    def test_two_locks(self):
+        """Each thread has stored to its lock, and then finds the other's. Thread 0 is left after it took the lock at SHARED."""
+        trace = walked(self, *two_locks())
+        first, second = switch_lines(trace)
+        self.assertRegex(first, r"^thread 0 is left after it stores 00000001 to %08X \(commit 2, .*; thread 1 stores 00000001 to %08X" % (
+            SHARED, SHARED + 4))
+        self.assertRegex(second, r"^    and thread 0 finds that \(commit \d")
+
+    def run_of(self, first, second, turns):
+        """Thread 0 starts thread 1, and each does its instructions; then thread 0 ends with 7."""
+        code = {4 * j: word for j, word in enumerate([addi(10, 0, 0x100), *call(SPAWN), addi(5, 0, 1), *first, addi(10, 0, 7), *call(EXIT)])}
+        code.update({0x100 + 4 * j: word for j, word in enumerate([addi(5, 0, 2), *second, addi(10, 0, 0), *call(EXIT)])})
+        return walked(self, code, [(0, 2), (0, 0), *turns])
+
+    def test_a_store_over_another(self):
+        trace = self.run_of([sw(5, SHARED + 8), sw(5, SHARED)], [lw(6, SHARED + 8), sw(5, SHARED)],
+                            [(0, 2), (1, 5), (1, 0), (0, 3), (0, 0)])
+        self.assertEqual([line.replace(" ", "")[:30] for line in switch_lines(trace)][1], "andthread0stores00000001overit")
+
+    def test_a_store_that_is_seen(self):
+        """What thread 1 does has nothing to do with what thread 0 does after it."""
+        trace = self.run_of([sw(5, SHARED)], [lw(6, SHARED)], [(0, 2), (1, 4), (1, 0), (0, 2), (0, 0)])
+        (line,) = switch_lines(trace)
+        self.assertIn("thread 0 is left after it stores 00000001 to 00000400 (commit 2, ", line)
+        self.assertIn("thread 1 loads 00000001 of 00000400 (commit 3, ", line)
+
+    def test_a_run_that_ends_well(self):
+        trace = self.run_of([sw(5, SHARED), addi(0, 0, 0)], [lw(6, SHARED)], [(0, 2), (1, 4), (1, 0), (0, 3), (0, 0)])
+        self.assertEqual(len(switch_lines(trace)), 1)
+        self.assertEqual(switch_lines(trace, False), [])
 
 
 if __name__ == "__main__":

@@ -22,9 +22,9 @@ def _finding(trace, kind, find):
     commit, access = find.load
     last = find.others[-1]
     text = "%s: %s loads %s of %s in commit %d; %s stores %s in commit %d%s; %s stores %s in commit %d" % (
-        kind, _who(commit), values(access).split(" ")[0], trace.names.name(find.word), commit.number,
-        _who(last[0]), values(last[1]), last[0].number, _more(len(find.others) - 1),
-        _who(find.store[0]), values(find.store[1]), find.store[0].number)
+        kind, _who(commit), values(access).split(" ")[0], trace.names.name(find.word), commit.told,
+        _who(last[0]), values(last[1]), last[0].told, _more(len(find.others) - 1),
+        _who(find.store[0]), values(find.store[1]), find.store[0].told)
     return Finding(kind, accesses, text)
 
 

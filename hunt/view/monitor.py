@@ -24,12 +24,13 @@ def answer(stub, text):
 
 def commit(stub, number, instruction="0"):
     line, commits = stub.timeline, stub.timeline.trace.commits
-    if not number.isascii() or not number.isdecimal() or int(number) > len(commits):
-        return "commit: a number up to %d, which is the end" % len(commits)
-    if int(number) == len(commits):
+    first, end = line.trace.base, line.trace.base + len(commits)
+    if not number.isascii() or not number.isdecimal() or not first <= int(number) <= end:
+        return "commit: a number %sup to %d, which is the end" % ("from %d " % first if first else "", end)
+    if int(number) == end:
         line.go(line.steps)
         return where(stub)
-    wanted = commits[int(number)]
+    wanted = commits[int(number) - first]
     if not instruction.isascii() or not instruction.isdecimal() or int(instruction) >= wanted.last - wanted.first:
         return "commit: it has the instructions 0 to %d" % (wanted.last - wanted.first - 1)
     line.go(wanted.first + int(instruction))
@@ -42,7 +43,7 @@ def commit(stub, number, instruction="0"):
 def where(stub):
     line = stub.timeline
     here = line.commit_at(line.at)
-    rows = ["the end, after %d commits" % len(line.trace.commits)] if here is None else [commit_line(line.trace, here)]
+    rows = ["the end, after %d commits" % (line.trace.base + len(line.trace.commits))] if here is None else [commit_line(line.trace, here)]
     if here is not None:
         rows.append("next: " + _step(line, line.at))
     if line.at:
@@ -54,8 +55,8 @@ def _step(line, at):
     """A step in words: `thread 2, instruction 3 of commit 14, work, race.c:22`."""
     commit, pc = line.commit_at(at), line.trace.pcs[at]
     if pc == NO_PC:
-        return "the DMA of commit %d" % commit.number
-    return "thread %d, instruction %d of commit %d, %s" % (commit.actor, at - commit.first, commit.number, place(line.trace, pc))
+        return "the DMA of commit %d" % commit.told
+    return "thread %d, instruction %d of commit %d, %s" % (commit.actor, at - commit.first, commit.told, place(line.trace, pc))
 
 
 def who(stub, text):
@@ -66,11 +67,15 @@ def who(stub, text):
     after = [store for store in stores if store[1].step >= line.at]
     value = int.from_bytes(line.memory(word, 4), "little")
     rows = ["%s: %08X here" % (word_name(trace, word), value)]
-    rows.append("last stored: " + (_store(trace, *before[-1]) if before else "by none, it is the image's"))
+    rows.append("last stored: " + (_store(trace, *before[-1]) if before else _by_none(trace)))
     rows.append("next stored: " + (_store(trace, *after[0]) if after else "by none"))
     return "\n".join(rows)
 
 
+def _by_none(trace):
+    return "before commit %d" % trace.base if trace.base else "by none, it is the image's"
+
+
 def _store(trace, commit, a):
     """The store in words, with what `monitor commit` goes to it by."""
-    return ", ".join(filter(None, access_row(trace, commit, a))) + " (commit %d %d)" % (commit.number, a.step - commit.first)
+    return ", ".join(filter(None, access_row(trace, commit, a))) + " (commit %d %d)" % (commit.told, a.step - commit.first)

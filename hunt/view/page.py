@@ -31,7 +31,7 @@ def _model(p):
     ran = [rans.number(tuple(map(spans.number, texts))) for texts in p.ran]
     packed = array("B", (entry | at << 4 | width - 1 << 6 for entry, at, width in zip(p.entry, p.at, p.width)))
     return {
-        "about": about(p), "lanes": p.lanes, "kinds": KINDS, "entries": ENTRIES,
+        "about": about(p), "base": p.trace.base, "lanes": p.lanes, "kinds": KINDS, "entries": ENTRIES,
         "lane": _column("B", p.lane), "kind": _column("B", p.kind), "size": _column("I", p.size),
         "note": _column("I", map(notes.number, p.note)), "ran": _column("I", ran), "first": _column("I", p.first),
         "word": _column("I", p.word), "value": _column("I", p.value), "entry": _column("B", packed), "place": _column("I", p.place),
@@ -43,7 +43,8 @@ def _model(p):
 def about(p):
     trace = p.trace
     end = "complete" if trace.end[0] == "complete" else "diverged at commit %d, for reason %d" % trace.end[1:3]
-    return "%d commits, %d instructions, %s, %s" % (len(trace.commits), trace.steps, MODE_NAMES[trace.log.mode], end)
+    first = "from commit %d on, " % trace.base if trace.base else ""
+    return first + "%d commits, %d instructions, %s, %s" % (len(trace.commits), trace.steps, MODE_NAMES[trace.log.mode], end)
 
 
 def _column(code, values):

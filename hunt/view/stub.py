@@ -152,7 +152,7 @@ class Stub:
         if status[0] != "live":
             return "%s %d" % status
         step = line.next_of(k, line.at)
-        return "does no more" if step is None else "next in commit %d" % line.commit_at(step).number
+        return "does no more" if step is None else "next in commit %d" % line.commit_at(step).told
 
     # ------------------------------------------------------------ what is read
 

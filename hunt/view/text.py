@@ -10,14 +10,15 @@ KEY = ("counter=7<13: loads 7 of counter, which commit 13 stored; counter:=8: st
 
 
 def rows(picture, first, last, width, has_colour=False):
-    """The lines, of the commits from first to last, and of the findings in these."""
-    last = min(last, len(picture.lane) - 1)
-    number = max(6, len(str(last)))
+    """The lines, of the commits that are told as first to last, and of the findings in these."""
+    base = picture.trace.base
+    first, last = max(first - base, 0), min(last - base, len(picture.lane) - 1)
+    number = max(6, len(str(base + last)))
     column = max(LEAST, (width - number - 1) // max(1, len(picture.lanes)) - 1)
     yield " ".join(["commit".rjust(number), *(name[:column].ljust(column) for name in picture.lanes)]).rstrip()
     cells = _Cells(picture)
     for i in range(first, last + 1):
-        head = str(i).rjust(number)
+        head = str(base + i).rjust(number)
         for words in _wrapped(cells.of(i), column):
             yield head + " " * (1 + picture.lane[i] * (column + 1)) + " ".join(_coloured(words) if has_colour else words)
             head = " " * number
@@ -61,7 +62,7 @@ class _Cells:
         sign = {"l": "=", "s": ":=", "f": "!="}[p.letter(e)]
         found = self.found_by[e]
         origin = "" if found is None else bisect_right(p.first, found) - 1
-        origin = "" if origin in ("", bisect_right(p.first, e) - 1) else "<%d" % origin
+        origin = "" if origin in ("", bisect_right(p.first, e) - 1) else "<%d" % (p.trace.base + origin)
         times = "*%d" % count if count > 1 else ""
         is_red = any(x in self.red for x in self._entries(e, count))
         return "%s%s%s%s%s%s" % (name or "%08X" % addr, sign, _value(p.value[e]), origin, times, "!" if is_red else "")

@@ -36,4 +36,11 @@ static inline unsigned start_thread(unsigned (*function)(unsigned), unsigned arg
 static inline void join(unsigned thread) { pthread_join(starts[thread].thread, 0); }
 static inline unsigned yield(void) { return (unsigned)sched_yield(); }
 
+/* Ends the thread by a fault if what must hold doesn't. A search for --bad fault ends there. */
+#define must(holds)           \
+    do {                      \
+        if (!(holds))         \
+            __builtin_trap(); \
+    } while (0)
+
 #endif
