@@ -24,7 +24,7 @@ FEW_THREADS = 15  # as many as logs of version 1 have
 # image: the path. memory: bytes. threads: how many there may be in all. has_library: whether delorean-cc has linked it.
 Program = namedtuple("Program", "image memory threads has_library")
 # switches: at most so many forced ones, or None. seconds: of the search. bad: further conditions. input: a file, or None.
-Limits = namedtuple("Limits", "switches seconds shrink_seconds bad input seed steps")
+Limits = namedtuple("Limits", "switches seconds shrink_seconds bad input seed steps tick", defaults=(TICK,))
 # status: below. search: as the engine has it. run: a Run, or None. seconds: that the search took. condition: what a failure is.
 Finding = namedtuple("Finding", "status search run seconds condition")
 # log: bytes, that the proved walk has judged. ended: what the walk's account tells. forced: how many forced switches. left: of each
@@ -93,7 +93,7 @@ def conditions(program, limits):
 
 def job_of(program, limits):
     return Job(Namespace(image=program.image, memory=str(program.memory), bad=conditions(program, limits), input=limits.input,
-                         seed=limits.seed, out=os.devnull, tick=TICK, turn=TURN, steps=limits.steps, raises=[],
+                         seed=limits.seed, out=os.devnull, tick=limits.tick, turn=TURN, steps=limits.steps, raises=[],
                          log_version=1 if program.threads <= FEW_THREADS else 2))
 
 

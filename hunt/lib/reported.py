@@ -3,6 +3,7 @@
 import shlex
 import sys
 
+from .advice import advice
 from .chains import chain_text
 from .finding import FOUND
 from .found import LOG, PICTURE, PLAN
@@ -41,7 +42,12 @@ def why_it_ended(result):
 
 
 def covered(result):
-    """What was covered without a failure, and never more."""
+    """What was covered without a failure, and never more; and what to try if that isn't all."""
+    yield from covered_alone(result)
+    yield from advice(result)
+
+
+def covered_alone(result):
     if result.limited:
         yield "no failure in %s, but what comes after that isn't covered" % counted(result.tries, "run")
         yield "%s came to the limit of steps (--steps)" % counted(result.limited, "run")
