@@ -53,14 +53,14 @@ def _note(blocks, block, numbers):
     return Note(numbers[block], function, _wait(blocks, block, numbers), holds)
 
 
-def notes_of(trace):
-    """The Note of each thread that is live at the end, by number. None of any if the image has no notes."""
+def notes_of(trace, is_live=True):
+    """The Note of each thread that is live at the end, or of each that isn't, by number. None of any if the image has no notes."""
     if not all(trace.names.has(name) for name in NEEDED):
         return []
     blocks = _Blocks(trace)
     numbers = blocks.numbers()
     notes = [_note(blocks, block, numbers) for block, number in numbers.items() if number < len(trace.machine.threads)]
-    return sorted((n for n in notes if trace.machine.threads[n.thread].live()), key=lambda n: n.thread)
+    return sorted((n for n in notes if trace.machine.threads[n.thread].live() == is_live), key=lambda n: n.thread)
 
 
 # ---------------------------------------------------------------- in words
@@ -70,12 +70,23 @@ def object_name(trace, wait):
     return "thread %d" % wait.object if wait.kind == KINDS[JOIN] else trace.names.name(wait.object)
 
 
+def left_held(trace, wait):
+    """Who has ended with the lock that is waited for, in words; or None."""
+    for note in notes_of(trace, False) if wait.kind in [KINDS[kind] for kind in LOCKS] else ():
+        for held in note.holds:
+            if held.object == wait.object:
+                return "thread %d%s has ended, and holds it since %s" % (
+                    note.thread, " (%s)" % note.function if note.function else "", trace.names.place(held.at))
+    return None
+
+
 def note_line(trace, own, note):
     """For example `thread 1 (first) waits for mutex b, first, deadlock.c:9; holds a since first, deadlock.c:7`."""
     parts = []
     if note.waits:
         where = places(trace, own, note.thread) or [trace.names.place(note.waits.at)]
         parts.append("waits for %s %s, %s" % (note.waits.kind, object_name(trace, note.waits), chain_text(where)))
+        parts += filter(None, [left_held(trace, note.waits)])
     parts += ["holds %s since %s" % (trace.names.name(held.object), trace.names.place(held.at)) for held in note.holds]
     who = "thread %d%s" % (note.thread, " (%s)" % note.function if note.function else "")
     return "%s %s" % (who, "; ".join(parts) or "neither waits nor holds a lock")

@@ -6,6 +6,7 @@ from collections import namedtuple
 from . import isa
 from .logs import DMA
 from .loops import loop_of
+from .machine import CONSOLE_CHANNEL, WRITE
 from .trace import Moment
 from .words import bits_of, shared_words
 
@@ -18,6 +19,8 @@ Switch = namedtuple("Switch", "thread last back")
 # What the thread did last in a word that others use, as (Commit, Access); what others did in the gap (other), and what the thread did
 # before or after (own) with the same word, where one of the two stores. is_before: which of these own is.
 Crossing = namedtuple("Crossing", "last own other is_before")
+# Commits that print: the thread's last before (or None), another one's in the gap, and the thread's first after it.
+Printing = namedtuple("Printing", "last other own")
 
 
 def forced_switches(trace):
@@ -48,18 +51,22 @@ def switches(trace):
 
 
 def _could_go_on(trace, moment, switch):
+    """Whether the thread, going on alone, would do something that others can notice, before it waits if it does."""
     moment.seek(trace.commits[switch.last].last)
-    thread = moment.machine.threads[switch.thread]
-    return thread.live() and loop_of(moment.machine, switch.thread, trace.log.s) is None
+    if not moment.machine.threads[switch.thread].live():
+        return False
+    loop = loop_of(moment.machine, switch.thread, trace.log.s)
+    return loop is None or any(answer and answer.kind == WRITE for _, answer in loop.before) or any(
+        commit.actor != switch.thread for word in loop.changed for commit, _ in trace.of_word(word))
 
 
-def crossing(trace, switch):
+def crossing(trace, switch, is_told):
     """The Crossing of a switch: the first access after it that couldn't have come before what others did in the gap; or else the last
-    one before it of which others saw something there. None if there is neither."""
+    one before it of which others saw something there. None if there is neither. is_told: whether accesses at a pc count."""
     shared = frozenset(shared_words(trace))
-    before, after = (_accesses(trace, shared, part, switch.thread, True) for part in (
-        trace.commits[: switch.last + 1], trace.commits[switch.back :]))
-    gap = _accesses(trace, shared, trace.commits[switch.last + 1 : switch.back], switch.thread, False)
+    before, gap, after = ([
+        (commit, a) for commit in part if (commit.actor == switch.thread) == is_own
+        for a in trace.accesses_of(commit) if a.addr & ~3 in shared and is_told(a.pc)] for part, is_own in _parts(trace, switch))
     pair = next(((own, other) for own in after for other in reversed(gap) if _conflict(own, other)), None)
     is_before = pair is None
     if is_before:
@@ -67,9 +74,23 @@ def crossing(trace, switch):
     return Crossing(before[-1] if before else None, *pair, is_before) if pair else None
 
 
-def _accesses(trace, shared, commits, thread, is_own):
-    return [(commit, a) for commit in commits if (commit.actor == thread) == is_own
-            for a in trace.accesses_of(commit) if a.addr & ~3 in shared]
+def printing(trace, switch):
+    """The Printing of a switch, or None."""
+    before, gap, after = ([commit for commit in part if (commit.actor == switch.thread) == is_own and printed(commit)]
+                          for part, is_own in _parts(trace, switch))
+    return Printing(before[-1] if before else None, gap[-1], after[0]) if gap and after else None
+
+
+def printed(commit):
+    """The bytes that a commit puts on the console."""
+    output = commit.served.output if commit.served else None
+    return output[1] if output and output[0] == CONSOLE_CHANNEL else b""
+
+
+def _parts(trace, switch):
+    """The commits before the switch, in the gap and after it, each with whether the thread's own count."""
+    commits, first, back = trace.commits, switch.last + 1, switch.back
+    return (commits[:first], True), (commits[first:back], False), (commits[back:], True)
 
 
 def _conflict(one, other):

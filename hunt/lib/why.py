@@ -7,8 +7,9 @@ import tempfile
 from . import isa
 from .account import Differs, NotWalked
 from .halfway import Early, Overwritten, early_at_end, early_looks, overwritten, taken_over
+from .own import Own
 from .stacks import stack_lines
-from .switches import Crossing, crossing, ends_badly, forced_switches
+from .switches import Crossing, Printing, crossing, ends_badly, forced_switches, printed, printing
 from .telling import place, what_served
 from .trace import NotRead, context_name, open_trace
 from .waiting import waiting_lines
@@ -116,17 +117,20 @@ def switch_lines(trace, is_bad=None):
     told = [(trace, found) for found in _used(trace)] or [(longer, early) for early, longer in early_at_end(trace)]
     if ends_badly(trace) if is_bad is None else is_bad:
         told = told + [(trace, found) for found in _others(trace, told)]
-    groups = _folded(sorted(told, key=lambda pair: _left(pair[1])[0][1].step))
+    groups = _folded(sorted(told, key=lambda pair: _step(pair[1])))
     lines = [line for group in groups[:MOST_TOLD] for line in _group_lines(trace, group)]
     return lines + (["%d more like these" % (len(groups) - MOST_TOLD)] if len(groups) > MOST_TOLD else [])
 
 
 def _others(trace, told):
-    """The Crossings of forced switches that aren't told."""
+    """The Crossings of forced switches that aren't told: of the program's own data if there are any, else Printings, else of its
+    locks, else of words of its library."""
+    own = Own(trace.image, trace.names)
     for switch in forced_switches(trace):
-        found = crossing(trace, switch)
-        if found and not any(_is_of(switch, *_left(it)) for _, it in told):
-            yield found
+        if not any(_is_of(switch, *_left(it)) for _, it in told):
+            found = crossing(trace, switch, lambda pc: own.is_code(pc) and pc not in own.lock_code) or printing(trace, switch)
+            found = found or crossing(trace, switch, own.is_code) or crossing(trace, switch, lambda pc: True)
+            yield from filter(None, [found])
 
 
 def _used(trace):
@@ -134,6 +138,11 @@ def _used(trace):
     known = {s.load[1].step for s in stale}
     first = [s for s in stale if not s.is_announced] + [e for e in early_looks(trace) if e.load[1].step not in known]
     return sorted(first or stale + overwritten(trace), key=lambda found: found.load[1].step)
+
+
+def _step(found):
+    """The step after which the thread is left."""
+    return (found.last or found.own).first if isinstance(found, Printing) else _left(found)[0][1].step
 
 
 def _left(found):
@@ -153,10 +162,13 @@ def _folded(told):
     """Those that are at the same places, of the same word, as one list."""
     groups = {}
     for trace, found in told:
-        left, other = _left(found)
-        use = getattr(found, "use", None)
-        groups.setdefault((left[1].pc, other[1].pc, other[1].addr, use and use.access and use.access.pc), []).append((trace, found))
+        groups.setdefault(found if isinstance(found, Printing) else _places(found), []).append((trace, found))
     return list(groups.values())
+
+
+def _places(found):
+    (_, left), (_, other), use = *_left(found), getattr(found, "use", None)
+    return left.pc, other.pc, other.addr, use and use.access and use.access.pc
 
 
 def _group_lines(trace, group):
@@ -231,6 +243,26 @@ def _crossing_lines(trace, found, _):
         yield "    and %s stores %s %s (%s)" % (_who(trace, own), _value(own[1]), how, _at(trace, own))
 
 
+def _printing_lines(trace, found, _):
+    who, other = (context_name(trace.context(commit)) for commit in (found.own, found.other))
+    yield "%s is left %s; %s prints %s," % (
+        who, "after it prints " + _print(trace, found.last) if found.last else "before it prints", other, _print(trace, found.other))
+    yield "    and %s prints %s only then" % (who, _print(trace, found.own))
+
+
+def _print(trace, commit):
+    """What a commit prints, and where the program asks for it."""
+    text, own = printed(commit).decode("utf-8", "replace"), Own(trace.image, trace.names)
+    pc = next(filter(own.is_code, _chain(trace, commit)), trace.pcs[commit.first])
+    shown = text if len(text) <= LONGEST else text[:LONGEST] + "..."
+    return '"%s" (commit %d, %s)' % (repr(shown)[1:-1], commit.told, place(trace, pc))
+
+
+def _chain(trace, commit):
+    """Where a call of the kernel comes from."""
+    return trace.frames.chain(trace.pcs[commit.first], commit.before.x, lambda addr: trace.value_before(addr, commit.first))
+
+
 def _does(trace, pair):
     how = "stores %s to %s" if pair[1].kind in isa.STORES else "loads %s of %s"
     return how % (_value(pair[1]), trace.names.name(pair[1].addr))
@@ -244,10 +276,9 @@ def _use(trace, use):
         return "never looks again"
     served = use.commit.served
     what = "faults, cause %d" % served.result if served.name in ("fault", "break") else "calls " + what_served(use.commit)
-    pc, x = trace.pcs[use.commit.first], use.commit.before.x
-    caller = trace.frames.chain(pc, x, lambda addr: trace.value_before(addr, use.commit.first))[0]
-    return "%s (commit %d, %s)" % (what, use.commit.told, place(trace, caller))
+    return "%s (commit %d, %s)" % (what, use.commit.told, place(trace, _chain(trace, use.commit)[0]))
 
 
-_TELL = {Stale: _stale_lines, Early: _early_lines, Overwritten: _overwritten_lines, Crossing: _crossing_lines}
-MOST_TOLD = 8
+_TELL = {Stale: _stale_lines, Early: _early_lines, Overwritten: _overwritten_lines, Crossing: _crossing_lines,
+         Printing: _printing_lines}
+MOST_TOLD, LONGEST = 8, 40  # lines or so of switches, and characters of what is printed

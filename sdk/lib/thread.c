@@ -187,6 +187,21 @@ int pthread_join(pthread_t thread, void **result) {
     return 0;
 }
 
+int pthread_tryjoin_np(pthread_t thread, void **result) {
+    struct thread *t = (struct thread *)thread;
+    return LOAD(t->number) && is_over(t) ? pthread_join(thread, result) : EBUSY;
+}
+
+int pthread_timedjoin_np(pthread_t thread, void **result, const struct timespec *until) {
+    struct thread *t = (struct thread *)thread;
+    int late = 0;
+    begin_wait(THREAD_END, t, CALLER);
+    WAIT_WHILE(LOAD(t->number) == 0);
+    WAIT_WHILE(!is_over(t) && !(late = __past(until)));
+    end_wait();
+    return late ? ETIMEDOUT : pthread_join(thread, result);
+}
+
 int pthread_detach(pthread_t thread) {
     struct thread *t = (struct thread *)thread;
     if (t->detached || t->joined)

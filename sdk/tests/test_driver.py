@@ -83,6 +83,10 @@ class Driver(Case):
         ('#include <stdlib.h>\nint main(void) { return system("ls"); }', "there is one process"),
         ("#include <unistd.h>\nint main(void) { return fork(); }", "there is one process"),
         ("#include <pthread.h>\nint main(void) { return pthread_cancel(pthread_self()); }", "a thread can't be cancelled"),
+        ("#include <pthread.h>\nint main(void) { pthread_mutexattr_t a; return pthread_mutexattr_setrobust(&a, PTHREAD_MUTEX_ROBUST); }",
+         "there are no robust mutexes"),
+        ("#define _GNU_SOURCE\n#include <pthread.h>\nint main(void) { cpu_set_t s; CPU_ZERO(&s); CPU_SET(1, &s);"
+         " return pthread_setaffinity_np(pthread_self(), sizeof s, &s); }", "threads have no processors of their own"),
         ("#include <signal.h>\nint main(void) { return signal(2, 0) != 0; }", "there are no signals"),
         ("#include <sys/socket.h>\nint main(void) { return 0; }", "there is no network"),
         ("#include <sys/mman.h>\nint main(void) { return 0; }", "memory can't be mapped"),

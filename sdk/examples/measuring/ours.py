@@ -39,6 +39,19 @@ def is_replayed(folder):
     return all(account_of_replay(folder, cores) == walked for cores in (1, 8))
 
 
+def races(source, *words):
+    """The variables on which `trace .. races` tells a race, in one recording with seed 1."""
+    with tempfile.TemporaryDirectory() as scratch:
+        subprocess.run([TOP / "sdk/cc", "-O1", source, *words, "-o", "a.elf", "--plan", "plan.toml"], cwd=scratch, check=True,
+                       stdout=subprocess.DEVNULL)
+        subprocess.run([*program(), "run", "plan.toml"], cwd=scratch, check=True, stdout=subprocess.DEVNULL)
+        memory = re.search(r"memory = (\d+)", (Path(scratch) / "plan.toml").read_text())[1]
+        said = subprocess.run([TOP / "hunt/trace", "a.elf", memory, "a.log", "races"], cwd=scratch, check=True, capture_output=True,
+                              text=True).stdout
+    told = [line.split(": nothing orders")[0].split(" ")[0] for line in said.splitlines() if ": nothing orders" in line]
+    return list(dict.fromkeys("a stack or the heap" if re.fullmatch("[0-9A-F]{8}", word) else word.partition("+")[0] for word in told))
+
+
 def line_of(source):
     """The line that a program's first comment names, as `account.c:12`."""
     named = re.search(r"line\s+(\d+)(?: of (\w+\.c))?", source.read_text())

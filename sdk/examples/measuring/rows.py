@@ -1,8 +1,8 @@
 """Measured results as rows of the table in README.md."""
 
 HEAD = """\
-| Program | Forced | Runs | Seconds | Told in | Mended: no order fails | TSan | Helgrind | DRD | Plain |
-|---|---|---|---|---|---|---|---|---|---|"""
+| Program | Forced | Runs | Seconds | Told in | Mended: no order fails | Races | TSan | Helgrind | DRD | Plain |
+|---|---|---|---|---|---|---|---|---|---|---|"""
 
 
 def found_cells(row):
@@ -23,6 +23,11 @@ def twin_cell(row):
     return "up to %s forced, in %.0f s" % (search["all orders up to"], twin["seconds"])
 
 
+def races_cell(row):
+    """The variables that races are told of; * if there are some in the mended twin too."""
+    return (", ".join("`%s`" % word if " " not in word else word for word in row["races"]) or "-") + (" *" if row["twin races"] else "")
+
+
 def tool_cell(host, tool):
     """For example `3 of 3`, `-` for no report in 10 runs; `hangs`; * if the mended twin is reported too."""
     count, hangs, done = host[tool]
@@ -40,6 +45,6 @@ def line(cells):
 
 
 def row_text(row, host):
-    cells = ["`%s`" % row["name"], *found_cells(row), twin_cell(row)]
+    cells = ["`%s`" % row["name"], *found_cells(row), twin_cell(row), races_cell(row)]
     cells += [tool_cell(host, tool) for tool in ("tsan", "helgrind", "drd")] + [plain_cell(host)] if host else [""] * 4
     return line(cells)

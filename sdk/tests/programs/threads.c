@@ -1,4 +1,5 @@
 /* pthreads and C11 threads: what they give and refuse. The same on the host. */
+#define _GNU_SOURCE
 #include <assert.h>
 #include <errno.h>
 #include <pthread.h>
@@ -90,6 +91,32 @@ static void locks(void) {
     sem_post(&semaphore);
     assert(sem_getvalue(&semaphore, &value) == 0 && value == 1);
     printf("locks\n");
+}
+
+static void *waits_for_post(void *argument) {
+    sem_wait(argument);
+    return argument;
+}
+
+/* Each clock is the same here, so this takes the one that the host's calls take too. */
+static void until(void) {
+    pthread_t t;
+    sem_t semaphore;
+    void *result;
+    struct timespec soon = in(50);
+    sem_init(&semaphore, 0, 0);
+    assert(sem_clockwait(&semaphore, CLOCK_REALTIME, &soon) == -1 && errno == ETIMEDOUT);
+    pthread_mutex_lock(&mutex);
+    assert(pthread_cond_clockwait(&cond, &mutex, CLOCK_REALTIME, &soon) == ETIMEDOUT);
+    pthread_mutex_unlock(&mutex);
+    assert(pthread_mutex_clocklock(&mutex, CLOCK_REALTIME, &soon) == 0);
+    pthread_mutex_unlock(&mutex);
+    pthread_create(&t, NULL, waits_for_post, &semaphore);
+    assert(pthread_tryjoin_np(t, NULL) == EBUSY && pthread_timedjoin_np(t, NULL, &soon) == ETIMEDOUT);
+    sem_post(&semaphore);
+    soon = in(900000);
+    assert(pthread_timedjoin_np(t, &result, &soon) == 0 && result == &semaphore);
+    printf("until\n");
 }
 
 static void *detached(void *argument) {
@@ -194,6 +221,7 @@ static void times(void) {
 int main(void) {
     threads();
     locks();
+    until();
     attributes();
     c11();
     atomics();
