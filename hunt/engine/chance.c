@@ -52,33 +52,28 @@ static void take(uint32_t actor) {
 /* A thread that was drawn where it had been left goes past that point. */
 static bool was_drawn_here(void) { return chance->strategy == WALKS && run->machine.time == came_at; }
 
-/* Who comes at a point: NO_ONE if the current thread just goes on, and the thread itself if its chunk ends first. */
-static uint32_t next_at_point(void) {
-    bool lowered = chance->strategy == PRIORITIES && lower_at(&priorities, points, run->current);
-    if (was_drawn_here())
-        return NO_ONE;
-    uint32_t next = next_actor();
-    if (next == CUT)
-        return run->current;
-    return next == run->current && !lowered ? NO_ONE : next;
+/* A walk may end a chunk before an SC too. */
+static void find_actors_at_point(void) {
+    find_actors();
+    if (chance->strategy == WALKS && is_at_sure_sc(run))
+        actors[actor_count++] = CUT;
 }
 
-/* Whether the current thread goes past the stop. It is a point if others could go on, or if it matters whether the chunk ends. */
+/* Whether the current thread goes past the stop, which is a point if something else could come. */
 static bool goes_past(void) {
-    find_actors();
-    bool sure = is_at_sure_sc(run);
-    if (actor_count == 1 && !sure)
+    find_actors_at_point();
+    if (actor_count == 1)
         return true;
-    if (sure && chance->strategy == WALKS)
-        actors[actor_count++] = CUT;
     points = passed + 1;
-    uint32_t next = next_at_point();
-    if (next == NO_ONE) {
+    if (chance->strategy == PRIORITIES)
+        lower_at(&priorities, points, run->current);
+    uint32_t current = run->current, next = was_drawn_here() ? current : next_actor();
+    if (next == current) {
         passed++;
         return true;
     }
     end_turn(run, FORCED);
-    take(next);
+    take(next == CUT ? current : next);
     return false;
 }
 
@@ -139,15 +134,17 @@ static enum result go_to_end(void) {
     }
 }
 
+/* More points to draw from than any run has had, and some to spare, so that this need not change often. */
+static uint64_t enough_points(void) { return points < chances->points ? chances->points : points + points / 8 + 2; }
+
 /* What the run has shown is known from now on. */
 static void note_run(uint32_t known) {
     uint32_t count = run->machine.thread_count + run->raise_count + (run->machine.dmas_done > 0);
-    bool more = knowledge() != known || points > chances->points || count > chances->actors;
+    bool more = knowledge() != known || enough_points() > chances->points || count > chances->actors;
     chances->tries++;
     chances->alike = more ? 0 : chances->alike + 1;
     chances->spent += had_its_steps;
-    if (points > chances->points)
-        chances->points = points;
+    chances->points = enough_points();
     if (count > chances->actors)
         chances->actors = count;
 }
@@ -155,7 +152,7 @@ static void note_run(uint32_t known) {
 static enum result try_once(void) {
     uint32_t known = knowledge();
     dice = dice_of(chance->seed, chances->tries);
-    draw_priorities(&priorities, chance->depth, chances->points + 1, &dice); /* one more, so that more may be met */
+    draw_priorities(&priorities, chance->depth, chances->points, &dice);
     points = passed = 0;
     had_its_steps = false;
     learn(true);
@@ -175,6 +172,7 @@ enum finish try_by_chance(struct run *r, const struct condition *bad_, const str
     run->minds_marks = !run->all_places && run->raise_count == 0;
     learn(true);
     send_scouts(run, chance->seconds / 10);
+    chances->points = 2;
     while (chances->tries < chance->tries) {
         if (is_interrupted())
             return INTERRUPTED;

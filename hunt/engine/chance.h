@@ -14,8 +14,9 @@ struct chance {
     double seconds;
 };
 
-/* alike: how many of the tries, the last ones, knew all that is known now: the words, actors and points. Points are stops at which
-   several actors could go on. spent: the runs in which a thread had its steps. */
+/* Points are stops at which several actors could go on. points: of how many some are drawn; no run had as many. actors: the most
+   that a run had. alike: how many of the tries, the last ones, had the present points, actors, and words of places. spent: the runs
+   in which a thread had its steps. */
 struct chances { uint64_t tries, alike, points, spent, limited, ended, hung; uint32_t actors; };
 
 enum finish try_by_chance(struct run *r, const struct condition *bad, const struct chance *chance, struct chances *chances);

@@ -9,16 +9,13 @@ void draw_priorities(struct priorities *p, uint32_t depth, uint64_t points, stru
         p->points[j] = 1 + drawn_below(dice, points);
 }
 
-bool lower_at(struct priorities *p, uint64_t point, uint32_t actor) {
-    bool lowered = false;
+void lower_at(struct priorities *p, uint64_t point, uint32_t actor) {
     for (uint32_t j = 1; j < p->depth; j++) {
         if (p->points[j] != point)
             continue;
         p->of_actor[actor] = j;
         p->points[j] = 0;
-        lowered = true;
     }
-    return lowered;
 }
 
 void lower_below_all(struct priorities *p, uint32_t actor) { p->of_actor[actor] = --p->least; }

@@ -18,8 +18,8 @@ struct priorities {
 
 /* For a run in which there may be so many points. */
 void draw_priorities(struct priorities *p, uint32_t depth, uint64_t points, struct dice *dice);
-/* Whether it is one of the drawn points, the actor's priority being lowered then. */
-bool lower_at(struct priorities *p, uint64_t point, uint32_t actor);
+/* If it is one of the drawn points, the actor's priority is lowered. */
+void lower_at(struct priorities *p, uint64_t point, uint32_t actor);
 /* Below all others. */
 void lower_below_all(struct priorities *p, uint32_t actor);
 uint32_t highest_of(const struct priorities *p, const uint32_t *actors, uint32_t count);

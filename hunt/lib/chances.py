@@ -14,15 +14,19 @@ def add_words(parser):
 
 def least_chance(drawn):
     """PCT's bound, as the N of 1 / N: a run with so many actors and places meets a failure of this depth with at least 1 / N. None
-    if it doesn't hold. The engine draws from one place more."""
+    if it doesn't hold."""
     if drawn.strategy != "pct" or drawn.spent or drawn.limited or not drawn.alike:
         return None
-    return drawn.actors * (drawn.points + 1) ** (drawn.depth - 1)
+    return drawn.actors * drawn.points ** (drawn.depth - 1)
+
+
+def name_of(drawn):
+    return "pct, depth %d" % drawn.depth if drawn.strategy == "pct" else drawn.strategy
 
 
 def what_was_tried(drawn, verb):
     """verb: `ends so`, or `fails`."""
-    yield "none of %d runs %s: %s" % (drawn.tries, verb, drawn.strategy + (", depth %d" % drawn.depth if drawn.strategy == "pct" else ""))
+    yield "none of %d runs %s: %s" % (drawn.tries, verb, name_of(drawn))
     if drawn.how == "stopped":
         yield "it was stopped"
     if drawn.limited:
@@ -31,5 +35,6 @@ def what_was_tried(drawn, verb):
     if chance is None:
         yield "that promises nothing"
     else:
-        yield ("that promises no more than this: each of the last %d would meet a failure of depth %d, if that needs at most %d threads "
-               "and %d places, with a probability of at least 1 in %d" % (drawn.alike, drawn.depth, drawn.actors, drawn.points, chance))
+        yield "that promises no more than this: if a failure of depth %d needs at most %d threads and %d places," % (
+            drawn.depth, drawn.actors, drawn.points)
+        yield "    each of the last %d runs would meet it with a probability of at least 1 in %d" % (drawn.alike, chance)

@@ -38,9 +38,8 @@ Bound = namedtuple("Bound", "bound tries states places shared seconds")
 # how: found, bound (all up to the greatest bound are done), all (there are no more orders), tries, seconds or states (a limit was
 # met), or stopped (by Ctrl-C). ends: the different ends that were met, if the engine was made to collect them.
 Search = namedtuple("Search", "how bounds tries ended hung limited places bound told ends")
-# Of runs whose order was drawn. how: found, tries or seconds (a limit was met), or stopped. alike: the last ones of the tries, which
-# knew all that is known at the end. actors, points: the most that a run had. spent, limited: runs in which a thread had its steps
-# (Options.turn), and that were left at the limit of steps. told, ends: as in Search.
+# Of runs whose order was drawn. how: found, tries or seconds (a limit was met), or stopped. alike, actors, points, spent: as chance.h
+# has them. limited: runs that were left at the limit of steps. told, ends: as in Search.
 Drawn = namedtuple("Drawn", "strategy depth how tries alike actors points spent limited ended hung told ends")
 # memory: the bytes asked for. threads: (status, code) of each; status 0 is live, 1 ended, 2 faulted. forced: the fewest switches.
 End = namedtuple("End", "memory threads forced")

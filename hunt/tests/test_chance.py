@@ -54,14 +54,14 @@ class Commands(unittest.TestCase):
                 self.assertRegex(said, r"^found by %s in \d+ runs?, [0-9.]+ s\n.*, [1-3] forced; walked\n" % strategy)
 
     def test_not_found(self):
-        promise = (r"none of 300 runs ends so: pct, depth %d\nthat promises no more than this: each of the last \d+ would meet a failure "
-                   r"of depth %d, if that needs at most 3 threads and (\d+) places, with a probability of at least 1 in (\d+)\n")
+        promise = (r"none of 300 runs ends so: pct, depth %d\nthat promises no more than this: if a failure of depth %d needs at most 3 "
+                   r"threads and (\d+) places,\n    each of the last \d+ runs would meet it with a probability of at least 1 in (\d+)\n")
         for depth in 1, 2, 4:
             status, said, is_there = self.said("pct", RACE / "mended.elf", COUNT_IS_WRONG, "--tries", 300, "--depth", depth)
             self.assertEqual((status, is_there), (1, False))
             self.assertRegex(said, "^" + promise % (depth, depth) + "$")
             places, chance = map(int, re.findall(promise % (depth, depth), said)[0])
-            self.assertEqual(chance, 3 * (places + 1) ** (depth - 1))
+            self.assertEqual(chance, 3 * places ** (depth - 1))
         status, said, is_there = self.said("random", RACE / "mended.elf", COUNT_IS_WRONG, "--tries", 300)
         self.assertEqual((status, is_there, said), (1, False, "none of 300 runs ends so: random\nthat promises nothing\n"))
 
@@ -119,9 +119,10 @@ class Ends(unittest.TestCase):
             self.assertEqual({end[2] for end in outcomes(drawn(image, strategy, 100))}, {0, 5}, strategy)
 
     def test_chunk_ends_before_an_sc(self):
+        """In a walk, and else only if another thread comes."""
         image = laid_threads([addi(6, 0, A), atomic(LR, 7, 6, 0), atomic(SC, 10, 6, 0), *SAW])
-        for strategy in STRATEGIES:
-            self.assertEqual({end[2] for end in outcomes(drawn(image, strategy, 100))}, {0, 1}, strategy)
+        for strategy, seen in ("random", {0, 1}), ("pct", {0}):
+            self.assertEqual({end[2] for end in outcomes(drawn(image, strategy, 100))}, seen)
 
     def test_threads_that_go_round(self):
         """Each counts until the other one has seen it; neither is known to wait, so a turn is ended after so many steps."""
@@ -145,6 +146,12 @@ class Bound(unittest.TestCase):
             self.assertLess(result.tries, 3 * result.points ** 2)
         self.assertLess(statistics.median(result.tries for result in results), 300)
 
+    def test_points(self):
+        """Of the ends of the two threads one comes when the other thread is gone. So a run has seven points at most."""
+        image = laid_threads([*SPAWNS, *[sw(5, A)] * 3, *ENDS], [*[lw(7, A)] * 3, *ENDS])
+        for strategy in STRATEGIES:
+            self.assertIn(drawn(image, strategy, 300, depth=7).points, (8, 9))
+
     def test_depth(self):
         """Without a change of priorities each thread runs until it waits or ends."""
         image = read_image((RACE / "race.elf").read_bytes(), 4096)
@@ -153,9 +160,9 @@ class Bound(unittest.TestCase):
     def test_same_seed_same_runs(self):
         image = read_image((EXAMPLES / "aba/stack.elf").read_bytes(), 4096)
         for strategy in STRATEGIES:
-            runs = [drawn(image, strategy, 50, seed=seed)._replace(told=None) for seed in (4, 4, 5)]
-            self.assertEqual(runs[0], runs[1])
-            self.assertNotEqual(runs[0], runs[2])
+            turns = [drawn(image, strategy, 2000, bad=COUNT_IS_WRONG, seed=seed).told.turns for seed in (1, 1, 2)]
+            self.assertEqual(turns[0], turns[1])
+            self.assertNotEqual(turns[0], turns[2])
 
 
 if __name__ == "__main__":

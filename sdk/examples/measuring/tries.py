@@ -13,14 +13,16 @@ sys.path.insert(0, str(TOP / "hunt"))
 
 from lib.finding import Limits, compiled, conditions, job_of, read_program, searched_by  # noqa: E402
 
-SERIES, DEPTH, MOST_TRIES, SECONDS, SEEDS = 20, 3, 20_000, 60, 500
+BOUNDED_SECONDS = 60
+SERIES, DEPTH, MOST_TRIES, SECONDS, SEEDS, EVENTS = 20, 3, 5000, 600, 200, 200_000
 HEAD = """\
 | Program | Forced | Bounded search | Random walks | PCT, depth %d | Its bound: 1 in | Seeds |
 |---|---|---|---|---|---|---|""" % DEPTH
 
 
 def limits(strategy=None, seed=0):
-    return Limits(None, SECONDS, 0, [], None, seed, 1_000_000, strategy, DEPTH, MOST_TRIES)
+    return Limits(switches=None, seconds=SECONDS if strategy else BOUNDED_SECONDS, shrink_seconds=0, bad=[], input=None, seed=seed,
+                  steps=1_000_000, strategy=strategy, depth=DEPTH, tries=MOST_TRIES)
 
 
 def searched(program, strategy=None, seed=0):
@@ -44,20 +46,21 @@ def series_cell(tries):
 def drawn_cells(program, strategy):
     """The tries of each series, and 1 over the least chance that PCT promises for the largest run."""
     runs = [searched(program, strategy, seed) for seed in range(SERIES)]
-    chance = max(run.actors for run in runs) * (max(run.points for run in runs) + 1) ** (DEPTH - 1)
+    chance = max(run.actors for run in runs) * max(run.points for run in runs) ** (DEPTH - 1)
     return series_cell([run.tries if run.told else None for run in runs]), number(chance)
 
 
 def bounded_cells(program):
     result = searched(program)
     if result.told is None:
-        return "", "not in %d s, %s runs" % (SECONDS, number(result.tries))
+        return "", "not in %d s, %s runs" % (BOUNDED_SECONDS, number(result.tries))
     return result.bound, number(result.tries)
 
 
 def failing_seeds(program, plan):
     bad = [word for condition in conditions(program, limits()) for word in ("--bad", condition)]
-    said = subprocess.run([TOP / "hunt/seeds", plan, *bad, "--seeds", "1-%d" % SEEDS], capture_output=True, text=True, cwd=plan.parent).stdout
+    words = [TOP / "hunt/seeds", plan, *bad, "--seeds", "1-%d" % SEEDS, "--most-events", str(EVENTS)]
+    said = subprocess.run(words, capture_output=True, text=True, cwd=plan.parent).stdout
     return sorted(map(int, re.findall(r"^seed (\d+): bad", said, re.M)))
 
 
