@@ -275,7 +275,7 @@ def _use(trace, use):
     if use.commit is None:
         return "never looks again"
     served = use.commit.served
-    what = "faults, cause %d" % served.result if served.name in ("fault", "break") else "calls " + what_served(use.commit)
+    what = "faults, cause %d" % served.result if served.name in ("fault", "break") else "calls " + what_served(use.commit).replace(" answers ", ", which answers ")
     return "%s (commit %d, %s)" % (what, use.commit.told, place(trace, _chain(trace, use.commit)[0]))
 
 
