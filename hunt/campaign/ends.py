@@ -29,6 +29,13 @@ def ended_of(account, rows):
     return ended
 
 
+def memory_of(account):
+    """An account's lines of memory at the end."""
+    state = account.rfind(b"\nt 0 ") + 1
+    first = account.find(b"\nm ", state)
+    return account[first : account.rfind(b"\nend ")] if first >= 0 else b""
+
+
 def row_of(account, state, address):
     at = account.find(b"\nm %08X " % address, state) + 1
     return account[at : account.index(b"\n", at) + 1] if at else b""

@@ -7,6 +7,7 @@ import contextlib
 import multiprocessing
 from multiprocessing import connection
 import os
+import shlex
 import signal
 
 from lib.account import NotWalked
@@ -54,6 +55,7 @@ def work(campaign, folder, pipe):
     """What a worker does until its pipe is closed. It ends the process."""
     signal.signal(signal.SIGINT, signal.SIG_IGN)
     signal.signal(signal.SIGTERM, signal.SIG_DFL)
+    os.environ["DELOREAN"] = shlex.join(campaign.program)  # so that walks start no shell either
     try:
         os.mkdir(folder)
         trier = Trier(campaign, folder)

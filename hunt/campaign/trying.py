@@ -13,7 +13,7 @@ from lib.searching import Refused
 from lib.symbols import Names, NoWord
 
 from . import plans
-from .ends import console_sum, ended_of, is_live, rows_of, threads_text
+from .ends import console_sum, ended_of, is_live, memory_of, rows_of, threads_text
 from .hangs import Hangs
 from .program import Failed, Runner, explained
 
@@ -21,6 +21,7 @@ GOOD, BAD, LIVE, HUNG = range(4)
 OUTCOMES = ("good", "bad", "live", "hung")
 TOLD = {"exit", "fault", "hang", "stuck", "word", "is", "has"}  # kinds of conditions that an account meets, or doesn't
 MORE = 4  # times the events of the try before
+EARLY, LEAST_EARLY = 16, 500  # a hang is looked for in a run of so many times fewer events first, if that are enough
 CALLS = 3  # of a run that a signal ends
 
 # What a campaign tries. program: the words that run it. plan: a Plan. settings: a list of dicts. bad: the texts of its
@@ -64,6 +65,7 @@ class Trier:
         self.image, self.condition = condition_of(campaign)
         self.rows = rows_of(self.condition)
         self.runner = Runner(campaign.program, folder)
+        self.early = None  # a Runner too, from the first hang on
         self.hangs = Hangs(self.sphere, self.image, self.plan.values.get("input"))
         self.texts = {}
 
@@ -85,7 +87,26 @@ class Trier:
             return self.found(BAD, number, seed, events, ended)
         if not live:
             return result_of(GOOD, events, ended)
-        return self.tried_live(number, seed, events, ended)
+        return self.tried_early(number, seed, events, account) or self.tried_live(number, seed, events, ended)
+
+    def tried_early(self, number, seed, events, account):
+        """The Result of a run that had come to its hang after a few of its events: nothing in the memory has changed since. It has
+        these events, and the log that is short."""
+        few = (events or 0) // EARLY
+        if few < LEAST_EARLY:
+            return None
+        if self.early is None:
+            folder = Path(self.runner.folder) / "early"
+            folder.mkdir()
+            self.early = Runner(self.campaign.program, folder)
+        if memory_of(self.run(number, seed, few, True, self.early)) != memory_of(account):
+            return None
+        log = self.early.read("log")
+        hang = self.hangs.of(log, seed)
+        return self.hung(few, hang) if hang and hang.is_own else None
+
+    def hung(self, events, hang):
+        return result_of(BAD if hang.ended.meets(self.condition, True) else HUNG, events, hang.ended, hang.log)
 
     def tried_live(self, number, seed, events, ended):
         can_go_on = events is not None and events < self.campaign.most_events
@@ -94,32 +115,32 @@ class Trier:
         hang = self.hang(number, seed, events)
         if hang and (hang.is_own or not can_go_on):
             hang.ended.commits = ended.commits
-            outcome = BAD if hang.ended.meets(self.condition, True) else HUNG
-            return result_of(outcome, events, hang.ended, hang.log)
+            return self.hung(events, hang)
         return None if can_go_on else result_of(LIVE, events, ended)
 
     # ------------------------------------------------------------ runs
 
-    def run(self, number, seed, events, whole=False):
+    def run(self, number, seed, events, whole=False, runner=None):
         """The account of the judged sphere."""
-        text = self.text(number, events, whole)
+        runner = runner or self.runner
+        text = self.text(number, events, whole, runner.folder)
         for _ in range(CALLS):
-            ran = self.runner.run("seed = %d\n%s" % (seed, text))
+            ran = runner.run("seed = %d\n%s" % (seed, text))
             if ran.status == 0:
-                return self.runner.read("account")
+                return runner.read("account")
             if ran.status > 1:
                 break
         if ran.status == 1:
-            return self.runner.read("account")
-        raise Failed(explained(ran, "run", self.runner.path("plan")).replace(self.runner.path("plan"), "the plan"))
+            return runner.read("account")
+        raise Failed(explained(ran, "run", runner.path("plan")).replace(runner.path("plan"), "the plan"))
 
-    def text(self, number, events, whole):
+    def text(self, number, events, whole, folder):
         """The plan of a try, except its seed."""
-        key = number, events, whole
+        key = number, events, whole, folder
         if key not in self.texts:
             if len(self.texts) > 1000:
                 self.texts.clear()
-            values = plans.tried(self.plan, self.campaign.settings[number], events, self.runner.folder, whole)
+            values = plans.tried(self.plan, self.campaign.settings[number], events, folder, whole)
             self.texts[key] = plans.toml(values)
         return self.texts[key]
 

@@ -82,6 +82,16 @@ class Campaigns(Scratch):
         self.assertEqual(status, 1)
         self.assertIn("2 tries: 1 good, 0 bad, 0 live, 1 hung\n", text)
 
+    @unittest.skipUnless(HAS_COMPILER, NO_COMPILER)
+    def test_hang_that_comes_early(self):
+        """The run has come to it after a few of many events; then these are what is kept, with a log that its plan records again."""
+        self.copy(SLEEP / "plan.toml", SLEEP / "sleep.elf", events=400_000)
+        _, text = said("plan.toml", "--bad", "hang", "--seeds", "38-39", "--keep", "kept")
+        self.assertIn("2 tries: 1 good, 1 bad, 0 live, 0 hung\n", text)
+        self.assertEqual([row[3] for row in self.kept()], [400_000, 25_000])
+        subprocess.run([*program(), "run", "kept/seed-39.toml"], check=True, stdout=subprocess.DEVNULL)
+        self.assertEqual(Path("sleep.log").read_bytes(), Path("kept/seed-39.log").read_bytes())
+
     def test_varied(self):
         self.copy(RACE / "plan.toml", RACE / "race.elf")
         varied = "--vary", "chunk=16,32", "--vary", "depth=1-2"

@@ -46,7 +46,8 @@ def link(top, tools, folder, words, defaults):
         same = "-ffile-prefix-map=%s=sdk" % aside  # so that the image has the same bytes each time
         command = [*tools.compiler, *defaults, same, *words.passed, str(made), str(folder / "start.o"), "-nostdlib", "-static",
                    "-Wl,--build-id=none", "-Wl,-n", "-Wl,--gc-sections", *tools.linker, "-T", str(top / "lib/program.ld"), *_symbols(words),
-                   "-Wl,--start-group", str(folder / "libdelorean.a"), *tools.archives, "-Wl,--end-group", "-o", words.output]
+                   "-Wl,--start-group", str(folder / "libdelorean.a"), str(folder / "libc.a"), *tools.archives[1:],
+                   "-Wl,--end-group", "-o", words.output]
         done = subprocess.run(command, stderr=subprocess.PIPE, text=True, errors="replace")
     if done.returncode:
         raise Refused(explained(done.stderr))

@@ -3,6 +3,8 @@
 from hashlib import sha256
 from pathlib import Path
 import os
+import re
+import shutil
 import subprocess
 import tempfile
 
@@ -17,7 +19,8 @@ def _sources(top):
 
 
 def _key(top, tools):
-    key = sha256(repr([tools.compiler, FLAGS]).encode())
+    libc = os.stat(tools.archives[0])
+    key = sha256(repr([tools.compiler, FLAGS, tools.archives[0], libc.st_size, libc.st_mtime_ns]).encode())
     for path in _sources(top):
         key.update(path.read_bytes())
     return key.hexdigest()[:16]
@@ -43,6 +46,20 @@ def _compile(top, tools, source, to):
         raise Refused("the SDK's library doesn't compile:\n" + done.stderr)
 
 
+def _defined(tools, archive):
+    """(member, symbol) for each symbol that an archive defines for others."""
+    said = subprocess.run([tools.names, "-A", "-g", "--defined-only", str(archive)], capture_output=True, text=True, check=True).stdout
+    return re.findall(r"^[^:\n]*:([^:\n]+):\s*\w*\s+[A-Z]\s+(\S+)$", said, re.M)
+
+
+def _without(tools, archive, own, to):
+    """Copies the C library without what the SDK's library has itself. Else its functions would call its own malloc, which can't be linked."""
+    symbols = {symbol for _, symbol in _defined(tools, own)}
+    members = sorted({member for member, symbol in _defined(tools, archive) if symbol in symbols})
+    shutil.copyfile(archive, to)
+    subprocess.run([tools.archiver, "dD", str(to), *members], check=True)
+
+
 def _build(top, tools, folder):
     """All objects are made aside and then named at once, so that two calls at a time do no harm."""
     with tempfile.TemporaryDirectory(dir=folder.parent) as aside:
@@ -55,6 +72,7 @@ def _build(top, tools, folder):
         subprocess.run([tools.archiver, "rcD", str(Path(aside) / "libdelorean.a"), *objects], check=True)
         for name in objects:
             os.unlink(name)
+        _without(tools, tools.archives[0], Path(aside) / "libdelorean.a", Path(aside) / "libc.a")
         try:
             os.chmod(aside, 0o755)
             os.rename(aside, folder)
@@ -65,7 +83,7 @@ def _build(top, tools, folder):
 
 
 def library(top, tools):
-    """The folder with start.o and libdelorean.a."""
+    """The folder with start.o, libdelorean.a, and libc.a, which is what the SDK takes of the C library."""
     key = _key(top, tools)
     folders = [folder / key for folder in _folders(top)]
     for folder in folders:
