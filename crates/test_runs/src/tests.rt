@@ -1,11 +1,12 @@
 //! The program over files and sinks in memory, and once over the real ones.
 use dl_commands::{delorean, delorean_in_memory};
-use dl_files::{Files, GoodFiles, GoodSink, Sink};
+use dl_files::{Files, GoodFiles, GoodSink, MemFiles, MemSink, Sink};
 use spec_program::status::Status;
 use std::alloc::Global;
 use std::process::Abort;
 use std::test::Fail;
 
+mod calls;
 mod depths;
 mod failures;
 mod in_strata;
@@ -51,6 +52,23 @@ fn hold_all<F: Files>(rt: &impl Abort, alloc: Global, files: &mut F, written: &[
     for (name, want) in written {
         assert!(rt; holds(alloc, files, name, want), "{name}");
     }
+}
+
+// The call of the files that has this number fails, and this is answered and said.
+fn fails_at(
+    rt: &impl Abort,
+    alloc: Global,
+    words: &[&str],
+    files: GoodFiles,
+    call: u64,
+    status: Status,
+    said: &[u8],
+) -> Result<MemFiles, Fail> {
+    let mut files = MemFiles::new(alloc, files, &[call])?;
+    let mut out = MemSink::new(alloc, &[])?;
+    assert!(rt; answer(alloc, words, &mut files, &mut out) == status);
+    assert!(rt; out.taken() == said);
+    Ok(files)
 }
 
 fn write_all<F: Files>(files: &mut F, read: &[(&str, &[u8])]) -> Result<(), Fail> {

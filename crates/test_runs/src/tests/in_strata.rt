@@ -14,17 +14,17 @@ fn strata_that_are_not_parallel_are_refused(rt: HostRuntime) -> Result<(), Fail>
 }
 
 // Two threads that load and store different words, with the second stratum of chunks of both.
-const APART: &[u8] =
+pub(super) const APART: &[u8] =
     b"\x7fELF\x01\x01\x01\0\0\0\0\0\0\0\0\0\x02\0\xf3\0\x01\0\0\0\0\0\0\x004\0\0\0\0\0\0\0\0\0\0\x004\0 \0\
       \x01\0\0\0\0\0\0\0\x01\0\0\0T\0\0\0\0\0\0\0\0\0\0\x000\0\0\x000\0\0\0\x07\0\0\0\x04\0\0\0\x93\x08\
       \x10\0\x13\x05\0\x02\x13\x06\0\0s\0\0\0\x83\"\0\x10\x93\x08\0\0s\0\0\0\x13\0\0\x007#\0\0# cP\x93\x08\
       \0\0s\0\0\0";
 
-const APART_STRATA: &[u8] =
+pub(super) const APART_STRATA: &[u8] =
     b"DLRS\x01\x02\x0f\0d\0\0\0\x05\0\0\0\0\x01\0\x01\0\0\x01\x01\x01\0\x01\x01\x03\0\0\0\0\0\0\0\0\x03\0\
       \0\0\0\x02\0\0\0\x02\0\0\0\x01\0\0\0\0\x03\0\0\0\0\0\0\0\0\0\0\0\0\0\0\0";
 
-const TWO_CORES: &[u8] = b"cores = 2\n\
+pub(super) const TWO_CORES: &[u8] = b"cores = 2\n\
       chunk = 100\n\
       buffer = 16\n\
       window = 2\n\
@@ -39,7 +39,7 @@ const TWO_CORES: &[u8] = b"cores = 2\n\
       account = \"b.txt\"\n";
 
 // Thread 1 asks first in that stratum.
-const SECOND_FIRST: &[u8] = b"step 0\n\
+pub(super) const SECOND_FIRST: &[u8] = b"step 0\n\
       step 0\n\
       step 0\n\
       step 0\n\

@@ -16,7 +16,7 @@ fn parts_of_logs_are_replayed_byte_for_byte(rt: HostRuntime) -> Result<(), Fail>
 }
 
 // Commits 2 and 3 of the first log.
-const MIDDLE: &[u8] = b"c 2 1 3\n\
+pub(super) const MIDDLE: &[u8] = b"c 2 1 3\n\
       c 3 0 2\n\
       l 00000100 00000009\n\
       t 0 00000018 live 00000000 0 00000000 00000000 00000000 00000000 00000009 00000000 00000000 00000000 \

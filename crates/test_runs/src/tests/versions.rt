@@ -211,7 +211,7 @@ const RECORDED_IN_VERSION_2: Case = Case {
     ],
 };
 
-const MIGRATED: Case = Case {
+pub(super) const MIGRATED: Case = Case {
     words: &["migrate", "a.log", "b.log"],
     read: &[("a.log", THREE_LOG)],
     status: Status::Done,
