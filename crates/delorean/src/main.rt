@@ -20,7 +20,11 @@ fn main(rt: HostRuntime) -> ExitCode {
     let alloc = rt.alloc();
     let mut files = RealFiles::new(&rt);
     let mut out = StdSink::new(&rt);
-    let ended = run(alloc, env::args(&rt), |words| delorean(alloc, words, &mut files, &mut out));
+    let ended = run(
+        alloc,
+        env::args(&rt),
+        |words| delorean(alloc, words, &mut files, &mut out),
+    );
     ExitCode::from(status_of(ended).code())
 }
 
