@@ -9,6 +9,7 @@ import os
 from pathlib import Path
 import shutil
 import subprocess
+import sys
 import tempfile
 
 from lib.account import TOP, program
@@ -28,6 +29,20 @@ class Ran(namedtuple("Ran", "status said")):
         """What a failure is, in words."""
         return self.said or ("the program was ended by signal %d" % -self.status if self.status < 0
                              else "the program ended with status %d" % self.status)
+
+
+def explained(ran, *words):
+    """What a failure of the program, called with these words, is, and what explain/ finds of it; a bundle on another machine hasn't
+    got that."""
+    sys.path.append(str(TOP))
+    try:
+        from explain.explaining import explain
+    except ImportError:
+        return ran.told()
+    finally:
+        sys.path.pop()
+    text = explain(ran.status, list(words), ran.said) if ran.status > 0 else None
+    return "%s: %s" % (ran.told(), text) if text else ran.told()
 
 
 def find_program():

@@ -15,7 +15,7 @@ from lib.symbols import Names, NoWord
 from . import plans
 from .ends import console_sum, ended_of, is_live, rows_of, threads_text
 from .hangs import Hangs
-from .program import Failed, Runner
+from .program import Failed, Runner, explained
 
 GOOD, BAD, LIVE, HUNG = range(4)
 OUTCOMES = ("good", "bad", "live", "hung")
@@ -111,7 +111,7 @@ class Trier:
                 break
         if ran.status == 1:
             return self.runner.read("account")
-        raise Failed(ran.told())
+        raise Failed(explained(ran, "run", self.runner.path("plan")).replace(self.runner.path("plan"), "the plan"))
 
     def text(self, number, events, whole):
         """The plan of a try, except its seed."""

@@ -1,10 +1,12 @@
 /* Searches orders of a program's commits, or plays one that it is led by. It is told on standard input what to do, a line at a
    time, by the programs beside this folder, and answers on standard output. */
 #define _POSIX_C_SOURCE 200809L
+#include "chance.h"
 #include "condition.h"
 #include "emit.h"
 #include "ends.h"
 #include "guide.h"
+#include "priorities.h"
 #include "run.h"
 #include "search.h"
 #include "segments.h"
@@ -200,6 +202,32 @@ static void do_search(char *rest) {
     printf("end %s\n", finishes[finish]);
 }
 
+static void do_chance(const char *rest) {
+    static const char *const finishes[] = {[FOUND] = "found", [OUT_OF_TRIES] = "tries", [OUT_OF_TIME] = "seconds",
+                                           [INTERRUPTED] = "stopped"};
+    struct chance chance;
+    struct chances had = {.tries = 0};
+    unsigned strategy;
+    unsigned long long seed, tries;
+    if (sscanf(rest, "%u %u %llu %llu %lf", &strategy, &chance.depth, &seed, &tries, &chance.seconds) != 5 || strategy > WALKS
+        || chance.depth < 1 || chance.depth > MOST_DEPTH)
+        fail("no strategy");
+    chance.strategy = strategy;
+    chance.seed = seed;
+    chance.tries = tries;
+    ready();
+    enum finish finish = try_by_chance(&run, &bad, &chance, &had);
+    tell_ends();
+    printf("chances %llu %llu %u %llu %llu %llu %llu %llu\n", (unsigned long long)had.tries, (unsigned long long)had.alike, had.actors,
+           (unsigned long long)had.points, (unsigned long long)had.spent, (unsigned long long)had.limited,
+           (unsigned long long)had.ended, (unsigned long long)had.hung);
+    run.minds_marks = false;
+    learn(false);
+    if (finish == FOUND)
+        tell_run();
+    printf("end %s\n", finishes[finish]);
+}
+
 static void do_guide(const char *rest, bool in_full) {
     static const char *const outcomes[] = {"good", "bad", "limited"};
     unsigned manner, until;
@@ -244,6 +272,7 @@ static void take_line(char *line) {
     else if (strcmp(line, "ends") == 0) take_ends(rest);
     else if (strcmp(line, "turn") == 0) take_turn(rest);
     else if (strcmp(line, "search") == 0) do_search(rest);
+    else if (strcmp(line, "chance") == 0) do_chance(rest);
     else if (strcmp(line, "ready") == 0) ready(), printf("ready\n");
     else if (strcmp(line, "guide") == 0) do_guide(rest, false);
     else if (strcmp(line, "tell") == 0) do_guide(rest, true);

@@ -82,6 +82,15 @@ void end_turn(struct run *r, enum turn_end end) {
     r->current = NO_ONE;
 }
 
+static bool is_sure_sc(const struct run *r, const struct thread *t, struct next next) {
+    return next.kind == MEMORY && is_store_conditional(&r->machine, t) && has_reserved(&r->machine, t, next.address);
+}
+
+bool is_at_sure_sc(struct run *r) {
+    const struct thread *t = &r->machine.threads[r->current];
+    return is_sure_sc(r, t, next_of(&r->machine, t));
+}
+
 static bool is_acquire(const struct run *r, const struct thread *t) {
     const struct setup *s = r->machine.setup;
     return r->minds_marks && s->acquires != NULL && t->pc < s->size && s->acquires[t->pc / 4];
@@ -101,7 +110,7 @@ static bool is_place(const struct run *r, const struct thread *t, struct next ne
         return is_place_word(t->pc);
     case MEMORY: /* whoever is left loses the reservation, so neither an LR nor an SC that has it can be moved over a switch */
         return is_place_word(next.address) || is_place_word(t->pc) || is_acquire(r, t) || is_load_reserved(&r->machine, t)
-               || (is_store_conditional(&r->machine, t) && has_reserved(&r->machine, t, next.address));
+               || is_sure_sc(r, t, next);
     case CALL: { /* an interrupt may come before any, and leaves another number in a7 */
         uint32_t call = t->x[17];
         bool is_own = call > HAS_ENDED || call == HANDLER || call == IRET || call == SELF || call == YIELD;

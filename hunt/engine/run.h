@@ -69,6 +69,8 @@ void try_locks(struct run *r);
 enum waiting waiting_of(struct run *r, uint32_t thread);
 /* Whether the thread is live, and not known to wait. */
 bool is_enabled(struct run *r, uint32_t thread);
+/* Whether the current thread is at an SC that would succeed, so that it matters whether its chunk ends before. */
+bool is_at_sure_sc(struct run *r);
 bool can_raise(const struct run *r, uint32_t number);
 void do_dma(struct run *r);
 void do_raise(struct run *r, uint32_t number);

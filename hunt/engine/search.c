@@ -120,7 +120,6 @@ static void put_off(const struct trial *t, uint32_t choice) { push(&later, new_i
    either if this state is met again by a thread that has touched something, and the key doesn't tell the two. */
 static void offer_switches(const struct trial *t) {
     const struct machine *m = &run->machine;
-    const struct thread *current = &m->threads[run->current];
     uint32_t cost = tally->bound + 1;
     if (is_fresh(t))
         return;
@@ -128,9 +127,7 @@ static void offer_switches(const struct trial *t) {
     for (uint32_t u = 0; u < m->thread_count; u++)
         if (u != run->current && is_choice(u) && is_new(key_of(after, u, COMING), cost))
             put_off(t, u);
-    struct next next = next_of(&run->machine, current);
-    bool would_succeed = next.kind == MEMORY && is_store_conditional(m, current) && has_reserved(m, current, next.address);
-    if (would_succeed && is_new(key_of(after, run->current, AFTER_CUT), cost))
+    if (is_at_sure_sc(run) && is_new(key_of(after, run->current, AFTER_CUT), cost))
         put_off(t, CUT);
 }
 
@@ -329,6 +326,8 @@ static enum result try_first(void) {
 static volatile sig_atomic_t interrupted;
 
 void interrupt_search(void) { interrupted = 1; }
+
+bool is_interrupted(void) { return interrupted != 0; }
 
 static bool limit_is_met(enum finish *which) {
     if (interrupted)

@@ -22,6 +22,7 @@ struct tally {
 enum finish search(struct run *r, const struct condition *bad, const struct limits *limits, struct tally *tally);
 /* The search ends after the present run. A signal may call this. */
 void interrupt_search(void);
+bool is_interrupted(void);
 /* What a state is in which no thread is enabled: all have ended, all wait, or it comes again in turns. */
 enum leaf { ALL_ENDED, ALL_WAIT, COMES_AGAIN };
 enum leaf leaf_of(struct run *r);

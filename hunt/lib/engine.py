@@ -26,6 +26,7 @@ DMA, RAISE = 127, 128  # actors of turns beside threads; an interrupt has its th
 WHOLE = (1 << 62)      # steps of a turn that goes on until its thread ends or waits
 FREELY, EXACTLY, AGAIN = range(3)  # how a list of turns leads a run; guide.h says what they are
 TO_ITS_END, TO_LAST_TURN = range(2)
+STRATEGIES = ("pct", "random")  # by which orders are drawn; chance.h says what they are
 ENDS = ("forced", "stopped", "waits", "spent")  # of turns
 
 # actor: a thread, DMA, or RAISE and more. end: forced, stopped (the thread ended), waits, or spent (its steps were over).
@@ -37,6 +38,10 @@ Bound = namedtuple("Bound", "bound tries states places shared seconds")
 # how: found, bound (all up to the greatest bound are done), all (there are no more orders), tries, seconds or states (a limit was
 # met), or stopped (by Ctrl-C). ends: the different ends that were met, if the engine was made to collect them.
 Search = namedtuple("Search", "how bounds tries ended hung limited places bound told ends")
+# Of runs whose order was drawn. how: found, tries or seconds (a limit was met), or stopped. alike: the last ones of the tries, which
+# knew all that is known at the end. actors, points: the most that a run had. spent, limited: runs in which a thread had its steps
+# (Options.turn), and that were left at the limit of steps. told, ends: as in Search.
+Drawn = namedtuple("Drawn", "strategy depth how tries alike actors points spent limited ended hung told ends")
 # memory: the bytes asked for. threads: (status, code) of each; status 0 is live, 1 ended, 2 faulted. forced: the fewest switches.
 End = namedtuple("End", "memory threads forced")
 # threads: the most that there may be, or None for as many as the version has. all_places: threads may come before any access to a
@@ -169,19 +174,45 @@ class Engine:
         finally:
             signal.signal(signal.SIGINT, before)
 
-    def read_search(self, on_bound):
-        bounds, ends, told = [], [], None
-        while (words := self.line())[0] == "bound":
-            bounds.append(Bound(*map(int, words[1:10:2]), float(words[11])))
-            on_bound(bounds[-1])
+    def drawn(self, strategy, depth, seed, tries, seconds):
+        """Runs whose order is drawn, until one ends badly: by a strategy of STRATEGIES."""
+        before = signal.signal(signal.SIGINT, lambda *_: self.process.send_signal(signal.SIGINT))
+        try:
+            self.send("chance %d %d %d %d %f" % (STRATEGIES.index(strategy), depth, seed, tries, seconds))
+            return self.read_drawn(strategy, depth)
+        finally:
+            signal.signal(signal.SIGINT, before)
+
+    def read_drawn(self, strategy, depth):
+        ends, words = self.read_ends(self.line())
+        counts = map(int, words[1:])
+        told, words = self.read_find()
+        return Drawn(strategy, depth, words[1], *counts, told, ends)
+
+    def read_ends(self, words):
+        """The ends that were met, and the words of the line after them."""
+        ends = []
         while words[0] == "met":
             ends.append(read_end(words))
             words = self.line()
-        tries, ended, hung, limited, places, bound, _ = map(int, words[1:])
-        words = self.line()
+        return ends, words
+
+    def read_find(self):
+        """The Told of a run that ends badly, or None, and the words of the last line."""
+        words, told = self.line(), None
         if words[0] == "leaf":
             told = self.read_told(words)
             words = self.line()
+        return told, words
+
+    def read_search(self, on_bound):
+        bounds = []
+        while (words := self.line())[0] == "bound":
+            bounds.append(Bound(*map(int, words[1:10:2]), float(words[11])))
+            on_bound(bounds[-1])
+        ends, words = self.read_ends(words)
+        tries, ended, hung, limited, places, bound, _ = map(int, words[1:])
+        told, words = self.read_find()
         return Search(words[1], bounds, tries, ended, hung, limited, places, bound, told, ends)
 
     def collect_ends(self, address, length):

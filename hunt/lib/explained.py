@@ -7,11 +7,10 @@ import tempfile
 
 from .chains import places
 from .found import LOG, PICTURE, PLAN, plan_text
-from .hangs import hang_lines
-from .notes import note_lines, notes_of
 from .story import Story
 from .storylines import lines
 from .trace import open_trace
+from .waiting import waiting_lines
 from .why import switch_lines
 
 # why, waits, story: lines. threads: (number, function, state, code, places where it failed) of each. console: text. files: name -> text or bytes.
@@ -30,22 +29,9 @@ def why_lines(trace, story):
             yield line
 
 
-def waiting_lines(trace, own, run):
-    """Who waits for whom, of a run in which no thread goes on: by the library's notes; of other threads, by their loops."""
-    if run.leaf not in ("waits", "repeats"):
-        return []
-    notes = [note for note in notes_of(trace) if note.waits]
-    return [*note_lines(trace, own, notes), *lines_of_others(trace, {note.thread for note in notes})]
-
-
-def lines_of_others(trace, told):
-    """hangs.hang_lines, without the threads that are told, and without what these are said to wait for."""
-    is_told = False
-    for line in hang_lines(trace) if len(told) < len(trace.machine.threads) else ():
-        thread = re.match(r"thread (\d+)", line)
-        is_told = int(thread[1]) in told if thread else is_told or bool(told) and not line.startswith(" ")
-        if not is_told:
-            yield line
+def hang_told(trace, run):
+    """Who waits for whom, of a run in which no thread goes on."""
+    return waiting_lines(trace, True) if run.leaf in ("waits", "repeats") else []
 
 
 def states(trace, story):
@@ -77,5 +63,5 @@ def explained(program, finding, folder):
         trace = open_trace(program.image, program.memory, file.name)
     story, image = Story(trace, finding.run.left), Path(program.image).name
     files = {LOG: finding.run.log, PICTURE: picture_of(trace, image), PLAN: plan_text(image, program.memory)}
-    return Told(list(why_lines(trace, story)), waiting_lines(trace, story.own, finding.run), list(lines(story)), list(states(trace, story)),
+    return Told(list(why_lines(trace, story)), hang_told(trace, finding.run), list(lines(story)), list(states(trace, story)),
                 console_of(trace), files, folder)

@@ -23,9 +23,11 @@ FEW_THREADS = 15  # as many as logs of version 1 have
 
 # image: the path. memory: bytes. threads: how many there may be in all. has_library: whether delorean-cc has linked it.
 Program = namedtuple("Program", "image memory threads has_library")
-# switches: at most so many forced ones, or None. seconds: of the search. bad: further conditions. input: a file, or None.
-Limits = namedtuple("Limits", "switches seconds shrink_seconds bad input seed steps")
-# status: below. search: as the engine has it. run: a Run, or None. seconds: that the search took. condition: what a failure is.
+# switches: at most so many forced ones, or None. seconds: of the search. bad: further conditions. input: a file, or None. strategy: by
+# which orders are drawn, with its depth and tries, or None.
+Limits = namedtuple("Limits", "switches seconds shrink_seconds bad input seed steps tick strategy depth tries",
+                    defaults=(TICK, None, 3, MOST_RUNS))
+# status: below. search: as the engine has it, a Search or Drawn. run: a Run, or None. seconds: that the search took. condition: what a failure is.
 Finding = namedtuple("Finding", "status search run seconds condition")
 # log: bytes, that the proved walk has judged. ended: what the walk's account tells. forced: how many forced switches. left: of each
 # turn of a thread, the next one's apart, whether it was left by a forced switch. leaf: as in engine.Told.
@@ -93,7 +95,7 @@ def conditions(program, limits):
 
 def job_of(program, limits):
     return Job(Namespace(image=program.image, memory=str(program.memory), bad=conditions(program, limits), input=limits.input,
-                         seed=limits.seed, out=os.devnull, tick=TICK, turn=TURN, steps=limits.steps, raises=[],
+                         seed=limits.seed, out=os.devnull, tick=limits.tick, turn=TURN, steps=limits.steps, raises=[],
                          log_version=1 if program.threads <= FEW_THREADS else 2))
 
 
@@ -122,16 +124,22 @@ def status_of(result):
     """Whether all that was asked for is covered."""
     if result.how == "stopped":
         return STOPPED
-    whole = result.how in ("all", "bound") and not result.limited
+    whole = result.how in ("all", "bound") and not result.limited  # drawn runs never cover anything
     return CLEAR if whole else LIMIT
+
+
+def searched_by(engine, limits, tell):
+    if limits.strategy:
+        return engine.drawn(limits.strategy, limits.depth, limits.seed, limits.tries, limits.seconds)
+    switches = MOST_SWITCHES if limits.switches is None else limits.switches
+    return engine.search(switches, MOST_RUNS, MOST_STATES, limits.seconds, tell)
 
 
 def find(program, limits, tell=lambda bound: None):
     """The Finding. `tell` is called with each Bound that is done."""
     job, started = job_of(program, limits), time.monotonic()
-    switches = MOST_SWITCHES if limits.switches is None else limits.switches
     with job.engine() as engine:
-        result = engine.search(switches, MOST_RUNS, MOST_STATES, limits.seconds, tell)
+        result = searched_by(engine, limits, tell)
     searched = time.monotonic() - started
     if result.told is None:
         return Finding(status_of(result), result, None, searched, conditions(program, limits))

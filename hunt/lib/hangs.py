@@ -133,9 +133,9 @@ def circle(trace, found):
 # ---------------------------------------------------------------- in words
 
 
-def hang_lines(trace):
-    """What each live thread waits for, and the circle; [] if no thread is live."""
-    found = waits(trace)
+def hang_lines(trace, found=None):
+    """What each live thread waits for, or each of the found Waits, and the circle; [] if there is none."""
+    found = waits(trace) if found is None else found
     lines = [line for wait in found for line in _lines(trace, wait)]
     around = circle(trace, found)
     if around:

@@ -3,7 +3,10 @@
 import shlex
 import sys
 
+from .advice import advice
 from .chains import chain_text
+from .chances import what_was_tried
+from .engine import Drawn
 from .finding import FOUND
 from .found import LOG, PICTURE, PLAN
 from .searching import counted
@@ -41,7 +44,15 @@ def why_it_ended(result):
 
 
 def covered(result):
-    """What was covered without a failure, and never more."""
+    """What was covered without a failure, and never more; and what to try if that isn't all."""
+    if isinstance(result, Drawn):
+        yield from what_was_tried(result, "fails")
+    else:
+        yield from covered_alone(result)
+        yield from advice(result)
+
+
+def covered_alone(result):
     if result.limited:
         yield "no failure in %s, but what comes after that isn't covered" % counted(result.tries, "run")
         yield "%s came to the limit of steps (--steps)" % counted(result.limited, "run")
@@ -114,6 +125,9 @@ def as_text(program, ready, finding, told):
 
 
 def json_of_search(result):
+    if isinstance(result, Drawn):
+        return {"how": result.how, "strategy": result.strategy, "depth": result.depth, "runs": result.tries, "actors": result.actors,
+                "places": result.points, "left at the limit of steps": result.limited}
     done = bound_done(result)
     return {"how": result.how, "runs": result.tries, "states": done.states if done else 0, "places": done.places if done else 0,
             "all orders up to": done.bound if done else None, "left at the limit of steps": result.limited}

@@ -3,7 +3,8 @@
 from .trace import context_name
 
 MOST_ROWS = 28  # of a turn; more are cut in the middle
-WIDEST = 36     # a word that is longer pushes what comes after it
+WIDEST = 36     # a word that is longer isn't in columns with the others
+LONGEST = 60    # of it so much is shown
 
 
 def cut(rows):
@@ -20,7 +21,11 @@ def row_lines(rows):
     value = max((len(row.value) for row in rows), default=0)
     for row in rows:
         times = "  (%d times)" % row.times if row.times > 1 else ""
-        yield ("%-*s  %-*s  %-*s  %s%s" % (what, row.what, word, row.word, value, row.value, row.place, times)).rstrip()
+        if len(row.word) > WIDEST:
+            shown = row.word if len(row.word) <= LONGEST else row.word[: LONGEST - 3] + "..."
+            yield "  ".join(filter(None, ("%-*s" % (what, row.what), shown, row.value, row.place + times)))
+        else:
+            yield ("%-*s  %-*s  %-*s  %s%s" % (what, row.what, word, row.word, value, row.value, row.place, times)).rstrip()
 
 
 def head(turn):

@@ -2,10 +2,12 @@
 the image has any. Without symbols everything has its number alone."""
 
 from bisect import bisect_right
-from collections import namedtuple
+from collections import Counter, namedtuple
 import os
 import re
 import struct
+
+from .statics import functions_of
 
 Symbol = namedtuple("Symbol", "addr size name is_code")
 
@@ -75,7 +77,7 @@ def _lines(data):
 
 class Names:
     def __init__(self, image):
-        self.file, self.size, self._table = image.file, image.size, None
+        self.file, self.size, self._table, self._locals = image.file, image.size, None, None
         try:
             found = _symbols(image.file)
         except (struct.error, ValueError, IndexError):  # a damaged table counts as no table
@@ -141,7 +143,18 @@ class Names:
         if symbol is None:
             return "%08X" % addr
         away = addr - symbol.addr
-        return symbol.name + ("+0x%X" % away if away else "")
+        return self._local_names().get(symbol, symbol.name) + ("+0x%X" % away if away else "")
+
+    def _local_names(self):
+        """Of static variables in functions, which compilers call `pool.4`, names for people: `sell::pool` if it is known which function
+        they are of, else `pool` if only one is called so."""
+        if self._locals is None:
+            found = {s: s.name.partition(".")[0] for s in self.data if re.fullmatch(r"[A-Za-z_]\w*\.\d+", s.name)}
+            functions = functions_of(self.file) if found else {}
+            counts = Counter(list(found.values()) + [s.name for s in self.symbols])
+            self._locals = {s: "%s::%s" % (functions[s.addr], name) for s, name in found.items() if s.addr in functions}
+            self._locals.update({s: name for s, name in found.items() if s.addr not in functions and counts[name] == 1})
+        return self._locals
 
     def symbol(self, addr):
         """The Symbol of data that an address is in, or None."""
@@ -150,15 +163,25 @@ class Names:
 
     def words(self, text):
         """The addresses of all words of a symbol, or of the one word that a WORD means."""
-        first = self.word(text)
-        size = self.by_name[text].size if text in self.by_name else 4
+        first, symbol = self.word(text), self._named(text)
+        size = symbol.size if symbol else 4
         return range(first, min(first + max(4, size), self.size), 4)
+
+    def _named(self, text):
+        """The symbol of a name as the image has it, or as it is told. `pool` is a static variable in a function, if only one is called so."""
+        if text in self.by_name:
+            return self.by_name[text]
+        names = self._local_names()
+        found = [s for s, name in names.items() if text in (name, name.rpartition("::")[2])]
+        if len(found) > 1:
+            raise NoWord(text, "there are several: " + ", ".join(sorted(names[s] for s in found)))
+        return found[0] if found else None
 
     def word(self, text):
         """The address that a WORD means: a symbol or a hexadecimal number, then perhaps `+OFFSET`, decimal or 0x.."""
         base, plus, offset = text.partition("+")
-        if base in self.by_name:
-            addr = self.by_name[base].addr
+        if self._named(base):
+            addr = self._named(base).addr
         elif re.fullmatch(r"(0[xX])?[0-9A-Fa-f]{1,8}", base):
             addr = int(base, 16)
         else:

@@ -7,11 +7,11 @@ import tempfile
 from . import isa
 from .account import Differs, NotWalked
 from .halfway import Early, Overwritten, early_at_end, early_looks, overwritten, taken_over
-from .hangs import hang_lines
 from .stacks import stack_lines
 from .switches import Crossing, crossing, ends_badly, forced_switches
 from .telling import place, what_served
 from .trace import NotRead, context_name, open_trace
+from .waiting import waiting_lines
 from .whatif import Otherwise
 from .words import bits_of, shared_words
 
@@ -104,7 +104,7 @@ def explained(image, memory, log, is_hang=False):
         file.flush()
         try:
             trace = open_trace(image, memory, file.name)
-            return [*stack_lines(trace), *switch_lines(trace, True), *(hang_lines(trace) if is_hang else [])]
+            return [*stack_lines(trace), *switch_lines(trace, True), *(waiting_lines(trace, True) if is_hang else [])]
         except (Differs, NotRead, NotWalked):
             return []
 

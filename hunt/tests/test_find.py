@@ -17,6 +17,13 @@ from unittest import mock
 
 import support
 from lib.account import program
+from lib.finding import read_program
+from lib.hangs import waits
+from lib.logs import write_log
+from lib.story import Row
+from lib.storylines import row_lines
+from lib.trace import open_trace
+from lib.waiting import waiting_lines
 from test_guide import HAS_LINES
 
 CAN_BUILD = shutil.which(os.environ.get("CC", "cc")) is not None
@@ -71,6 +78,22 @@ class Lines(InScratch):
                      "thread 2 (second) waits for mutex a, second, deadlock.c:25; holds b since second, deadlock.c:24",
                      "so thread 1 waits for thread 2, thread 2 waits for thread 1"):
             self.assertIn("  %s\n" % line, said)
+        self.assertRegex(said, r"thread \d is left after it stores 00000001 to ([ab]) \(.*; thread \d stores 00000001 to (?!\1)[ab] \(")
+
+    def test_waits_of_trace(self):
+        """What the library's notes say, and not its words; of a thread that could go on it says so."""
+        self.found("deadlock.elf")
+        trace = open_trace(self.out / "deadlock.elf", read_program(self.out / "deadlock.elf").memory, self.out / "found.log")
+        self.assertEqual([line.partition(", ")[0] for line in waiting_lines(trace)], [
+            "thread 0 (main) waits for the end of thread 1", "thread 1 (first) waits for mutex b", "thread 2 (second) waits for mutex a",
+            "so thread 1 waits for thread 2"])
+        log = trace.log
+        cut = log._replace(count=log.count - 1, order=log.order[:-1], sizes=log.sizes[:-1])
+        while trace.longer is None or any(wait.loop for wait in waits(trace)[1:]):
+            cut = cut._replace(count=cut.count - 1, order=cut.order[:-1], sizes=cut.sizes[:-1])
+            (self.out / "cut.log").write_bytes(write_log(cut))
+            trace = open_trace(self.out / "deadlock.elf", trace.image.size, self.out / "cut.log")
+        self.assertTrue(any("could go on" in line for line in waiting_lines(trace)))
 
     def test_freed_block(self):
         _, said, _ = self.found("usedafterfree.elf")
@@ -140,10 +163,13 @@ class NotFound(InScratch):
         status, said, _ = self.found("polls.elf", "--steps", "100")
         self.assertEqual(status, 3)
         self.assertIn("came to the limit of steps", said)
+        self.assertIn("to cover more: --steps allows longer runs", said)
         self.assertNotIn("no order", said)
         status, said, _ = self.found("polls.elf", "--seconds", "0.01")
         self.assertEqual(status, 3)
         self.assertIn("the limit of seconds was met", said)
+        self.assertIn("to cover more: --seconds gives more time", said)
+        self.assertNotIn("to cover more", self.found("account-mended.elf")[1])
 
     def test_further_condition(self):
         status, said, _ = self.found("account-mended.elf", "--bad", "word balance = 115")
@@ -184,10 +210,18 @@ class Folders(InScratch):
         self.assertEqual(self.out.read_text(), "a file")
 
 
+class Columns(unittest.TestCase):
+    def test_a_long_word_is_cut_and_widens_nothing(self):
+        rows = [Row("loads", "count", "00000001", "work, a.c:3"), Row("prints", "x" * 100, "", "work, a.c:4"),
+                Row("calls", "y" * 50, "", "work, a.c:5")]
+        self.assertEqual(list(row_lines(rows)), [
+            "loads   count  00000001  work, a.c:3", "prints  %s...  work, a.c:4" % ("x" * 57), "calls   %s  work, a.c:5" % ("y" * 50)])
+
+
 class Words(unittest.TestCase):
     def test_refused(self):
         race = support.TOP / "examples/race/race.elf"
-        for words in ([], ["nothing.elf"], ["-O2"], [race, "-O2"], [race, race], [race, "--switches", "-1"], [race, "--bad", "exit 0"],
+        for words in ([], ["nothing.elf"], ["-O2"], [race, "-O2"], [race, race], [race, "--switches", "-1"], [race, "--tick", "-1"], [race, "--bad", "exit 0"],
                       [race, "--memory", "5000"], [support.TOP / "hunt/tests/support.py"]):
             with self.subTest(words), tempfile.TemporaryDirectory() as scratch:
                 status, said, errors = find(*words, "--out", Path(scratch) / "out")
@@ -219,6 +253,27 @@ class Sources(InScratch):
     def test_words_for_the_compiler(self):
         status, said, errors = find("-DMENDED", EXAMPLES / "account.c", "-O1", "--out", self.out)
         self.assertEqual(status, 0, said + errors)
+
+    def source(self, text):
+        path = self.out.parent / "prog.c"
+        path.write_text(text)
+        return path
+
+    def test_tick(self):
+        source = self.source("#include <time.h>\nint main(void) { clock_t first = clock(); return clock() - first > 500; }\n")
+        self.assertEqual(find(source, "--out", self.out)[0], 0)
+        self.assertEqual(find(source, "--out", self.out, "--tick", "1000")[0], 1)
+
+    @unittest.skipUnless(HAS_LINES, NO_LINES)
+    def test_static_variables_of_functions(self):
+        source = self.source("static int *mine(void) { static int count[2]; return count; }\n"
+                             "static int *other(void) { static int count; return &count; }\n"
+                             "int main(void) { mine()[1] = 3; *other() += 2; return *other(); }\n")
+        _, said, _ = find(source, "--out", self.out, "-O1", "--bad", "word mine::count+4 = 3 and word other::count = 2")
+        self.assertRegex(said, r"stores +mine::count\+0x4 +00000003 over")
+        self.assertRegex(said, r"stores +other::count +00000002 over")
+        _, _, errors = find(source, "--out", self.out, "--bad", "word count = 3")
+        self.assertIn("there are several: mine::count, other::count", errors)
 
     def test_not_compiled(self):
         status, said, errors = find(EXAMPLES / "account.c", "-Dbalance=", "--out", self.out)

@@ -133,6 +133,8 @@ class Campaigns(Scratch):
                 (("plan.toml", "--bad", "word nowhere = 1"), "nowhere"),
                 (("plan.toml", "--bad", "ever word counter = 3"), "an account tells how a run ended"),
                 (("plan.toml", "--bad", "fault", "--vary", "chunk=5000", "--seeds", "7"), "seed 7, chunk=5000: refused plan 8"),
+                (("plan.toml", "--bad", "fault", "--vary", "chunk=8"),
+                 "seed 1, chunk=8: refused plan 4: the plan, line 3: `chunk` is 8, but it has to be 16"),
                 (("plan.toml", "--bad", "fault", "--sphere", "1"), "sphere 1 of the plan isn't recorded"),
                 (("plan.toml", "--bad", "fault", "--resume"), "--resume needs --keep, the folder of the campaign")):
             status, text = said(*words)

@@ -166,6 +166,14 @@ class Names(unittest.TestCase):
             names.place(0x68) if at % 245 == 0 else names.function(0x68)
         Symbols(Image(4096, 0, b"", data[:200])).place(0x68)
 
+    def test_static_variables_of_functions(self):
+        """A compiler's `count.1` is `count`, if nothing else is called so; its function isn't known without debug information."""
+        data = support.example("race, plan.toml").image.read_bytes()
+        names = Symbols(Image(4096, 0, b"", data.replace(b"counter\0", b"count.1\0")))
+        self.assertEqual([names.name(0x600), names.word("count"), names.word("count.1+4")], ["count", 0x600, 0x604])
+        names = Symbols(Image(4096, 0, b"", data.replace(b"counter\0", b"lock.11\0")))
+        self.assertEqual([names.name(0x600), names.name(0x604)], ["lock.11", "lock"])
+
     def test_functions(self):
         names = support.traced("race, plan.toml").names
         self.assertEqual([names.function(pc) for pc in (0, 0x5C, 0x68)], ["_start", "work", "work"])
