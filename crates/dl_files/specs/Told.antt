@@ -1,6 +1,6 @@
 -- What a system tells of its files, if it tells: what they hold, and how many of its calls were refused.
-use Rattle.std.specs.Prelude.{◌≡◌, ◌≢◌, ℕ, ◌+◌, ◌<◌, ◌≤◌, ◌^◌, ◌⊎◌, List, ◌++◌, length, Option, None, Some, IfSome, option_map, refl}
-use Rattle.std.specs.Coded.{Coded, code_by, coded×, coded_ℕ, coded_option}
+use Rattle.std.specs.Prelude.{◌≡◌, ◌≢◌, ℕ, Bool, ◌+◌, ◌<◌, ◌≤◌, ◌^◌, ◌⊎◌, List, ◌++◌, length, Option, None, Some, IfSome, option_map, refl}
+use Rattle.std.specs.Coded.{Coded, code_by, coded×, coded_ℕ, coded_bool, coded_option}
 use Rattle.std.specs.FinMap.{get, insert}
 use Rattle.dl_files.specs.Contents.{Contents, contents_code}
 use Rattle.dl_files.specs.Seen.{Counts}
@@ -84,9 +84,9 @@ told_code =
 
 abbrev pub outside_code : Coded Outside
 outside_code =
-    code_by (Option Told × (ℕ × (ℕ × ℕ))) (coded× (coded_option told_code) (coded× coded_ℕ (coded× coded_ℕ coded_ℕ)))
-    (λ o. (o.told, (o.counts.faults, (o.counts.unread, o.counts.changes))))
-    (λ p. record { told = p.0; counts = record { faults = p.1.0; unread = p.1.1.0; changes = p.1.1.1 } }) (λ _. refl)
+    code_by (Option Told × (ℕ × (ℕ × (ℕ × Bool)))) (coded× (coded_option told_code) (coded× coded_ℕ (coded× coded_ℕ (coded× coded_ℕ coded_bool))))
+    (λ o. (o.told, (o.counts.faults, (o.counts.unread, (o.counts.changes, o.counts.unwritten)))))
+    (λ p. record { told = p.0; counts = record { faults = p.1.0; unread = p.1.1.0; changes = p.1.1.1.0; unwritten = p.1.1.1.1 } }) (λ _. refl)
 
 -- what a sink over a writer is seen as: what the writer holds, if it tells, and its count of faults
 pub record Out : Type 0 where

@@ -1,5 +1,5 @@
 //! Files in memory whose calls fail as a list says.
-ghost use Rattle.std.specs.Prelude.{◌≡◌, ◌≢◌, ◌↔◌, ◌≤◌, [], length, take, None, Some, IsSome, IfOk, IfErr, OnOk, OnErr, IsErrOf};
+ghost use Rattle.std.specs.Prelude.{◌≡◌, ◌≢◌, ◌↔◌, ◌≤◌, [], length, take, true, false, None, Some, IsSome, IfOk, IfErr, OnOk, OnErr, IsErrOf};
 ghost use Rattle.std.specs.FinMap.{get, insert};
 ghost use Rattle.dl_files.specs.Calls.{unmade, FailsNext, passed, faulted};
 ghost use Rattle.dl_files.specs.Contents.{part_of, more, SameBut};
@@ -21,6 +21,8 @@ pub struct MemFiles {
     calls: Calls,
     // The place of the last fault's name in the store.
     last: Option<usize>,
+    // Whether the last call that was to change a file failed.
+    unwritten: bool,
 }
 
 impl Model for MemFiles {
@@ -36,6 +38,7 @@ impl Model for MemFiles {
       contents = contents_of files.store;
       calls = files.calls;
       last_fault = option_and_then (name_at files.store) files.last;
+      unwritten = files.unwritten;
     } };
 
     ghost invariant = { λ files. IfSome files.last (λ place. place < length files.store) };
@@ -49,6 +52,7 @@ impl MemFiles {
           contents = files;
           calls = unmade failing.now;
           last_fault = None;
+          unwritten = false;
         }) }
         ensures only { IfErr result (λ e. e ≡ FileError.OutOfMemory) }
     {
@@ -56,28 +60,31 @@ impl MemFiles {
             calls: Calls::new(alloc, failing)?,
             store: files.into_store(),
             last: None,
+            unwritten: false,
         })
     }
 
-    // The next call fails at the name, which is added without bytes if it is new.
+    // The next call, which is to change a file, fails at the name, which is added without bytes if it is new.
     fn fault(&mut self, name: &str) -> Result<(), AllocError>
         ensures others { OnOk result
             (SameBut name.now (Some self.old.contents) (Some self.new.contents)) }
         ensures fault { OnOk result (self.new ≡ record self.new {
           calls = faulted self.old.calls;
           last_fault = Some name.now;
+          unwritten = true;
         }) }
         ensures same { OnErr result (self.new ≡ self.old) }
     {
         let place = self.store.touch(name)?;
         self.calls.fault();
         self.last = Some(place);
+        self.unwritten = true;
         Ok(())
     }
 }
 
 impl Files for MemFiles {
-    ghost seen = { λ files. telling files.contents files.calls.faults files.last_fault };
+    ghost seen = { λ files. record (telling files.contents files.calls.faults files.last_fault) { unwritten = files.unwritten } };
 
     fn faults(&self) -> u64 {
         self.calls.faults()
@@ -142,12 +149,14 @@ impl Files for MemFiles {
         ensures written { OnOk result (self.new ≡ record self.old {
           contents = insert self.old.contents name.now bytes.now;
           calls = passed self.old.calls;
+          unwritten = false;
         }) }
         ensures others { IsErrOf result FileError.Failed
             → SameBut name.now (Some self.old.contents) (Some self.new.contents) }
         ensures fault { IsErrOf result FileError.Failed → self.new ≡ record self.new {
           calls = faulted self.old.calls;
           last_fault = Some name.now;
+          unwritten = true;
         } }
         ensures same { IsErrOf result FileError.OutOfMemory → self.new ≡ self.old }
         ensures not_absent { IfErr result (λ e. e ≢ FileError.Absent) }
@@ -158,6 +167,7 @@ impl Files for MemFiles {
         }
         self.store.put(name, bytes)?;
         self.calls.pass();
+        self.unwritten = false;
         Ok(())
     }
 
@@ -167,12 +177,14 @@ impl Files for MemFiles {
         ensures created { OnOk result (self.new ≡ record self.old {
           contents = insert self.old.contents name.now [];
           calls = passed self.old.calls;
+          unwritten = false;
         }) }
         ensures others { IsErrOf result FileError.Failed
             → SameBut name.now (Some self.old.contents) (Some self.new.contents) }
         ensures fault { IsErrOf result FileError.Failed → self.new ≡ record self.new {
           calls = faulted self.old.calls;
           last_fault = Some name.now;
+          unwritten = true;
         } }
         ensures same { IsErrOf result FileError.OutOfMemory → self.new ≡ self.old }
         ensures not_absent { IfErr result (λ e. e ≢ FileError.Absent) }
@@ -186,12 +198,14 @@ impl Files for MemFiles {
         ensures appended { OnOk result (self.new ≡ record self.old {
           contents = more name.now bytes.now self.old.contents;
           calls = passed self.old.calls;
+          unwritten = false;
         }) }
         ensures others { IsErrOf result FileError.Failed
             → SameBut name.now (Some self.old.contents) (Some self.new.contents) }
         ensures fault { IsErrOf result FileError.Failed → self.new ≡ record self.new {
           calls = faulted self.old.calls;
           last_fault = Some name.now;
+          unwritten = true;
         } }
         ensures same { IsErrOf result FileError.OutOfMemory → self.new ≡ self.old }
         ensures not_absent { IfErr result (λ e. e ≢ FileError.Absent) }
@@ -202,6 +216,7 @@ impl Files for MemFiles {
         }
         self.store.append(name, bytes)?;
         self.calls.pass();
+        self.unwritten = false;
         Ok(())
     }
 }

@@ -21,6 +21,8 @@ pub struct SystemFiles<S: System> {
     faults: u64,
     unread: u64,
     changes: u64,
+    // Whether the last call that was to change a file failed.
+    unwritten: bool,
 }
 
 /// The files of the system that `R` reaches.
@@ -35,7 +37,12 @@ impl<S: System> Model for SystemFiles<S> {
 
     ghost view = { λ files. record {
       told = S.told files.system;
-      counts = record { faults = files.faults; unread = files.unread; changes = files.changes };
+      counts = record {
+        faults = files.faults;
+        unread = files.unread;
+        changes = files.changes;
+        unwritten = files.unwritten;
+      };
     } };
 }
 
@@ -58,6 +65,7 @@ impl<S: System> SystemFiles<S> {
             faults: 0,
             unread: 0,
             changes: 0,
+            unwritten: false,
         }
     }
 
@@ -92,6 +100,7 @@ impl<S: System> SystemFiles<S> {
         ensures refused { OnErr result (self.new ≡ record self.old { counts = with_unwritten self.old.counts }) }
     {
         self.changes = self.changes.saturating_add(1);
+        self.unwritten = done.is_err();
         match done {
             Ok(()) => Ok(()),
             Err(_) => {
