@@ -20,10 +20,11 @@ pub record Seen : Type 0 where
 abbrev pub telling : Contents → (faults : ℕ) → (last : Option (List ℕ)) → Seen
 telling m faults last = record { known = Some m; faults = faults; last = last; unread = 0; changes = 0; unwritten = false }
 
--- of files that tell nothing, how many calls failed, how many of those were reads, how many calls may have changed a file,
--- and whether the last of these failed
+-- of files that tell nothing, how many calls failed, how many of those did for another reason than that a name is absent, how many
+-- were reads, how many calls may have changed a file, and whether the last of these failed
 pub record Counts : Type 0 where
   pub faults : ℕ
+  pub failed : ℕ
   pub unread : ℕ
   pub changes : ℕ
   pub unwritten : Bool
@@ -32,17 +33,21 @@ abbrev pub untold : Counts → Seen
 untold c = record { known = None; faults = c.faults; last = None; unread = c.unread; changes = c.changes; unwritten = c.unwritten }
 
 abbrev pub uncounted : Counts
-uncounted = record { faults = 0; unread = 0; changes = 0; unwritten = false }
+uncounted = record { faults = 0; failed = 0; unread = 0; changes = 0; unwritten = false }
 
--- the counts after a read that failed, a call that changed a file, and a call that was to change one but failed
+-- the counts after a read of an absent name, a read that failed otherwise, a call that changed a file, and a call that was to change
+-- one but failed
+abbrev pub with_absent : Counts → Counts
+with_absent c = record c { faults = next c.faults; unread = next c.unread }
+
 abbrev pub with_unread : Counts → Counts
-with_unread c = record { faults = next c.faults; unread = next c.unread; changes = c.changes; unwritten = c.unwritten }
+with_unread c = record c { faults = next c.faults; failed = next c.failed; unread = next c.unread }
 
 abbrev pub with_change : Counts → Counts
-with_change c = record { faults = c.faults; unread = c.unread; changes = next c.changes; unwritten = false }
+with_change c = record c { changes = next c.changes; unwritten = false }
 
 abbrev pub with_unwritten : Counts → Counts
-with_unwritten c = record { faults = next c.faults; unread = c.unread; changes = next c.changes; unwritten = true }
+with_unwritten c = record c { faults = next c.faults; failed = next c.failed; changes = next c.changes; unwritten = true }
 
 -- ---- reading
 

@@ -1,5 +1,5 @@
 //! Files in memory whose calls fail as a list says.
-ghost use Rattle.std.specs.Prelude.{◌≡◌, ◌≢◌, ◌↔◌, ◌≤◌, [], length, take, true, false, None, Some, IsSome, IfOk, IfErr, OnOk, OnErr, IsErrOf};
+ghost use Rattle.std.specs.Prelude.{◌≡◌, ◌≢◌, ◌↔◌, ◌≤◌, [], length, max, take, true, false, None, Some, IsSome, IfOk, IfErr, OnOk, OnErr, IsErrOf};
 ghost use Rattle.std.specs.FinMap.{get, insert};
 ghost use Rattle.dl_files.specs.Calls.{unmade, FailsNext, passed, faulted};
 ghost use Rattle.dl_files.specs.Contents.{part_of, more, SameBut};
@@ -12,7 +12,7 @@ use crate::{FileError, Files, GoodFiles};
 use std::alloc::{AllocError, Global};
 use std::marker::Model;
 
-/// Files in memory some of whose calls fail. Calls that read, write, create or append are numbered
+/// Files in memory some of whose calls fail, and which keep the size of the largest piece that was asked for. Calls that read, write, create or append are numbered
 /// together, from 0 in the order in which they are made. A read of an absent name takes no number, since
 /// the name is looked up first; nor does a call for which memory ran out.
 #[derive(Drop)]
@@ -23,6 +23,8 @@ pub struct MemFiles {
     last: Option<usize>,
     // Whether the last call that was to change a file failed.
     unwritten: bool,
+    // The size of the largest piece that was asked for.
+    largest: usize,
 }
 
 impl Model for MemFiles {
@@ -39,6 +41,7 @@ impl Model for MemFiles {
       calls = files.calls;
       last_fault = option_and_then (name_at files.store) files.last;
       unwritten = files.unwritten;
+      largest = files.largest;
     } };
 
     ghost invariant = { λ files. IfSome files.last (λ place. place < length files.store) };
@@ -53,6 +56,7 @@ impl MemFiles {
           calls = unmade failing.now;
           last_fault = None;
           unwritten = false;
+          largest = 0;
         }) }
         ensures only { IfErr result (λ e. e ≡ FileError.OutOfMemory) }
     {
@@ -61,6 +65,7 @@ impl MemFiles {
             store: files.into_store(),
             last: None,
             unwritten: false,
+            largest: 0,
         })
     }
 
@@ -73,6 +78,7 @@ impl MemFiles {
           last_fault = Some name.now;
           unwritten = true;
         }) }
+        ensures asked { self.new.largest ≡ self.old.largest }
         ensures same { OnErr result (self.new ≡ self.old) }
     {
         let place = self.store.touch(name)?;
@@ -86,7 +92,11 @@ impl MemFiles {
 impl Files for MemFiles {
     ghost seen = { λ files. record (telling files.contents files.calls.faults files.last_fault) { unwritten = files.unwritten } };
 
-    fn faults(&self) -> u64 {
+    ghost largest = { λ files. files.largest };
+
+    fn faults(&self) -> u64
+        ensures { result ≡ self.now.calls.faults }
+    {
         self.calls.faults()
     }
 
@@ -101,6 +111,7 @@ impl Files for MemFiles {
           last_fault = Some name.now;
         } }
         ensures same { IfErr result (λ e. e ≢ FileError.Failed → self.new ≡ self.old) }
+        ensures asked { self.new.largest ≡ self.old.largest }
     {
         let Some(place) = self.store.place(name) else {
             return Err(FileError::Absent);
@@ -123,13 +134,20 @@ impl Files for MemFiles {
         ensures no_memory { IfErr result (λ e. e ≢ FileError.OutOfMemory) }
         ensures passes { OnOk result (FailsNext self.old.calls → ⊥) }
         ensures fails { IsErrOf result FileError.Failed → FailsNext self.old.calls }
-        ensures ok { OnOk result (self.new ≡ record self.old { calls = passed self.old.calls }) }
+        ensures ok { OnOk result (self.new ≡ record self.old {
+          calls = passed self.old.calls;
+          largest = max self.old.largest (length into.old);
+        }) }
         ensures fault { IsErrOf result FileError.Failed → self.new ≡ record self.old {
           calls = faulted self.old.calls;
           last_fault = Some name.now;
+          largest = max self.old.largest (length into.old);
         } }
-        ensures same { IfErr result (λ e. e ≢ FileError.Failed → self.new ≡ self.old) }
+        ensures same { IfErr result (λ e. e ≢ FileError.Failed
+            → self.new ≡ record self.old { largest = max self.old.largest (length into.old) }) }
+        ensures asked { self.new.largest ≡ max self.old.largest (length into.old) }
     {
+        self.largest = self.largest.max(into.len());
         let Some(place) = self.store.place(name) else {
             return Err(FileError::Absent);
         };
@@ -160,6 +178,7 @@ impl Files for MemFiles {
         } }
         ensures same { IsErrOf result FileError.OutOfMemory → self.new ≡ self.old }
         ensures not_absent { IfErr result (λ e. e ≢ FileError.Absent) }
+        ensures asked { self.new.largest ≡ self.old.largest }
     {
         if self.calls.fails_next() {
             self.fault(name)?;
@@ -188,6 +207,7 @@ impl Files for MemFiles {
         } }
         ensures same { IsErrOf result FileError.OutOfMemory → self.new ≡ self.old }
         ensures not_absent { IfErr result (λ e. e ≢ FileError.Absent) }
+        ensures asked { self.new.largest ≡ self.old.largest }
     {
         self.write(name, b"")
     }
@@ -209,6 +229,7 @@ impl Files for MemFiles {
         } }
         ensures same { IsErrOf result FileError.OutOfMemory → self.new ≡ self.old }
         ensures not_absent { IfErr result (λ e. e ≢ FileError.Absent) }
+        ensures asked { self.new.largest ≡ self.old.largest }
     {
         if self.calls.fails_next() {
             self.fault(name)?;
