@@ -9,6 +9,11 @@ fn strata_are_replayed_byte_for_byte(rt: HostRuntime) -> Result<(), Fail> {
 }
 
 #[test]
+fn strata_are_replayed_on_one_core(rt: HostRuntime) -> Result<(), Fail> {
+    come_out(&rt, rt.alloc(), ON_ONE_CORE)
+}
+
+#[test]
 fn strata_that_are_not_parallel_are_refused(rt: HostRuntime) -> Result<(), Fail> {
     come_out(&rt, rt.alloc(), REFUSALS)
 }
@@ -257,6 +262,187 @@ const REPLAYS: &[Case] = &[
         status: Status::Done,
         said: b"events 40\ncommits 6\ns 0 complete 6\n",
         written: &[("b.txt", PIECES_ACCOUNT), ("r.txt", PIECES_REPORT)],
+    },
+];
+
+// One core with a buffer of one word.
+const ONE_CORE: &[u8] = b"cores = 1\n\
+      chunk = 100\n\
+      buffer = 1\n\
+      window = 2\n\
+      signature = 64\n\
+      script = \"s.txt\"\n\
+      report = \"r.txt\"\n\
+      [[sphere]]\n\
+      image = \"a.elf\"\n\
+      memory = 12288\n\
+      role = \"replay\"\n\
+      strata = \"a.strata\"\n\
+      account = \"b.txt\"\n";
+
+const IN_TURN: &[u8] = b"g 3 0 0 chunk 3\n\
+      g 5 0 0 serial 0\n\
+      g 8 0 0 chunk 2\n\
+      g 13 0 1 chunk 3\n\
+      g 18 0 0 serial 0\n\
+      g 21 0 1 serial 0\n\
+      r Ran 5\n\
+      r Closed 6\n\
+      r Granted 6\n\
+      r Drained 1\n\
+      r Retired 1\n\
+      r Placed 3\n\
+      events 22\n\
+      commits 6\n\
+      s 0 complete 6\n";
+
+// The same with the largest window and signature, and events that are drawn.
+const DRAWN: &[u8] = b"cores = 1\n\
+      chunk = 4096\n\
+      buffer = 1\n\
+      window = 8\n\
+      signature = 2048\n\
+      seed = 1\n\
+      events = 200000\n\
+      report = \"r.txt\"\n\
+      [[sphere]]\n\
+      image = \"a.elf\"\n\
+      memory = 12288\n\
+      role = \"replay\"\n\
+      strata = \"a.strata\"\n\
+      account = \"b.txt\"\n";
+
+const DRAWN_REPORT: &[u8] = b"g 9 0 0 chunk 3\n\
+      g 11 0 0 serial 0\n\
+      g 15 0 0 chunk 2\n\
+      g 605 0 1 chunk 3\n\
+      g 1458 0 0 serial 0\n\
+      g 2890 0 1 serial 0\n\
+      r Ran 5\n\
+      r Closed 8\n\
+      r Waiting 933\n\
+      r Idle 145848\n\
+      r Stopped 3024\n\
+      r NothingRun 2\n\
+      r Granted 6\n\
+      r NotClosed 1\n\
+      r NotTurn 170\n\
+      r Drained 1\n\
+      r Clean 1\n\
+      r Already 5\n\
+      r Retired 1\n\
+      r NoCommit 43777\n\
+      r Placed 3\n\
+      r Elsewhere 3\n\
+      r NoThread 2682\n\
+      r Ended 385\n\
+      r FromLog 3145\n\
+      events 200000\n\
+      commits 6\n\
+      s 0 complete 6\n";
+
+// Six strata, since the load and the store of the two threads conflict.
+const RACE_STRATA: &[u8] =
+    b"DLRS\x01\x02\x0f\0d\0\0\0\x06\0\0\0\0\x01\0\x01\0\0\0\x01\0\x01\0\x01\0\x01\x01\x03\0\0\0\0\
+      \0\0\0\0\x03\0\0\0\0\x02\0\0\0\x02\0\0\0\x01\0\0\0\0\x03\0\0\0\0\0\0\0\0\0\0\0\0\0\0\0";
+
+const DRAWN_RACE: &[u8] = b"cores = 1\n\
+      chunk = 4096\n\
+      buffer = 1\n\
+      window = 8\n\
+      signature = 2048\n\
+      seed = 1\n\
+      events = 200000\n\
+      report = \"r.txt\"\n\
+      [[sphere]]\n\
+      image = \"a.elf\"\n\
+      memory = 4096\n\
+      role = \"replay\"\n\
+      strata = \"a.strata\"\n\
+      account = \"b.txt\"\n";
+
+const RACE_ACCOUNT: &[u8] = b"c 0 0 3\n\
+      c 1 0 0\n\
+      c 2 1 3\n\
+      c 3 0 2\n\
+      l 00000100 00000009\n\
+      c 4 0 0\n\
+      c 5 1 0\n\
+      t 0 0000001C ended:1 00000000 0 00000000 00000000 00000000 00000000 00000009 00000000 000000\
+      00 00000000 00000000 00000001 00000000 00000000 00000000 00000000 00000000 00000000 0000000\
+      0 00000000 00000000 00000000 00000000 00000000 00000000 00000000 00000000 00000000 00000000 \
+      00000000 00000000 00000000 00000000\n\
+      t 1 00000030 ended:0 00000000 0 00000000 00000000 00000000 00000000 00000000 00000009 000000\
+      00 00000000 00000000 00000000 00000000 00000000 00000000 00000000 00000000 00000000 0000000\
+      0 00000000 00000000 00000000 00000000 00000000 00000000 00000000 00000000 00000000 00000000 \
+      00000000 00000000 00000000 00000000\n\
+      m 00000000 9308100013050002130600007300000083220010930800007300000013000000\n\
+      m 00000020 1303900023206010930800007300000000000000000000000000000000000000\n\
+      m 00000100 0900000000000000000000000000000000000000000000000000000000000000\n\
+      end complete 6\n";
+
+const RACE_REPORT: &[u8] = b"g 9 0 0 chunk 3\n\
+      g 11 0 0 serial 0\n\
+      g 605 0 1 chunk 3\n\
+      g 1458 0 0 chunk 2\n\
+      g 1471 0 0 serial 0\n\
+      g 2890 0 1 serial 0\n\
+      r Ran 6\n\
+      r Closed 8\n\
+      r Waiting 940\n\
+      r Idle 145839\n\
+      r Stopped 3024\n\
+      r NothingRun 2\n\
+      r Granted 6\n\
+      r NotTurn 172\n\
+      r Drained 1\n\
+      r Clean 1\n\
+      r Already 5\n\
+      r Retired 1\n\
+      r NoCommit 43777\n\
+      r Placed 3\n\
+      r Elsewhere 3\n\
+      r NoThread 2682\n\
+      r Ended 385\n\
+      r FromLog 3145\n\
+      events 200000\n\
+      commits 6\n\
+      s 0 complete 6\n";
+
+const ON_ONE_CORE: &[Case] = &[
+    Case {
+        words: &["run", "plan.toml"],
+        read: &[
+            ("plan.toml", ONE_CORE),
+            ("s.txt", b""),
+            ("a.elf", APART),
+            ("a.strata", APART_STRATA),
+        ],
+        status: Status::Done,
+        said: b"events 22\ncommits 6\ns 0 complete 6\n",
+        written: &[("b.txt", IN_THEIR_ORDER), ("r.txt", IN_TURN)],
+    },
+    Case {
+        words: &["run", "plan.toml"],
+        read: &[
+            ("plan.toml", DRAWN),
+            ("a.elf", APART),
+            ("a.strata", APART_STRATA),
+        ],
+        status: Status::Done,
+        said: b"events 200000\ncommits 6\ns 0 complete 6\n",
+        written: &[("b.txt", IN_THEIR_ORDER), ("r.txt", DRAWN_REPORT)],
+    },
+    Case {
+        words: &["run", "plan.toml"],
+        read: &[
+            ("plan.toml", DRAWN_RACE),
+            ("a.elf", RACE),
+            ("a.strata", RACE_STRATA),
+        ],
+        status: Status::Done,
+        said: b"events 200000\ncommits 6\ns 0 complete 6\n",
+        written: &[("b.txt", RACE_ACCOUNT), ("r.txt", RACE_REPORT)],
     },
 ];
 
