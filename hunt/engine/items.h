@@ -4,7 +4,8 @@
 
 #include "machine.h"
 
-#define NO_ITEM UINT32_MAX /* the parent of the first run */
+#define NO_ITEM UINT32_MAX
+#define FIRST_ITEM 0 /* of the first run; it has no parent */
 
 struct item {
     uint32_t parent, stop; /* the number of the stop in its run */
@@ -17,19 +18,10 @@ struct list {
     size_t count, room;
 };
 
-/* The choices that lead to an item, from the start of the run. */
-struct step { uint32_t stop, choice; };
-struct path {
-    struct step *steps;
-    size_t length, room;
-};
-
 uint32_t add_item(struct item item);
 struct item item_of(uint32_t number);
+uint32_t item_count(void);
 void forget_items(void);
 void push(struct list *l, uint32_t item);
-void find_path(struct path *p, uint32_t item);
-/* How many of the list's last items part from one run, in the order of their stops; at least one. */
-size_t family_of(const struct list *l);
 
 #endif

@@ -1,10 +1,28 @@
 #include "kept.h"
 
+#include "segments.h"
+
 #include <string.h>
 
-void keep_run(struct kept_run *k, const struct run *r) {
+enum { MOST_KEPT = 1000 };
+
+struct kept_run {
+    struct run run;
+    struct kept_segments segments;
+};
+
+static struct kept_run *kept[MOST_KEPT + 1]; /* and one at a run's end */
+static size_t count, most = MOST_KEPT;
+
+void keep_at_most(size_t runs) { most = runs < MOST_KEPT ? runs : MOST_KEPT; }
+
+bool can_keep(void) { return count < most; }
+
+void keep_run(const struct run *r) {
+    if (kept[count] == NULL)
+        kept[count] = room(1, sizeof **kept);
+    struct kept_run *k = kept[count++];
     k->run = *r;
-    k->turn = r->turns[r->turn_count - 1];
     keep_segments(&k->segments);
 }
 
@@ -15,8 +33,9 @@ static void take_back_memory(struct machine *m, size_t journal_length) {
     }
 }
 
-/* What has grown meanwhile isn't given back. */
-void take_back_run(const struct kept_run *k, struct run *r) {
+/* What has grown meanwhile isn't given back. Of turns the last one is as its end finds it. */
+void take_back_run(struct run *r) {
+    const struct kept_run *k = kept[count - 1];
     struct run grown = *r;
     take_back_memory(&r->machine, k->run.machine.journal_length);
     *r = k->run;
@@ -26,6 +45,7 @@ void take_back_run(const struct kept_run *k, struct run *r) {
     r->machine.journal_room = grown.machine.journal_room;
     r->machine.console = grown.machine.console;
     r->machine.console_room = grown.machine.console_room;
-    r->turns[r->turn_count - 1] = k->turn;
     take_back_segments(&k->segments);
 }
+
+void drop_run(void) { count--; }

@@ -1,17 +1,13 @@
-/* A run that is kept as it is, and comes back so after it has gone on. */
+/* Runs that are kept as they are, and come back so after they have gone on: the last one that was kept comes back first. */
 #ifndef KEPT_H
 #define KEPT_H
 
 #include "run.h"
-#include "segments.h"
 
-struct kept_run {
-    struct run run;
-    struct turn turn; /* the last one */
-    struct kept_segments segments;
-};
-
-void keep_run(struct kept_run *k, const struct run *r);
-void take_back_run(const struct kept_run *k, struct run *r);
+void keep_at_most(size_t runs);
+bool can_keep(void); /* one more */
+void keep_run(const struct run *r);
+void take_back_run(struct run *r); /* the last one that is kept; it stays so */
+void drop_run(void);
 
 #endif

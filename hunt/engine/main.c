@@ -6,6 +6,7 @@
 #include "emit.h"
 #include "ends.h"
 #include "guide.h"
+#include "kept.h"
 #include "priorities.h"
 #include "run.h"
 #include "search.h"
@@ -270,6 +271,7 @@ static void take_line(char *line) {
     else if (strcmp(line, "raise") == 0) take_raise(rest);
     else if (strcmp(line, "acquire") == 0) take_acquire(rest);
     else if (strcmp(line, "ends") == 0) take_ends(rest);
+    else if (strcmp(line, "keep") == 0) keep_at_most(strtoul(rest, NULL, 10));
     else if (strcmp(line, "turn") == 0) take_turn(rest);
     else if (strcmp(line, "search") == 0) do_search(rest);
     else if (strcmp(line, "chance") == 0) do_chance(rest);

@@ -7,25 +7,25 @@
 #include "seen.h"
 #include "segments.h"
 #include "stuck.h"
+#include "tree.h"
 
 #include <signal.h>
 #include <stdio.h>
 #include <string.h>
 
 static struct list now, later; /* to be tried with the present bound, and with one forced switch more */
-static struct path path;       /* of the present run */
 static struct run *run;
 static const struct condition *bad;
 static const struct limits *limits;
 static struct tally *tally;
 static double ends_at; /* at the latest */
 
-enum result { GOES_ON, IS_BAD, IS_DONE };
+/* Of a run, or of some: IS_OVER if the search has to look up, since a limit is met or the run has news. */
+enum result { GOES_ON, IS_DONE, IS_OVER, IS_BAD };
 
-/* A run of the search: the item that it does, the steps of the path that lead to it, and how many of them are done. */
+/* A run of the search, and the item that it does. */
 struct trial {
     uint32_t item;
-    size_t length, done;
     uint32_t stop;   /* the number of the present stop: of a place, or of a turn's end */
     uint32_t places; /* of them those at which others could come */
     bool fresh;      /* the current thread has come to no place since it came */
@@ -191,18 +191,19 @@ static enum result judge_leaf(void) {
 
 /* So that a walk can show that it is an end, threads that are blocked go on to where they really wait. */
 static enum result at_leaf(void) {
-    static struct kept_run kept;
     bool blocked = some_are_blocked(run);
     if (blocked) {
-        keep_run(&kept, run);
+        keep_run(run);
         learn(false); /* what comes now is for the log alone */
         try_locks(run);
     }
     enum result result = judge_leaf();
     if (blocked && result != IS_BAD) {
-        take_back_run(&kept, run);
+        take_back_run(run);
         learn(true);
     }
+    if (blocked)
+        drop_run();
     return result;
 }
 
@@ -214,114 +215,7 @@ static bool is_leaf(void) {
     return true;
 }
 
-/* No thread goes on: another one is chosen, for nothing. The first new choice is gone on with here, the others later. */
-static enum result choose(struct trial *t, enum turn_end end) {
-    uint32_t first = NO_ITEM;
-    end_turn(run, end);
-    if (is_leaf() && at_leaf() == IS_BAD)
-        return IS_BAD;
-    struct hash state = whole_state();
-    for (uint32_t c = 0; c < RAISE + run->raise_count; c = choice_after(c)) {
-        if (!is_choice(c) || !is_new(key_of(state, c, COMING), tally->bound))
-            continue;
-        uint32_t item = new_item(t, c);
-        if (first == NO_ITEM)
-            first = item;
-        else
-            push(&now, item);
-    }
-    if (first == NO_ITEM)
-        return IS_DONE;
-    t->item = first;
-    take_choice(t, item_of(first).choice, end);
-    return GOES_ON;
-}
-
-/* ---------------------------------------------------------------- a trial */
-
-/* What the path says of this stop, if anything. */
-static bool follow(struct trial *t, enum turn_end end) {
-    if (t->done == t->length || path.steps[t->done].stop != t->stop)
-        return false;
-    take_choice(t, path.steps[t->done++].choice, end);
-    return true;
-}
-
-static void go_past(struct trial *t, enum stop stop, bool *past) {
-    t->fresh = t->fresh && stop == AT_INTERRUPTIBLE;
-    *past = true;
-}
-
-/* At a place, or where an interrupt may come. The current thread goes on past it, if no other choice is taken. */
-static enum result at_place(struct trial *t, enum stop stop, bool *past) {
-    if (follow(t, FORCED))
-        return GOES_ON;
-    if (t->done == t->length) {
-        struct hash key = key_of(whole_state(), run->current, AT_PLACE_KEY);
-        if (is_new(key, tally->bound)) {
-            keep_key(key);
-            offer(t, stop);
-        } else if (!is_in_turn(key))
-            return IS_DONE;
-    }
-    go_past(t, stop, past);
-    return GOES_ON;
-}
-
-static enum result at_turn_end(struct trial *t, enum turn_end end) {
-    if (is_bad_already(run, bad)) {
-        end_turn(run, end);
-        return IS_BAD;
-    }
-    if (follow(t, end))
-        return GOES_ON;
-    return choose(t, end);
-}
-
-static const enum turn_end end_at[] = {
-    [AT_PLACE] = FORCED, [AT_INTERRUPTIBLE] = FORCED, [AT_STOP] = STOPPED, [AT_WAIT] = WAITS, [AT_SPENT] = SPENT};
-
-static enum stop go_to_stop(struct trial *t, bool *past) {
-    /* after a DMA or an interrupt at a turn's end no thread is there yet */
-    enum stop stop = run->current == NO_ONE ? AT_STOP : go_on(run, *past);
-    *past = false;
-    t->stop++;
-    return stop;
-}
-
-/* On to the run's end. */
-static enum result go_to_end(struct trial *t) {
-    enum result result = GOES_ON;
-    bool past = false;
-    while (result == GOES_ON) {
-        enum stop stop = go_to_stop(t, &past);
-        if (has_news())
-            return IS_DONE; /* the search begins again */
-        tally->limited += stop == AT_LIMIT;
-        if (stop == AT_LIMIT)
-            break;
-        result = end_at[stop] == FORCED ? at_place(t, stop, &past) : at_turn_end(t, end_at[stop]);
-    }
-    if (t->places > tally->most_places)
-        tally->most_places = t->places;
-    return result;
-}
-
-static struct trial begun(uint32_t item) {
-    find_path(&path, item);
-    start_run(run);
-    begin_turn(run, 0);
-    turn_key_count = 0;
-    return (struct trial){.item = item, .length = path.length, .fresh = true};
-}
-
-static enum result try_first(void) {
-    struct trial t = begun(NO_ITEM);
-    tally->tries++;
-    return go_to_end(&t);
-}
-
-/* ---------------------------------------------------------------- families */
+/* ---------------------------------------------------------------- limits */
 
 static volatile sig_atomic_t interrupted;
 
@@ -343,61 +237,157 @@ static bool limit_is_met(enum finish *which) {
     return true;
 }
 
-/* The item parts from its parent's run here, and goes on to its end. */
-static enum result try_item(uint32_t item, const struct trial *parent, enum turn_end end) {
-    struct trial t = *parent;
-    t.item = item;
-    t.length = t.done;
-    t.places = item_of(item).places;
-    tally->tries++;
-    take_choice(&t, item_of(item).choice, end);
-    return go_to_end(&t);
+/* ---------------------------------------------------------------- a trial */
+
+static void go_past(struct trial *t, enum stop stop, bool *past) {
+    t->fresh = t->fresh && stop == AT_INTERRUPTIBLE;
+    *past = true;
 }
 
-/* The items, from the next one on, that part from the run at this stop. IS_DONE if the search has to look up. */
-static enum result try_here(const struct trial *parent, enum turn_end end, const struct list *family, size_t *next) {
-    static struct kept_run kept;
-    enum finish which;
-    while (*next < family->count && item_of(family->items[*next]).stop == parent->stop) {
-        keep_run(&kept, run);
-        enum result result = try_item(family->items[(*next)++], parent, end);
-        if (result == IS_BAD || has_news())
-            return result;
-        take_back_run(&kept, run);
-        if (limit_is_met(&which))
-            return IS_DONE;
-    }
+/* At a place, or where an interrupt may come. The current thread goes on past it. */
+static enum result at_place(struct trial *t, enum stop stop, bool *past) {
+    struct hash key = key_of(whole_state(), run->current, AT_PLACE_KEY);
+    if (is_new(key, tally->bound)) {
+        keep_key(key);
+        offer(t, stop);
+    } else if (!is_in_turn(key))
+        return IS_DONE;
+    go_past(t, stop, past);
     return GOES_ON;
 }
 
-/* The run from which they all part is done once, and each of them from where it parts. next: the first one that wasn't tried. */
-static enum result try_family(const struct list *family, size_t *next) {
-    struct trial t = begun(item_of(family->items[family->count - 1]).parent);
-    bool past = false;
-    for (;;) {
-        enum stop stop = go_to_stop(&t, &past);
-        enum result result = try_here(&t, end_at[stop], family, next);
-        if (result != GOES_ON || *next == family->count)
-            return result;
-        if (!follow(&t, end_at[stop]))
-            go_past(&t, stop, &past);
-    }
+static const enum turn_end end_at[] = {
+    [AT_PLACE] = FORCED, [AT_INTERRUPTIBLE] = FORCED, [AT_STOP] = STOPPED, [AT_WAIT] = WAITS, [AT_SPENT] = SPENT};
+
+static enum stop go_to_stop(struct trial *t, bool *past) {
+    /* after a DMA or an interrupt at a turn's end no thread is there yet */
+    enum stop stop = run->current == NO_ONE ? AT_STOP : go_on(run, *past);
+    *past = false;
+    t->stop++;
+    return stop;
 }
 
-static enum result try_next(void) {
-    static struct list family;
-    if (now.items[now.count - 1] == NO_ITEM) {
-        now.count--;
-        return try_first();
+static enum result choose(struct trial *t, enum turn_end end);
+
+/* On to the run's end, and to those of all that parts from it for nothing. */
+static enum result go_to_end(struct trial *t) {
+    enum result result = GOES_ON;
+    enum finish which;
+    bool past = false;
+    while (result == GOES_ON) {
+        enum stop stop = go_to_stop(t, &past);
+        if (has_news())
+            return IS_OVER; /* the search begins again */
+        tally->limited += stop == AT_LIMIT;
+        if (stop == AT_LIMIT)
+            result = IS_DONE;
+        else if (end_at[stop] == FORCED)
+            result = at_place(t, stop, &past);
+        else if (is_bad_already(run, bad)) {
+            end_turn(run, end_at[stop]);
+            result = IS_BAD;
+        } else
+            result = choose(t, end_at[stop]);
     }
-    size_t next = 0, first = now.count - family_of(&now);
-    family.count = 0;
-    for (size_t j = first; j < now.count; j++)
-        push(&family, now.items[j]);
+    if (t->places > tally->most_places)
+        tally->most_places = t->places;
+    return result == IS_DONE && limit_is_met(&which) ? IS_OVER : result;
+}
+
+/* ---------------------------------------------------------------- the tree of runs */
+
+/* The item parts here from its parent's run, which was this one so far. */
+static void part(struct trial *t, uint32_t item, enum turn_end end) {
+    t->item = item;
+    t->places = item_of(item).places;
+    take_choice(t, item_of(item).choice, end);
+}
+
+static enum result try_item(struct trial *t) {
+    tally->tries++;
+    note_tried(t->item);
+    return go_to_end(t);
+}
+
+static enum result try_tree(struct trial *t);
+
+/* Likewise, to its end, or to where those part that are to be tried; and then the run is here again. */
+static enum result try_apart(const struct trial *parent, uint32_t item, enum turn_end end) {
+    struct trial t = *parent;
+    keep_run(run);
+    part(&t, item, end);
+    enum result result = try_tree(&t);
+    if (result == IS_DONE)
+        take_back_run(run);
+    drop_run();
+    return result;
+}
+
+/* No thread goes on: others are chosen, for nothing. The last new choice is gone on with here. */
+static enum result choose(struct trial *t, enum turn_end end) {
+    enum result result = IS_DONE;
+    uint32_t item = item_count();
+    end_turn(run, end);
+    if (is_leaf() && at_leaf() == IS_BAD)
+        return IS_BAD;
+    struct hash state = whole_state();
+    for (uint32_t c = 0; c < RAISE + run->raise_count; c = choice_after(c))
+        if (is_choice(c) && is_new(key_of(state, c, COMING), tally->bound))
+            new_item(t, c);
+    uint32_t count = item_count();
+    if (item == count)
+        return IS_DONE;
+    for (; item + 1 < count && result == IS_DONE && can_keep(); item++)
+        result = try_apart(t, item, end);
+    for (; item + 1 < count; item++)
+        push(&now, item);
+    if (result != IS_DONE) {
+        push(&now, item);
+        return result;
+    }
+    part(t, item, end);
+    return GOES_ON;
+}
+
+/* The run goes on to that stop; it has done the one where it is, if that is after `from`. */
+static enum stop go_on_to(struct trial *t, uint32_t number, uint32_t from, enum stop stop) {
+    for (bool past = false; t->stop < number; stop = go_to_stop(t, &past))
+        if (t->stop > from)
+            go_past(t, stop, &past);
+    return stop;
+}
+
+/* The item is done, or was done before: then its run is done once more, and what parts from it and is to be tried is. */
+static enum result try_tree(struct trial *t) {
+    enum result result = IS_DONE;
+    enum stop stop = AT_STOP;
+    uint32_t from = t->stop, next = first_part(t->item), item;
+    while ((item = next) != NO_ITEM && result == IS_DONE) {
+        stop = go_on_to(t, item_of(item).stop, from, stop);
+        next = next_part(item);
+        if (next != NO_ITEM) {
+            result = can_keep() ? try_apart(t, item, end_at[stop]) : IS_DONE;
+            continue;
+        }
+        part(t, item, end_at[stop]);
+        from = t->stop;
+        next = first_part(item);
+    }
+    return result == IS_DONE && is_to_be_tried(t->item) ? try_item(t) : result;
+}
+
+/* Some of those that are to be tried. */
+static enum result try_some(void) {
+    enum { SOME = 4096 };
+    struct trial t = {.item = FIRST_ITEM, .fresh = true};
+    size_t first = now.count > SOME ? now.count - SOME : 0;
+    make_tree(now.items + first, now.count - first);
     now.count = first;
-    enum result result = try_family(&family, &next);
-    for (size_t j = next; j < family.count; j++)
-        push(&now, family.items[j]);
+    start_run(run);
+    begin_turn(run, 0);
+    turn_key_count = 0;
+    enum result result = try_tree(&t);
+    put_back(&now);
     return result;
 }
 
@@ -411,7 +401,7 @@ static void start_over(void) {
     tally->bound = 0;
     tally->most_places = 0;
     tally->ended = tally->waited = tally->repeated = tally->limited = 0;
-    push(&now, NO_ITEM);
+    push(&now, add_item((struct item){.parent = NO_ITEM}));
 }
 
 static void tell_bound(double started) {
@@ -450,7 +440,7 @@ enum finish search(struct run *r, const struct condition *bad_, const struct lim
         }
         if (limit_is_met(&limit))
             return limit;
-        if (try_next() == IS_BAD)
+        if (try_some() == IS_BAD)
             return FOUND;
         if (knowledge() != known) {
             known = knowledge();

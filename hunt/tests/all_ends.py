@@ -17,9 +17,10 @@ def outcome(end):
     return tuple([word(SHARED), word(SHARED + 4)] + [word(RESULTS + 4 * k) for k in range(len(end.threads))])
 
 
-def met_ends(image, options=Options(steps=100000)):
-    """(how the search ended, outcomes with their fewest forced switches, whether an end was a hang)."""
+def met_ends(image, options=Options(steps=100000), *lines):
+    """(how the search ended, outcomes with their fewest forced switches, whether an end was a hang). lines: for the engine."""
     engine = Engine(image, read_condition([NEVER], Names(image)), options)
+    engine.send(*lines)
     engine.collect_ends(SHARED, END_OF_WORDS - SHARED)
     result = engine.search(60, 10**6, 1 << 22, 60)
     engine.close()
