@@ -183,7 +183,7 @@ fn no_call_is_made_past_the_last(rt: HostRuntime) -> Result<(), Fail> {
         let case = &calls.case;
         let mut files = comes_to(&rt, alloc, case, calls.names.len(), case.status, case.said)?;
         assert!(rt; files.create("past the last").is_err());
-        hold_all(&rt, alloc, &mut files, case.written);
+        hold_all(&rt, alloc, &mut files, case.written)?;
     }
     Ok(())
 }
@@ -197,6 +197,6 @@ fn comes_to(
     said: &[u8],
 ) -> Result<MemFiles, Fail> {
     let mut files = GoodFiles::new(alloc);
-    write_all(&mut files, case.read)?;
+    write_all(alloc, &mut files, case.read)?;
     fails_at(rt, alloc, case.words, files, call as u64, status, said)
 }
