@@ -89,7 +89,7 @@ flying_inside w i ready =
 
 -- ---- what each leaves
 
-begun_list : List (Option Flight) → (first n : ℕ) → List Sphere → List Sphere
+abbrev begun_list : List (Option Flight) → (first n : ℕ) → List Sphere → List Sphere
 begun_list slots i n ps = begun_from slots i (take n ps) ++ drop n ps
 
 list_none : (slots : List (Option Flight)) (i : ℕ) (ps : List Sphere) → begun_list slots i 0 ps ≡ ps
