@@ -14,7 +14,7 @@ use Rattle.spec_program.specs.Writes.{Write, written}
 use Rattle.spec_program.specs.Stages.{Refused, ◌>>◌}
 use Rattle.spec_program.specs.Tasks.{Task, setup_in, task_named}
 use Rattle.spec_program.specs.commands.Drill as drill
-use Rattle.spec_program.specs.commands.Run.{HasLimits}
+use Rattle.spec_program.specs.commands.Run.{HasRun}
 use Rattle.spec_program.specs.Outcomes.{Finish, Outcome, status_in}
 use Rattle.spec_program.specs.Asked.{IsDone, outcome_of, reads_of}
 use Rattle.spec_program.specs.Ends.{Took, TookAll, Partly, Stands, IsFaulted, IsFinished, IsShort, is_done, is_refusal}
@@ -131,13 +131,13 @@ run_is task job (t, is, run) =
     ap (λ (o : Result Task Refused). o >> λ x. ran x.plan (setup_in x) x.events) is
     ∙ (λ i. Ok (record { diverged = sym run.diverged i; writes = sym run.writes i; text = sym run.text i }))
 
--- and its machine is within its limits
-pub run_limited : (plan : List ℕ) (m : Contents) (job : Job) → IsTaskJob (task_named m plan) job → HasLimits plan m
-run_limited plan m job (t, is, run) = (t, is, run.limits)
+-- its machine is within its limits, and its tails are read again
+pub run_limited : (plan : List ℕ) (m : Contents) (job : Job) → IsTaskJob (task_named m plan) job → HasRun plan m
+run_limited plan m job (t, is, run) = (t, is, run.limits, run.tails)
 
 -- what a command that is done says
 pub done_is : (words : List (List ℕ)) (m : Contents) (before after : Outside) (s : Status) (command : CommandValues) (job : Job)
-    → command_of words ≡ Some command → ((plan : List ℕ) → command_of words ≡ Some (Run plan) → HasLimits plan m) → IsJobOf (outcome_of words m) job
+    → command_of words ≡ Some command → ((plan : List ℕ) → command_of words ≡ Some (Run plan) → HasRun plan m) → IsJobOf (outcome_of words m) job
     → Stands (outcome_of words m) (reads_of words m) m before after s → is_done s ≡ true
     → IsDone command m after.known before.taken after.taken s
 done_is words m before after s command job asks limits is stands done =
