@@ -1,6 +1,11 @@
-use Rattle.std.proofs.Common.{◌∙◌, ◌≡◌, List, ap, sym, inl, inr, refl}
+use Rattle.std.proofs.Common.{◌∙◌, ◌≡◌, List, Option, None, Some, ap, sym, inl, inr, refl}
+use Rattle.std.specs.Option.{option_and_then}
 use Rattle.std.specs.Prelude.{option_map}
+use Rattle.std.proofs.lemmas.Option.{none-some}
+use Rattle.spec_sphere.specs.sphere.Setups.{EpochSetup, RecordSetup, RoleSetup, IsPlain, IsRecorded, IsReplayed}
+use Rattle.dl_sphere.specs.declared.setup.Role.{Role}
 use Rattle.dl_sphere.specs.Setups.{epoch_setup, record_setup, replay_setup, role_setup}
+use Rattle.dl_run.specs.declared.texts.SphereLog.TheVariants.{Tail as TailOf}
 use Rattle.dl_run.proofs.Over.{log-is, no-log, tail-is}
 use Rattle.dl_run.proofs.run.Run.log.Goals as goal
 
