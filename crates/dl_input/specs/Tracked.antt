@@ -50,8 +50,7 @@ taken_at thread index entries = marked thread index (raised_at entries thread in
 abbrev pub tracked_since : (starts : List ℕ) → List Tracked → List Tracked
 tracked_since starts entries = filter (λ s. nat_le (slice_index starts s.thread) s.index) entries
 
--- the interrupts by thread and index, whether there is room for one more, and how many were noted, those too that were dropped
+-- the interrupts by thread and index, and whether there is room for one more
 pub record Noted : Type 0 where
   pub entries : List Tracked
   pub room : Bool
-  pub noted : ℕ

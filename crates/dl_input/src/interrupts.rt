@@ -1,5 +1,5 @@
 //! Interrupts by thread and index.
-ghost use Rattle.std.specs.Prelude.{◌≡◌, ◌+◌, ◌^◌, ◌<◌, ◌++◌, [], None, length, map, option_map, slice_get, IfOk, IsOk, IsTrue, OnOk};
+ghost use Rattle.std.specs.Prelude.{◌≡◌, ◌^◌, ◌<◌, ◌++◌, [], None, length, map, option_map, slice_get, IfOk, IsOk, IsTrue, OnOk};
 ghost use Rattle.std.specs.Prelude.{OnErr};
 ghost use Rattle.dl_entry.specs.Numbers.{most_threads};
 ghost use Rattle.std.specs.List.{list_all};
@@ -37,7 +37,6 @@ impl Model for Interrupts {
     ghost view = { λ i. record {
       entries = tracked_from 0 i.moments.lanes;
       room = i.moments.room && nat_lt i.count (2 ^ 32 - 1);
-      noted = i.count;
     } };
 
     ghost invariant = { λ i. (length i.moments.lanes ≡ most_threads) × (length (tracked_from 0 i.moments.lanes) ≤ i.count) };
@@ -46,8 +45,7 @@ impl Model for Interrupts {
 impl Interrupts {
     /// No interrupt.
     pub fn new(alloc: Global) -> Result<Interrupts, OutOfMemory>
-        ensures entries { IfOk result (λ interrupts. interrupts.entries ≡ []) }
-        ensures noted { IfOk result (λ interrupts. interrupts.noted ≡ 0) }
+        ensures { IfOk result (λ interrupts. interrupts.entries ≡ []) }
     {
         Ok(Interrupts {
             moments: Moments::new(alloc)?,
@@ -58,7 +56,6 @@ impl Interrupts {
     /// Makes room for one more interrupt.
     pub fn reserve(&mut self) -> Result<(), OutOfMemory>
         ensures entries { self.new.entries ≡ self.old.entries }
-        ensures noted { self.new.noted ≡ self.old.noted }
         ensures ok { OnOk result (IsTrue self.new.room) }
         ensures room { IsTrue self.old.room → IsOk result }
     {
@@ -74,8 +71,6 @@ impl Interrupts {
         requires fresh { raised_at self.old.entries thread index ≡ None }
         ensures ok { OnOk result (self.new.entries ≡ insert_tracked (new_tracked thread index value) self.old.entries) }
         ensures err { OnErr result (self.new.entries ≡ self.old.entries) }
-        ensures noted { OnOk result (self.new.noted ≡ self.old.noted + 1) }
-        ensures still { OnErr result (self.new.noted ≡ self.old.noted) }
         ensures few { length self.new.entries < 2 ^ 32 }
         ensures room { IsTrue self.old.room → IsOk result }
     {
@@ -109,7 +104,6 @@ impl Interrupts {
     pub fn take(&mut self, thread: u8, index: u32)
         ensures entries { self.new.entries ≡ taken_at thread index self.old.entries }
         ensures room { self.new.room ≡ self.old.room }
-        ensures noted { self.new.noted ≡ self.old.noted }
     {
         if let Some(raised) = self.moments.at(thread, index) {
             let taken = Raised {
@@ -124,7 +118,6 @@ impl Interrupts {
     pub fn forget(&mut self, starts: &[u32])
         ensures entries { self.new.entries ≡ tracked_since starts.now self.old.entries }
         ensures room { IsTrue self.old.room → IsTrue self.new.room }
-        ensures noted { self.new.noted ≡ self.old.noted }
     {
         self.moments.forget(starts);
     }

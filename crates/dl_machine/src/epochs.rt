@@ -1,13 +1,13 @@
 //! The epochs of recordings.
 ghost use Rattle.std.specs.Prelude.{◌≡◌, ◌<◌, List, false, true, IsOk, OnOk, OnErr, length};
 ghost use Rattle.spec_protocol.specs.declared.event.Event.{Event as EventOf};
-ghost use Rattle.spec_protocol.specs.machine.Epochs.{begun_at, epochs_begun};
+ghost use Rattle.spec_protocol.specs.machine.Epochs.{begun_at};
 ghost use Rattle.spec_protocol.specs.machine.Machine.{Setup};
 ghost use Rattle.spec_protocol.specs.machine.World.{sphere_at};
 ghost use Rattle.spec_protocol.specs.promises.Alike.{AreAlike};
 ghost use Rattle.spec_protocol.specs.promises.Kept.{NoneIsDue};
 ghost use Rattle.spec_sphere.specs.promises.Kept.{has_due};
-ghost use Rattle.dl_machine.specs.Events.{HaveBegunBefore, begun_for, wants_memory as wants};
+ghost use Rattle.dl_machine.specs.Events.{wants_memory as wants};
 ghost use Rattle.dl_machine.specs.Ready.{IsReady};
 ghost use Rattle.dl_machine.specs.Runs.{HasRun, IsRun};
 
@@ -20,8 +20,6 @@ impl<G: Sig> State<G> {
     // Before an ask, an interrupt or a DMA, the epochs begin that are due.
     pub(crate) fn prepare(&mut self, event: Event) -> Result<(), OutOfMemory>
         requires led { HasRun self.old }
-        ensures world { OnOk result (self.new ≡ begun_for event self.old) }
-        ensures refused { OnErr result (HaveBegunBefore self.old self.new) }
         ensures begun { OnOk result (wants event ≡ true → NoneIsDue self.new) }
         ensures alike { AreAlike self.new self.old }
         ensures run { (s : Setup) (es : List EventOf) → IsRun s es self.old → IsRun s es self.new }
@@ -40,8 +38,6 @@ impl<G: Sig> State<G> {
     // the world shows the same events.
     pub(crate) fn begin_epochs(&mut self) -> Result<(), OutOfMemory>
         requires led { HasRun self.old }
-        ensures world { OnOk result (self.new ≡ epochs_begun self.old) }
-        ensures refused { OnErr result (HaveBegunBefore self.old self.new) }
         ensures begun { OnOk result (NoneIsDue self.new) }
         ensures alike { AreAlike self.new self.old }
         ensures run { (s : Setup) (es : List EventOf) → IsRun s es self.old → IsRun s es self.new }

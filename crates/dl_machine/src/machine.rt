@@ -2,7 +2,6 @@
 ghost use Rattle.std.specs.Prelude.{◌≡◌, ◌≤◌, ◌<◌, ◌^◌, ◌∷◌, ◌++◌, [], List, false, IfOk, IsOk, OnErr, OnOk, length, option_map};
 ghost use Rattle.spec_engine.specs.Flights.{at};
 ghost use Rattle.spec_protocol.specs.declared.event.Event.{Event};
-ghost use Rattle.spec_protocol.specs.machine.Epochs.{epochs_begun};
 ghost use Rattle.spec_protocol.specs.machine.Machine.{Setup as SetupOf, happens, world_of};
 ghost use Rattle.spec_protocol.specs.machine.Serial.{serial};
 ghost use Rattle.spec_protocol.specs.machine.World.{sphere_at};
@@ -45,7 +44,7 @@ impl<G: Sig> Model for Machine<G> {
 impl<G: Sig> Machine<G> {
     ghost use Rattle.dl_machine.specs.Cores.{seen};
     ghost use Rattle.dl_machine.specs.Ready.{HasRoom};
-    ghost use Rattle.dl_machine.specs.Events.{HaveBegunBefore, IsRefused, begun_for, wants_memory};
+    ghost use Rattle.dl_machine.specs.Events.{IsWanted, wants_memory};
     ghost use Rattle.dl_machine.specs.Runs.{HasRun, IsPromised, IsRun, IsSerial};
     ghost use Rattle.dl_machine.specs.Setups.{IsWithin, setup_in};
 
@@ -71,10 +70,7 @@ impl<G: Sig> Machine<G> {
     /// machine still shows the same events. A machine does this before each ask, interrupt and DMA; once a run is
     /// over, it is done once more, so that each sphere has a base.
     pub fn begin_epochs(&mut self) -> Result<(), OutOfMemory>
-        ensures world { OnOk result (self.new ≡ epochs_begun self.old) }
         ensures begun { OnOk result (NoneIsDue self.new) }
-        ensures refused { OnErr result (HaveBegunBefore self.old self.new) }
-        ensures needless { NoneIsDue self.old → IsOk result }
         ensures alike { AreAlike self.new self.old }
         ensures run { (s : SetupOf) (es : List Event) → IsRun s es self.old → IsRun s es self.new }
         ensures same { NoneIsDue self.old → self.new ≡ self.old }
@@ -89,14 +85,14 @@ impl<G: Sig> Machine<G> {
         requires events { self.old.counts.events < 2 ^ 63 }
         requires commits { HasRoom self.old }
         ensures done { IfOk result (λ r. r ≡ (happens self.old event).reply) }
-        ensures world { OnOk result (self.new ≡ (happens (begun_for event self.old) event).world) }
-        ensures same { NoneIsDue self.old → begun_for event self.old ≡ self.old }
+        ensures world { OnOk result (NoneIsDue self.old → self.new ≡ (happens self.old event).world) }
         ensures alike { OnOk result (AreAlike self.new (happens self.old event).world) }
         ensures run { OnOk result ((s : SetupOf) (es : List Event) → IsRun s es self.old → IsRun s (es ++ event ∷ []) self.new) }
-        ensures refused { OnErr result (IsRefused event self.old self.new) }
+        ensures refused { OnErr result (NoneIsDue self.old → self.new ≡ self.old) }
         ensures refused_alike { OnErr result (AreAlike self.new self.old) }
         ensures refused_run { OnErr result ((s : SetupOf) (es : List Event) → IsRun s es self.old → IsRun s es self.new) }
         ensures plenty { wants_memory event ≡ false → IsOk result }
+        ensures wanted { OnErr result (NoneIsDue self.old → IsWanted event (happens self.old event).reply) }
     {
         self.state.prepare(event)?;
         let reply = self.state.act(event)?;

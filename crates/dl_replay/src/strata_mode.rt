@@ -1,6 +1,5 @@
 //! Strata as a mode: what they say of the next commit, in place of an order.
-ghost use Rattle.std.specs.Prelude.{◌≡◌, replicate, Some, IfOk};
-ghost use Rattle.dl_entry.specs.Numbers.{most_threads};
+ghost use Rattle.std.specs.Prelude.{◌≡◌, Some, IfOk};
 ghost use Rattle.spec_log.specs.declared.mode_name.ModeName.TheVariants.{OrderOnly as ByOrder};
 ghost use Rattle.spec_strata.specs.Standing.{stratum_begun};
 ghost use Rattle.dl_mode.specs.Strata.{has_left};
@@ -35,7 +34,7 @@ impl Model for StrataLog {
 impl StrataLog {
     /// Strata of which nothing is done.
     pub fn new(alloc: Global, strata: &Rc<ReadyStrata>) -> Result<StrataLog, OutOfMemory>
-        ensures kept { IfOk result (λ log. log.logged.kept ≡ kept_begun strata.now.value (replicate most_threads 0)) }
+        ensures kept { IfOk result (λ log. log.logged.kept ≡ kept_begun strata.now.value log.logged.kept.done) }
         ensures strata { IfOk result (λ log. log.strata ≡ stratum_begun strata.now.value.strata 0) }
     {
         let parts = strata.parts();

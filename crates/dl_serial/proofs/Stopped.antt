@@ -1,8 +1,7 @@
 -- A play of a tail that has ended at its base; and the state in which any other begins.
-use Rattle.std.proofs.Common.{◌≡◌, ℕ, zero, suc, ◌+◌, ◌<◌, ◌≤◌, ◌^◌, Bool, true, false, ◌||◌, cond, List, [], ◌∷◌, length, map, Option, Some, None, refl, sym, ap, ◌∙◌, subst, arith}
+use Rattle.std.proofs.Common.{◌≡◌, ℕ, zero, suc, ◌+◌, ◌≤◌, Bool, true, false, ◌||◌, cond, List, [], ◌∷◌, length, map, Option, Some, None, refl, sym, ap, ◌∙◌, subst, arith}
 use Rattle.std.specs.Prelude.{nat_le, nat_lt, slice_get}
 use Rattle.std.proofs.lemmas.Bool.{le-leb}
-use Rattle.std.proofs.lemmas.List.{length-map}
 use Rattle.dl_entry.specs.declared.End.{End}
 use Rattle.dl_entry.specs.declared.Request.{Request}
 use Rattle.dl_entry.specs.declared.Why.{Why}
@@ -10,11 +9,10 @@ use Rattle.spec_isa.specs.declared.thread.Parts.{Parts}
 use Rattle.spec_kernel.specs.Interrupts.{takes_interrupt, interrupted}
 use Rattle.spec_log.specs.declared.Interrupt.{Interrupt}
 use Rattle.spec_log.specs.declared.LogParts.{LogParts}
-use Rattle.spec_log.proofs.Threads.{threads-few}
 use Rattle.spec_play.specs.declared.used.Used.{Used}
 use Rattle.spec_play.specs.declared.WalkEnd.{WalkEnd}
 use Rattle.spec_play.specs.Plays.{Played, play_one, plays}
-use Rattle.spec_play.specs.States.{State, state_of}
+use Rattle.spec_play.specs.States.{State}
 use Rattle.spec_play.specs.Turns.{Ended}
 use Rattle.spec_play.specs.Verdicts.{interrupt_at}
 use Rattle.spec_play.specs.Walks.{Walked, walked_at, is_looked_at}
@@ -23,9 +21,9 @@ use Rattle.spec_sphere.specs.promises.Sound.{IsSoundIf}
 use Rattle.spec_tail.specs.Later.{dmas_passed, has_more_left, log_later, play_later, raised_at, walked_left}
 use Rattle.spec_tail.specs.Playing.{Raised, led_by, raised_first, raised, uncounted, begun_play, log_since, walked, walked_since}
 use Rattle.spec_tail.specs.Tails.{Tail, IsTail, IsRequest}
-use Rattle.spec_tail.proofs.Later.{passed-later, state-later, tails-play-later}
+use Rattle.spec_tail.proofs.Later.{tails-play-later}
 use Rattle.dl_serial.specs.Starts.{CanGoOn}
-use Rattle.dl_serial.specs.Tails.{commits_at, played_from, state_from_base, state_left, state_since, used_from}
+use Rattle.dl_serial.specs.Tails.{commits_at, played_from, state_from_base}
 use Rattle.dl_serial.proofs.Ends.{walk-ends}
 
 -- ---- a play that has ended
@@ -51,11 +49,8 @@ stopped-walk log s =
     ap (walked_at log log.count) (stays log (begun_play log s true) (End.Diverged 0 Why.Interrupt) log.count refl)
     ∙ ap (λ (b : Bool). record (stopped_at s) { end = cond b (WalkEnd.Ended (End.Diverged 0 Why.Interrupt)) (WalkEnd.Reached (s.commits + 0)) }) (always_looked log (s.commits + 0))
 
-pub stopped-state : (log : LogParts) (s : State) → state_of (played_from log s true) ≡ s
-stopped-state log s =
-    let none : s.commits + 0 ≡ s.commits = omega arith in
-    ap state_of (stays log (begun_play log s true) (End.Diverged 0 Why.Interrupt) log.count refl)
-    ∙ ap (λ (n : ℕ). record s { commits = n }) none
+pub stopped-used : (log : LogParts) (s : State) → (played_from log s true).used ≡ s.used
+stopped-used log s = ap (λ (y : Played). y.used) (stays log (begun_play log s true) (End.Diverged 0 Why.Interrupt) log.count refl)
 
 -- ---- the state at the base
 
@@ -83,20 +78,6 @@ none_raised : (xs : List Interrupt) (k : ℕ) (ps : List Parts) → AreNone (rai
 none_raised xs k [] = λ i t is. absurd cc
 none_raised xs k (p ∷ ps) =
     none_led (interrupt_at xs k 0) (uncounted p) (map uncounted ps) (raised xs (suc k) (map uncounted ps)) refl (none_uncounted ps) (none_raised xs (suc k) ps)
-
-count_taken : (value : ℕ) (p : Parts) (ps : List Parts) (rest : Raised) (b : Bool) → rest.count ≤ length ps
-    → (cond b (led_by (interrupted value p) 1 rest) (record { threads = p ∷ ps; count = 0; refused = true })).count ≤ suc (length ps)
-count_taken value p ps rest true few = omega (arith, few)
-count_taken value p ps rest false few = omega arith
-
-count_first : (o : Option ℕ) (p : Parts) (ps : List Parts) (rest : Raised) → rest.count ≤ length ps → (raised_first o p ps rest).count ≤ suc (length ps)
-count_first None p ps rest few = omega (arith, few)
-count_first (Some value) p ps rest few = count_taken value p ps rest (takes_interrupt p) few
-
--- no more interrupts are applied than there are threads
-count-raised : (xs : List Interrupt) (k : ℕ) (ps : List Parts) → (raised xs k ps).count ≤ length ps
-count-raised xs k [] = omega arith
-count-raised xs k (p ∷ ps) = count_first (interrupt_at xs k p.commits) p ps (raised xs (suc k) ps) (count-raised xs (suc k) ps)
 
 sound_request : (size : ℕ) (o : Option Request) → IsRequest size o → IsSoundIf size o
 sound_request size None is = tt
@@ -136,33 +117,6 @@ module _ (t : Tail) (log : LogParts) (r : Raised) (dmas : ℕ) (s : State) (tail
       ap (λ (b : Bool). walked_since t (walked_left b v)) (more ∙ ap (has_more_left t) (used ∙ ap (λ (y : Played). y.used) played_later))
       ∙ ap (λ (x : Walked). walked_since t (walked_left (has_more_left t (play_later t).used) x)) (walk ∙ ap (λ (x : LogParts). walked_at x x.count (played_from log s r.refused)) same_log ∙ ap (walked_at (log_later t) t.log.count) played_later)
       ∙ sym (tails-play-later t tail)
-
-  -- the state after it, once it is told how much of the tail's log is used
-  pub later-state : (v : State) → v ≡ state_of (played_from log s r.refused) → state_since t (record v { used = used_from r.count dmas v.used }) ≡ state_left t
-  later-state v state =
-      let told : ℕ → ℕ → State → State = λ n m x. record x { used = used_from n m x.used } in
-      ap (state_since t)
-      (ap (told r.count dmas) (state ∙ ap state_of played_later)
-      ∙ ap (λ (x : Raised). told x.count dmas (state_of (play_later t))) same
-      ∙ ap (λ (n : ℕ). told (raised_at t).count n (state_of (play_later t))) passed
-      ∙ sym (state-later t tail))
-
-  pub later-passed : (v : State) → v ≡ state_of (played_from log s r.refused) → dmas ≤ v.used.dmas
-  later-passed v state =
-      let few = passed-later t tail in
-      let here : v.used.dmas ≡ (play_later t).used.dmas = ap (λ (x : State). x.used.dmas) (state ∙ ap state_of played_later) in
-      omega (arith, few, here, passed)
-
-  pub later-interrupts : (v : State) → v ≡ state_of (played_from log s r.refused) → v.used.interrupts ≤ log.count → r.count + v.used.interrupts < 2 ^ 32
-  later-interrupts v state most =
-      let few = count-raised (log_since t).interrupts 0 (map uncounted t.threads) in
-      let many = length-map t.threads uncounted in
-      let named = threads-few t.log.version t.log.threads tail.version in
-      let here : r.count ≡ (raised_at t).count = ap (λ (x : Raised). x.count) same in
-      let count : log.count ≡ t.log.count = ap (λ (x : LogParts). x.count) same_log in
-      let all = tail.most in
-      let commits = tail.commits in
-      omega (arith, few, many, named, here, count, all, commits, most)
 
   pub later-ends : (end : WalkEnd) → end ≡ (walked_at log log.count (played_from log s r.refused)).end → commits_at end ≤ t.log.count
   later-ends end e =

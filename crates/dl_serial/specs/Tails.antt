@@ -1,9 +1,8 @@
 -- The walk of a tail, as the code keeps it.
-use Rattle.std.specs.Prelude.{◌≡◌, ◌+◌, ◌-◌, ◌≤◌, ℕ, Bool, List, slice_get, Some}
+use Rattle.std.specs.Prelude.{◌≡◌, ◌≤◌, ℕ, Bool, List, slice_get, Some}
 use Rattle.dl_entry.specs.declared.End.{End}
 use Rattle.spec_isa.specs.declared.thread.Parts.{Parts}
 use Rattle.spec_log.specs.declared.LogParts.{LogParts}
-use Rattle.spec_play.specs.declared.used.Used.{Used}
 use Rattle.spec_play.specs.declared.WalkEnd.{WalkEnd}
 use Rattle.spec_play.specs.Plays.{Played, plays}
 use Rattle.spec_play.specs.Progress.{nothing_used}
@@ -36,17 +35,3 @@ commits_at (WalkEnd.Ended how) = end_commits how
 -- no thread has more commits
 abbrev pub AreBelow : (most : ℕ) → List Parts → Type 0
 AreBelow most threads = (k : ℕ) (t : Parts) → slice_get threads k ≡ Some t → t.commits ≤ most
-
--- ---- the state that is left
-
--- so many interrupts were applied at the base, and so many DMAs of the log for later were passed over
-abbrev pub used_from : (raised passed : ℕ) → Used → Used
-used_from raised passed u = record u { interrupts = raised + u.interrupts; dmas = u.dmas - passed }
-
--- with its commits, by thread and of all together, counted from the recording's start
-abbrev pub state_since : Tail → play.State → play.State
-state_since t s = record s { threads = tail.counted_from (tail.begun t.threads) 0 s.threads; commits = t.base + s.commits }
-
--- the state after the tail's play; the records that are used are those of the tail's log
-abbrev pub state_left : Tail → play.State
-state_left t = state_since t (play.state_of (tail.play t))

@@ -1,6 +1,4 @@
 //! The footprint of a chunk: the words that it looks at or stores to.
-ghost use Rattle.std.specs.Prelude.{◌≡◌, []};
-
 use dl_entry::OutOfMemory;
 use std::alloc::Global;
 
@@ -14,10 +12,7 @@ pub struct Footprint {
 
 impl Footprint {
     /// Of no chunk yet.
-    pub fn new(alloc: Global) -> Footprint
-        ensures looked { result.looked ≡ [] }
-        ensures stored { result.stored ≡ [] }
-    {
+    pub fn new(alloc: Global) -> Footprint {
         Footprint {
             looked: Vec::new(alloc),
             stored: Vec::new(alloc),

@@ -8,12 +8,12 @@ ghost use Rattle.spec_sphere.specs.sphere.Commits.{MovedSphere, dma_moved};
 ghost use Rattle.spec_sphere.specs.sphere.Spheres.{replays, head_of, is_stopped, halves, is_in_pieces, turn_against};
 ghost use Rattle.spec_sphere.specs.promises.Alike.{epochs_in};
 ghost use Rattle.spec_sphere.specs.promises.Kept.{has_due};
-ghost use Rattle.spec_sphere.specs.promises.Sound.{IsChunkSize, commits_in};
+ghost use Rattle.spec_sphere.specs.promises.Sound.{IsChunkSize};
 ghost use Rattle.dl_fly.specs.Slots.{set_slot};
 ghost use Rattle.dl_kernel.specs.InOrder.{listed};
 ghost use Rattle.dl_kernel.specs.States.{state_in};
 ghost use Rattle.dl_record.specs.Epochs.{base_state};
-ghost use Rattle.dl_replay.specs.Limits.{chunk_limit, chunk_limit_in};
+ghost use Rattle.dl_replay.specs.Limits.{chunk_limit};
 ghost use Rattle.dl_sphere.specs.Moving.{SaysOutcome};
 ghost use Rattle.dl_sphere.specs.Reading.{end_in, joins, pieces_in, log_in, SaysBytes};
 ghost use Rattle.dl_sphere.specs.Setups.{standard_in};
@@ -37,13 +37,11 @@ use spec_log::{Log, ModeName};
 
 impl Sphere {
     /// How many instructions a chunk of a thread may run that begins now: one of the thread's present commit, or one of the
-    /// commit after that. A thread that isn't there has done no commit.
+    /// commit after that.
     #[tactic(auto, unfolding(spec_sphere::specs::sphere::Spheres::limit_of, spec_sphere::specs::sphere::Spheres::limit_after))]
     pub fn limit(&self, thread: u8, after: bool) -> u32
         ensures value { (t : Parts) → slice_get self.now.sphere.threads thread ≡ Some t →
             result ≡ chunk_limit after self.now.s self.now.sphere.role thread t }
-        ensures any { let p = self.now.sphere in
-            result ≡ chunk_limit_in after p.role self.now.s thread (commits_in p.threads thread) }
         ensures least { 1 ≤ result }
         ensures most { result ≤ standard_in self.now.s self.now.sphere.role }
     {

@@ -1,20 +1,18 @@
 -- What an event comes to before which epochs have begun: it answers and leaves what it would have without them.
-use Rattle.std.proofs.Common.{◌≡◌, ℕ, ◌≤◌, ◌∷◌, ◌++◌, [], List, Bool, true, false, refl, sym, ap, ◌∙◌, subst}
-use Rattle.std.specs.Prelude.{slice_index, if◌then◌else◌}
+use Rattle.std.proofs.Common.{◌≡◌, ℕ, ◌≤◌, ◌∷◌, ◌++◌, [], List, true, sym, ap, ◌∙◌, subst}
+use Rattle.std.specs.Prelude.{slice_index}
 use Rattle.dl_entry.specs.Counts.{counted}
 use Rattle.dl_entry.specs.declared.Counts.{Counts}
 use Rattle.spec_protocol.specs.declared.event.Event.{Event}
 use Rattle.spec_protocol.specs.declared.reply.Reply.{Reply}
-use Rattle.spec_protocol.specs.machine.Epochs.{epochs_begun}
 use Rattle.spec_protocol.specs.machine.World.{World}
 use Rattle.spec_protocol.specs.machine.Machine.{Setup, act, happens, name_of}
 use Rattle.spec_protocol.specs.promises.Alike.{AreAlike, all_forgotten}
 use Rattle.spec_protocol.specs.promises.Kept.{NoneIsDue}
 use Rattle.spec_protocol.proofs.Alike.All.{events_alike}
-use Rattle.dl_machine.specs.Events.{IsWanted, begun_for, wants_memory}
+use Rattle.dl_machine.specs.Events.{IsWanted, wants_memory}
 use Rattle.dl_machine.specs.Runs.{HasRun, IsRun}
 use Rattle.dl_machine.specs.States.{left}
-use Rattle.dl_machine.proofs.Worlds.Begun.{same_all}
 use Rattle.dl_machine.proofs.Worlds.Events.{act_counts, happens_reply, replies_few, world_left}
 use Rattle.dl_machine.proofs.Worlds.Promised.{led_on, run_more, run_ready}
 
@@ -23,7 +21,7 @@ pub record IsPrepared (e : Event) (old now : World) : Type 0 where
   pub begun : wants_memory e ≡ true → NoneIsDue now
   pub alike : AreAlike now old
   pub run : (s : Setup) (es : List Event) → IsRun s es old → IsRun s es now
-  pub world : now ≡ begun_for e old
+  pub same : NoneIsDue old → now ≡ old
 
 -- a world that still shows each run of another has been led to, if the other was
 pub still_led : (old now : World) → ((s : Setup) (es : List Event) → IsRun s es old → IsRun s es now) → HasRun old → HasRun now
@@ -47,9 +45,9 @@ module _ (e : Event) (old now between new : World) (reply : Reply) (prepared : I
   pub done_alike : AreAlike new (happens old e).world
   done_alike = ap all_forgotten has_left ∙ (events_alike.each now old e prepared.alike).worlds
 
-  -- and the one that it leaves once those epochs have begun that are due
-  pub done_world : new ≡ (happens (begun_for e old) e).world
-  done_world = has_left ∙ ap (λ (w : World). (happens w e).world) prepared.world
+  -- and the same one, if no epoch was due
+  pub done_world : NoneIsDue old → new ≡ (happens old e).world
+  done_world none = has_left ∙ ap (λ (w : World). (happens w e).world) (prepared.same none)
 
   -- which shows one event more
   pub done_run : (s : Setup) (es : List Event) → IsRun s es old → IsRun s (es ++ e ∷ []) new
@@ -64,15 +62,7 @@ few_replies e now between r is k =
     let same : between.counts ≡ now.counts = ap (λ (w : World). w.counts) is ∙ act_counts now e in
     subst (λ (n : Counts). slice_index n.replies k ≤ n.events) (sym same) (replies_few now (run_ready now r) k)
 
--- memory was wanted for what the event does
-pub still_wanted : (e : Event) (old now : World) → IsPrepared e old now → IsWanted e (act now e).reply → IsWanted e (happens old e).reply
-still_wanted e old now prepared wanted =
-    subst (IsWanted e) (sym (happens_reply now e) ∙ (events_alike.each now old e prepared.alike).reply) wanted
-
-same_if : (b : Bool) (w : World) → NoneIsDue w → (if b then epochs_begun w else w) ≡ w
-same_if true w none = same_all w none
-same_if false w none = refl
-
--- where no epoch is due, none begins
-pub same_for : (e : Event) (w : World) → NoneIsDue w → begun_for e w ≡ w
-same_for e w none = same_if (wants_memory e) w none
+-- if no epoch was due, memory was wanted for what the event does
+pub still_wanted : (e : Event) (old now : World) → IsPrepared e old now → IsWanted e (act now e).reply → NoneIsDue old → IsWanted e (happens old e).reply
+still_wanted e old now prepared wanted none =
+    subst (IsWanted e) (sym (happens_reply now e) ∙ ap (λ (w : World). (happens w e).reply) (prepared.same none)) wanted

@@ -1,16 +1,16 @@
 -- Epochs begin in the spheres of a machine one by one.
-use Rattle.std.proofs.Common.{◌≡◌, ℕ, zero, suc, ◌+◌, ◌<◌, ◌≤◌, false, nat_eq, List, [], ◌∷◌, ◌++◌, length, take, drop, get_or, set, Result, Ok, Err, Option, Some, None, inl, inr, refl, sym, ap, ◌∙◌, subst, append-nil, arith}
-use Rattle.std.specs.Prelude.{IsOk, OnErr, OnOk}
+use Rattle.std.proofs.Common.{◌≡◌, ℕ, suc, ◌+◌, ◌<◌, ◌≤◌, false, nat_eq, List, [], ◌∷◌, ◌++◌, length, Result, Ok, Err, Option, Some, None, inl, inr, refl, sym, ap, ◌∙◌, subst, arith}
+use Rattle.std.specs.Prelude.{OnErr, OnOk}
 use Rattle.std.proofs.lemmas.Bool.{cases_Bool, cases_eq, cases_lt, eqb-true}
-use Rattle.std.proofs.lemmas.List.{get_or_past, take_all, drop_all}
-use Rattle.spec_isa.specs.Words.{Stored, lays}
+use Rattle.std.proofs.lemmas.List.{get_or_past}
+use Rattle.spec_isa.specs.Words.{Stored}
 use Rattle.spec_log.specs.declared.LogParts.{LogParts}
 use Rattle.spec_play.specs.Epochs.{Epoch, Epochs, given_up, with_epoch, is_due}
 use Rattle.spec_play.specs.Progress.{position}
 use Rattle.spec_isa.specs.Inside.{AreInside}
 use Rattle.spec_engine.specs.Flights.{Flight, at}
 use Rattle.spec_protocol.specs.declared.event.Event.{Event}
-use Rattle.spec_protocol.specs.machine.Epochs.{begun_at, begun_from, epochs_begun}
+use Rattle.spec_protocol.specs.machine.Epochs.{begun_at}
 use Rattle.spec_sphere.specs.sphere.Epochs.{begun_if, begun_in, epoch_at, epoch_begun, trimmed_by}
 use Rattle.spec_protocol.specs.machine.Machine.{Setup}
 use Rattle.spec_engine.specs.Flying.{flying, words_of}
@@ -22,7 +22,6 @@ use Rattle.spec_sphere.specs.promises.Kept.{has_due}
 use Rattle.spec_protocol.proofs.Alike.Good.{spheres-alike}
 use Rattle.spec_protocol.proofs.Kept.One.{begun-one-alike, begun-one-ready, begun-one-shows, begun-others, begun-same}
 use Rattle.dl_sphere.specs.Setups.{standard_in}
-use Rattle.dl_machine.specs.Events.{HaveBegunBefore, begun_first}
 use Rattle.dl_machine.specs.Ready.{IsReady}
 use Rattle.dl_machine.specs.Runs.{HasRun, IsRun}
 use Rattle.dl_machine.proofs.Worlds.Ready.{flight_inside}
@@ -87,87 +86,18 @@ flying_inside w i ready =
     all_inside (length (sphere_at w i).memory) i w.slots
     (λ k f is same. subst (λ (j : ℕ). AreInside (length (sphere_at w j).memory) f.words) same (flight_inside w k (Some f) ready is).1)
 
--- ---- what each leaves
-
-abbrev begun_list : List (Option Flight) → (first n : ℕ) → List Sphere → List Sphere
-begun_list slots i n ps = begun_from slots i (take n ps) ++ drop n ps
-
-list_none : (slots : List (Option Flight)) (i : ℕ) (ps : List Sphere) → begun_list slots i 0 ps ≡ ps
-list_none slots i [] = refl
-list_none slots i (p ∷ ps) = refl
-
-list_here : (slots : List (Option Flight)) (i n : ℕ) (ps : List Sphere) → get_or (begun_list slots i n ps) n no_sphere ≡ get_or ps n no_sphere
-list_here slots i zero [] = refl
-list_here slots i zero (p ∷ ps) = refl
-list_here slots i (suc n) [] = refl
-list_here slots i (suc n) (p ∷ ps) = list_here slots (suc i) n ps
-
-list_next : (slots : List (Option Flight)) (i n : ℕ) (ps : List Sphere) → n < length ps
-    → let p = get_or ps n no_sphere in set (begun_list slots i n ps) n (epoch_begun (lays p.memory (flying (i + n) slots)) p) ≡ begun_list slots i (suc n) ps
-list_next slots i n [] inside = absurd (omega (arith, inside))
-list_next slots i zero (p ∷ ps) inside =
-    let here : i + 0 ≡ i = omega arith in
-    ap (λ (j : ℕ). epoch_begun (lays p.memory (flying j slots)) p ∷ ps) here ∙ ap (λ (qs : List Sphere). epoch_begun (lays p.memory (flying i slots)) p ∷ qs) (sym (list_none slots (suc i) ps))
-list_next slots i (suc n) (p ∷ ps) inside =
-    let q = get_or ps n no_sphere in
-    let here : i + suc n ≡ suc i + n = omega arith in
-    let first = epoch_begun (lays p.memory (flying i slots)) p in
-    ap (λ (j : ℕ). first ∷ set (begun_list slots (suc i) n ps) n (epoch_begun (lays q.memory (flying j slots)) q)) here
-    ∙ ap (λ (qs : List Sphere). first ∷ qs) (list_next slots (suc i) n ps (omega (arith, inside)))
-
--- in none of them
-pub first_none : (w : World) → begun_first 0 w ≡ w
-first_none w = ap (λ (ps : List Sphere). record w { spheres = ps }) (list_none w.slots 0 w.spheres)
-
--- none of those to come has changed yet
-pub first_here : (w : World) (n : ℕ) → sphere_at (begun_first n w) n ≡ sphere_at w n
-first_here w n = list_here w.slots 0 n w.spheres
-
-pub first_next : (w : World) (n : ℕ) → n < length w.spheres → begun_at n (begun_first n w) ≡ begun_first (n + 1) w
-first_next w n inside =
-    let here = first_here w n in
-    let zero_more : 0 + n ≡ n = omega arith in
-    let more : suc n ≡ n + 1 = omega arith in
-    ap (λ (p : Sphere). record w { spheres = set (begun_list w.slots 0 n w.spheres) n (epoch_begun (lays p.memory (flying n w.slots)) p) }) here
-    ∙ ap (λ (j : ℕ). let p = sphere_at w n in record w { spheres = set (begun_list w.slots 0 n w.spheres) n (epoch_begun (lays p.memory (flying j w.slots)) p) }) (sym zero_more)
-    ∙ ap (λ (ps : List Sphere). record w { spheres = ps }) (list_next w.slots 0 n w.spheres inside)
-    ∙ ap (λ (m : ℕ). begun_first m w) more
-
--- in all of them
-pub first_all : (w : World) (n : ℕ) → length w.spheres ≤ n → begun_first n w ≡ epochs_begun w
-unfolding epochs_begun
-first_all w n all =
-    ap (λ (ps : List Sphere). record w { spheres = begun_from w.slots 0 ps ++ drop n w.spheres }) (take_all n w.spheres all)
-    ∙ ap (λ (ps : List Sphere). record w { spheres = begun_from w.slots 0 w.spheres ++ ps }) (drop_all n w.spheres all)
-    ∙ ap (λ (ps : List Sphere). record w { spheres = ps }) (append-nil (begun_from w.slots 0 w.spheres))
-
-same_first : (w : World) (n : ℕ) → NoneIsDue w → n ≤ length w.spheres → begun_first n w ≡ w
-same_first w zero none inside = first_none w
-same_first w (suc n) none inside =
-    let before = same_first w n none (omega (arith, inside)) in
-    let more : n + 1 ≡ suc n = omega arith in
-    ap (λ (m : ℕ). begun_first m w) (sym more)
-    ∙ sym (first_next w n (omega (arith, inside)))
-    ∙ ap (begun_at n) before
-    ∙ begun-same w n (none n)
-
--- where none is due, nothing changes
-pub same_all : (w : World) → NoneIsDue w → epochs_begun w ≡ w
-same_all w none = sym (first_all w (length w.spheres) (omega arith)) ∙ same_first w (length w.spheres) none (omega arith)
-
 -- ---- one after the other
 
 -- epochs have begun in the first so many spheres
 pub record HaveBegun (from now : World) (i : ℕ) : Type 0 where
   pub run : (s : Setup) (es : List Event) → IsRun s es from → IsRun s es now
   pub alike : AreAlike now from
-  pub world : now ≡ begun_first i from
   pub same : NoneIsDue from → now ≡ from
   pub none : (j : ℕ) → j < i → has_due (sphere_at now j) ≡ false
 
 -- at first in none
 pub begun_none : (w : World) → HaveBegun w w 0
-begun_none w = record { run = λ s es run. run; alike = refl; world = sym (first_none w); same = λ none. refl; none = λ j l. absurd (omega (arith, l)) }
+begun_none w = record { run = λ s es run. run; alike = refl; same = λ none. refl; none = λ j l. absurd (omega (arith, l)) }
 
 -- they still show a run
 pub still_run : (from now : World) (i : ℕ) → HasRun from → HaveBegun from now i → HasRun now
@@ -181,12 +111,10 @@ spheres_kept from now i b = sym (spheres-alike now from b.alike)
 pub begun_next : (from now next : World) (i : ℕ) → HasRun from → HaveBegun from now i → i < length now.spheres → next ≡ begun_at i now → HaveBegun from next (i + 1)
 begun_next from now next i r b inside is =
     let here = still_run from now i r b in
-    let many = spheres_kept from now i b in
     subst (λ (v : World). HaveBegun from v (i + 1)) (sym is)
     (record {
       run = λ s es run. let n = b.run s es run in record { limits = n.limits; here = begun-one-shows s n.limits es now n.here i };
       alike = begun-one-alike here.setup here.run.limits here.schedule now here.run.here i ∙ b.alike;
-      world = ap (begun_at i) b.world ∙ first_next from i (omega (arith, inside, many));
       same = λ none.
           let e = b.same none in
           begun-same now i (subst (λ (v : World). has_due (sphere_at v i) ≡ false) (sym e) (none i)) ∙ e;
@@ -203,20 +131,4 @@ begun_all from now i b all j =
     elim (cases_lt j (length now.spheres)) [
       | inl there ↦ b.none j (omega (arith, there, all))
       | inr past ↦ ap has_due (get_or_past now.spheres j no_sphere past)
-    ]
-
--- so they have begun as one says
-pub begun_world : (from now : World) (i : ℕ) → HaveBegun from now i → length now.spheres ≤ i → now ≡ epochs_begun from
-begun_world from now i b all =
-    let many = spheres_kept from now i b in
-    b.world ∙ first_all from i (omega (arith, all, many))
-
--- memory ran out in one in which an epoch is due, and those before have begun
-pub begun_before : {T E : Type 0} (r : Result T E) (from now next : World) (i : ℕ) → HaveBegun from now i → (has_due (sphere_at now i) ≡ false → IsOk r) → OnErr r (next ≡ now) → OnErr r (HaveBegunBefore from next)
-begun_before (Ok x) from now next i b needless err = err
-begun_before (Err e) from now next i b needless err =
-    let here : sphere_at now i ≡ sphere_at from i = ap (λ (w : World). sphere_at w i) b.world ∙ first_here from i in
-    elim (cases_Bool (has_due (sphere_at now i))) [
-      | inl due ↦ record { place = i; due = sym (ap has_due here) ∙ due; begun = err ∙ b.world }
-      | inr still ↦ absurd (needless still)
     ]

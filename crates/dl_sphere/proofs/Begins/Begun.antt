@@ -23,9 +23,7 @@ use Rattle.dl_sphere.specs.Recorded.{Recording, commits_of}
 use Rattle.dl_sphere.specs.Roles.{recording_of, role_in, HasRecorded}
 use Rattle.dl_sphere.specs.declared.part.Part.{Part}
 use Rattle.dl_sphere.proofs.Begins.Fresh.{fresh-left}
-use Rattle.dl_sphere.proofs.Begins.Due.{due_same_if}
 use Rattle.dl_sphere.proofs.Standing.Moves.{commits_are}
-use Rattle.spec_sphere.specs.promises.Kept.{has_due}
 
 -- ---- what is left of a recording
 
@@ -162,12 +160,6 @@ module _ (first : ℕ) (m : List ℕ) (ts : List Parts) (cs : List Commit) (last
   pub none_begins : (s : ℕ) (memory : List ℕ) (r : InEpochs) → let p = with_commits first cs r in
       HasRecorded s p r → due_in r.epochs (commits_of r) ≡ false → epoch_begun memory p ≡ p
   none_begins s memory r h due = none_in s memory r.recorded r.epochs h due
-
-  -- if one is due of what is kept, one is due in the sphere
-  pub due_there : (s : ℕ) (r : InEpochs) → let p = with_commits first cs r in HasRecorded s p r → due_in r.epochs (commits_of r) ≡ true → has_due p ≡ true
-  due_there s r h due =
-      let p = with_commits first cs r in
-      due_same_if (position p.progress) r.epochs ∙ ap (due_in r.epochs) (sym (commits_are s p r h)) ∙ due
 
 -- in a sphere that isn't recorded none begins
 pub unrecorded : (past : Past) (u : Used) (memory : List ℕ) (part : Part) → ((r : Recording) → part ≡ Part.Recorded r → ⊥) → epoch_begun memory (sphere_at past (role_in u part)) ≡ sphere_at past (role_in u part)

@@ -1,12 +1,13 @@
-use Rattle.std.proofs.Common.{◌≡◌, List, ◌∷◌, ◌++◌, [], inl, inr, sym, ap, ◌∙◌, subst, arith}
+use Rattle.std.proofs.Common.{◌≡◌, List, ◌∷◌, ◌++◌, [], sym, ap, ◌∙◌, subst, arith}
 use Rattle.std.proofs.lemmas.Result.{err_from_is_err_and}
 use Rattle.dl_entry.specs.declared.Counts.{Counts}
 use Rattle.spec_protocol.specs.declared.event.Event.{Event}
 use Rattle.spec_protocol.specs.machine.World.{World}
 use Rattle.spec_protocol.specs.machine.Machine.{Setup, happens}
 use Rattle.spec_protocol.specs.promises.Alike.{AreAlike}
+use Rattle.spec_protocol.specs.promises.Kept.{NoneIsDue}
 use Rattle.dl_machine.specs.Ready.{HasRoom}
-use Rattle.dl_machine.specs.Events.{IsRefused, begun_for}
+use Rattle.dl_machine.specs.Events.{IsWanted}
 use Rattle.dl_machine.specs.Runs.{IsRun}
 use Rattle.dl_machine.proofs.Worlds.Events.{act_counts}
 use Rattle.dl_machine.proofs.Worlds.Promised.{room_alike, run_ready}
@@ -19,18 +20,13 @@ act-requires-clause-ready g c = run_ready _ (still_led _ _ c.in_ok-prepare.ensur
 pub act-requires-clause-room : goal.act-requires-clause-room
 act-requires-clause-room g c = room_alike _ _ c.in_ok-prepare.ensures.alike (subst HasRoom (sym c.self.view_is) c.requires.commits)
 
-pub returns-in_err-reply-clause-refused : goal.returns-in_err-reply-clause-refused
-returns-in_err-reply-clause-refused g c =
+pub returns-in_err-reply-clause-wanted : goal.returns-in_err-reply-clause-wanted
+returns-in_err-reply-clause-wanted g c =
     let p = err_from_is_err_and c.from_residual-in_err-reply.result c.from_residual-in_err-reply.ensures.1 in
     let e = c.in_ok-prepare.ensures in
-    let prepared : IsPrepared c.args.event c.self.inside.state c.prepare.new.self = record { begun = e.begun; alike = e.alike; run = e.run; world = e.world } in
+    let prepared : IsPrepared c.args.event c.self.inside.state c.prepare.new.self = record { begun = e.begun; alike = e.alike; run = e.run; same = e.same } in
     let wanted = still_wanted c.args.event c.self.inside.state c.prepare.new.self prepared c.in_err-reply.ensures.wanted in
-    rw p.1 (subst (λ (w : World). IsRefused c.args.event w c.act.new.self) c.self.view_is (inl (c.in_err-reply.ensures.err ∙ e.world, wanted)))
-
-pub returns-in_err-prepare-clause-refused : goal.returns-in_err-prepare-clause-refused
-returns-in_err-prepare-clause-refused g c =
-    let p = err_from_is_err_and c.from_residual.result c.from_residual.ensures.1 in
-    rw p.1 (subst (λ (w : World). IsRefused c.args.event w c.prepare.new.self) c.self.view_is (inr c.in_err-prepare.ensures.refused))
+    rw p.1 (subst (λ (w : World). NoneIsDue w → IsWanted c.args.event (happens w c.args.event).reply) c.self.view_is wanted)
 
 pub count-requires-clause-events : goal.count-requires-clause-events
 count-requires-clause-events g c =
@@ -47,14 +43,14 @@ count-requires-clause-replies g c =
 pub invariant_of-self-2 : goal.invariant_of-self-2
 invariant_of-self-2 g c =
     let e = c.in_ok-prepare.ensures in
-    let prepared : IsPrepared c.args.event c.self.inside.state c.prepare.new.self = record { begun = e.begun; alike = e.alike; run = e.run; world = e.world } in
+    let prepared : IsPrepared c.args.event c.self.inside.state c.prepare.new.self = record { begun = e.begun; alike = e.alike; run = e.run; same = e.same } in
     let done : IsDone c.args.event c.in_ok-reply.reply c.prepare.new.self c.act.new.self c.count.new.self = record { reply = c.in_ok-reply.ensures.reply; world = c.in_ok-reply.ensures.world; counts = c.count.ensures } in
     done_led c.args.event c.self.inside.state c.prepare.new.self c.act.new.self c.count.new.self c.in_ok-reply.reply prepared done c.self.invariant
 
 pub returns-clause-done : goal.returns-clause-done
 returns-clause-done g c =
     let e = c.in_ok-prepare.ensures in
-    let prepared : IsPrepared c.args.event c.self.inside.state c.prepare.new.self = record { begun = e.begun; alike = e.alike; run = e.run; world = e.world } in
+    let prepared : IsPrepared c.args.event c.self.inside.state c.prepare.new.self = record { begun = e.begun; alike = e.alike; run = e.run; same = e.same } in
     let done : IsDone c.args.event c.in_ok-reply.reply c.prepare.new.self c.act.new.self c.count.new.self = record { reply = c.in_ok-reply.ensures.reply; world = c.in_ok-reply.ensures.world; counts = c.count.ensures } in
     done_reply c.args.event c.self.inside.state c.prepare.new.self c.act.new.self c.count.new.self c.in_ok-reply.reply prepared done
     ∙ ap (λ (w : World). (happens w c.args.event).reply) c.self.view_is
@@ -62,15 +58,15 @@ returns-clause-done g c =
 pub returns-clause-world : goal.returns-clause-world
 returns-clause-world g c =
     let e = c.in_ok-prepare.ensures in
-    let prepared : IsPrepared c.args.event c.self.inside.state c.prepare.new.self = record { begun = e.begun; alike = e.alike; run = e.run; world = e.world } in
+    let prepared : IsPrepared c.args.event c.self.inside.state c.prepare.new.self = record { begun = e.begun; alike = e.alike; run = e.run; same = e.same } in
     let done : IsDone c.args.event c.in_ok-reply.reply c.prepare.new.self c.act.new.self c.count.new.self = record { reply = c.in_ok-reply.ensures.reply; world = c.in_ok-reply.ensures.world; counts = c.count.ensures } in
-    subst (λ (w : World). c.count.new.self ≡ (happens (begun_for c.args.event w) c.args.event).world) c.self.view_is
+    subst (λ (w : World). NoneIsDue w → c.count.new.self ≡ (happens w c.args.event).world) c.self.view_is
     (done_world c.args.event c.self.inside.state c.prepare.new.self c.act.new.self c.count.new.self c.in_ok-reply.reply prepared done)
 
 pub returns-clause-alike : goal.returns-clause-alike
 returns-clause-alike g c =
     let e = c.in_ok-prepare.ensures in
-    let prepared : IsPrepared c.args.event c.self.inside.state c.prepare.new.self = record { begun = e.begun; alike = e.alike; run = e.run; world = e.world } in
+    let prepared : IsPrepared c.args.event c.self.inside.state c.prepare.new.self = record { begun = e.begun; alike = e.alike; run = e.run; same = e.same } in
     let done : IsDone c.args.event c.in_ok-reply.reply c.prepare.new.self c.act.new.self c.count.new.self = record { reply = c.in_ok-reply.ensures.reply; world = c.in_ok-reply.ensures.world; counts = c.count.ensures } in
     subst (λ (w : World). AreAlike c.count.new.self (happens w c.args.event).world) c.self.view_is
     (done_alike c.args.event c.self.inside.state c.prepare.new.self c.act.new.self c.count.new.self c.in_ok-reply.reply prepared done)
@@ -78,7 +74,7 @@ returns-clause-alike g c =
 pub returns-clause-run : goal.returns-clause-run
 returns-clause-run g c =
     let e = c.in_ok-prepare.ensures in
-    let prepared : IsPrepared c.args.event c.self.inside.state c.prepare.new.self = record { begun = e.begun; alike = e.alike; run = e.run; world = e.world } in
+    let prepared : IsPrepared c.args.event c.self.inside.state c.prepare.new.self = record { begun = e.begun; alike = e.alike; run = e.run; same = e.same } in
     let done : IsDone c.args.event c.in_ok-reply.reply c.prepare.new.self c.act.new.self c.count.new.self = record { reply = c.in_ok-reply.ensures.reply; world = c.in_ok-reply.ensures.world; counts = c.count.ensures } in
     subst (λ (w : World). (s : Setup) (es : List Event) → IsRun s es w → IsRun s (es ++ c.args.event ∷ []) c.count.new.self) c.self.view_is
     (done_run c.args.event c.self.inside.state c.prepare.new.self c.act.new.self c.count.new.self c.in_ok-reply.reply prepared done)

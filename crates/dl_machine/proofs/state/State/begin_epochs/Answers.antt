@@ -1,9 +1,7 @@
-use Rattle.std.proofs.Common.{◌≡◌, length, Err, ap, arith}
-use Rattle.std.proofs.lemmas.Result.{err_from_is_err_and}
-use Rattle.dl_entry.specs.declared.OutOfMemory.{OutOfMemory}
+use Rattle.std.proofs.Common.{◌≡◌, length, ap, arith}
 use Rattle.spec_protocol.specs.machine.World.{World}
 use Rattle.dl_machine.proofs.Worlds.Promised.{run_ready}
-use Rattle.dl_machine.proofs.Worlds.Begun.{begun_before, begun_next, begun_world, spheres_kept, still_run}
+use Rattle.dl_machine.proofs.Worlds.Begun.{begun_next, spheres_kept, still_run}
 use Rattle.dl_machine.proofs.state.State.begin_epochs.Goals as goal
 
 pub begin_epoch-requires-clause-ready : goal.begin_epoch-requires-clause-ready
@@ -16,17 +14,3 @@ loop-i-preserved g c =
     let end = c.len-i-end.ensures.value in
     let here = c.loop-i-test.true in
     begun_next c.args.self.now c.loop-i.self c.begin_epoch.new.self c.loop-i.i c.requires.led c.loop-i.invariant (omega (arith, many, view, end, here)) c.in_ok-begin_epoch.ensures.ok
-
-pub returns-in_err-begin_epoch-clause-refused : goal.returns-in_err-begin_epoch-clause-refused
-returns-in_err-begin_epoch-clause-refused g c =
-    let p = err_from_is_err_and c.from_residual.result c.from_residual.ensures.1 in
-    rw p.1
-    (begun_before (Err OutOfMemory) c.args.self.now c.loop-i.self c.begin_epoch.new.self c.loop-i.i c.loop-i.invariant c.in_err-begin_epoch.ensures.needless c.in_err-begin_epoch.ensures.err)
-
-pub returns-clause-world : goal.returns-clause-world
-returns-clause-world g c =
-    let many = spheres_kept c.args.self.now c.loop-i.self c.loop-i.i c.loop-i.invariant in
-    let view : length c.self.inside.spheres.spheres ≡ length c.args.self.now.spheres = ap (λ (w : World). length w.spheres) c.self.view_is in
-    let end = c.len-i-end.ensures.value in
-    let over = c.loop-i-test.false in
-    begun_world c.args.self.now c.loop-i.self c.loop-i.i c.loop-i.invariant (omega (arith, many, view, end, over))

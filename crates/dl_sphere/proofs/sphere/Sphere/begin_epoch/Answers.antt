@@ -1,11 +1,9 @@
-use Rattle.std.proofs.Common.{◌≡◌, ◌-◌, ◌∙◌, true, drop, refl, sym, ap, subst}
-use Rattle.std.proofs.lemmas.Bool.{true≢false}
+use Rattle.std.proofs.Common.{◌≡◌, ◌-◌, ◌∙◌, drop, sym, ap, subst}
 use Rattle.spec_isa.specs.Words.{lays}
 use Rattle.spec_play.specs.Progress.{nothing_used}
 use Rattle.spec_sphere.specs.sphere.Epochs.{epoch_begun, state_in}
 use Rattle.spec_engine.specs.Flying.{flying}
 use Rattle.spec_sphere.specs.sphere.Spheres.{Sphere, Record}
-use Rattle.spec_sphere.specs.promises.Kept.{has_due}
 use Rattle.dl_kernel.specs.States.{state_in as seen_in}
 use Rattle.dl_kernel.specs.InOrder.{listed}
 use Rattle.dl_record.specs.Epochs as recorder
@@ -16,7 +14,7 @@ use Rattle.dl_sphere.specs.Recorded.{commits_of}
 use Rattle.dl_sphere.specs.Roles.{keeping_of, recording_of, role_in, HasRecorded, IsKeepingOf}
 use Rattle.dl_sphere.specs.SizedSpheres.{SizedSphere, with_sphere}
 use Rattle.dl_sphere.specs.declared.part.Part.{Part}
-use Rattle.dl_sphere.proofs.Begins.Begun.{Begins, begins, due_there, none_begins, unrecorded}
+use Rattle.dl_sphere.proofs.Begins.Begun.{Begins, begins, none_begins, unrecorded}
 use Rattle.dl_sphere.proofs.sphere.Sphere.begin_epoch.Goals as goal
 
 pub returns-in_default : goal.returns-in_default
@@ -29,7 +27,6 @@ returns-in_default g c =
           sym (ap (λ (p : Sphere). with_sphere p (record { s = a.s; sphere = sphere_in a })) none)
           ∙ ap (λ (v : SizedSphere). with_sphere (epoch_begun (lays v.sphere.memory words) v.sphere) v) c.self.view_is;
       err = tt;
-      needless = λ none. refl;
     }
 
 pub returns-then-not-is_due-clause-ok : goal.returns-then-not-is_due-clause-ok
@@ -108,29 +105,3 @@ returns-clause-ok g c =
     ∙ ap (λ (x : Sphere). with_sphere x (record { s = a.s; sphere = p })) b.sphere
     ∙ sym (ap (λ (x : Part). let y : Sphere = sphere_at a.past (role_in a.past.state.used x) in with_sphere (epoch_begun memory y) (record { s = a.s; sphere = y })) c.in-Recorded.is)
     ∙ ap (λ (v : SizedSphere). with_sphere (epoch_begun (lays v.sphere.memory words) v.sphere) v) c.self.view_is
-
-pub returns-in_err-state-clause-needless : goal.returns-in_err-state-clause-needless
-returns-in_err-state-clause-needless g c =
-    let a = c.self.inside in
-    let r : InEpochs = c.in-Recorded.recording.in_epochs in
-    let p : Sphere = sphere_at a.past (Record (recording_of r)) in
-    let stands : HasRecorded a.s p r = subst (λ (x : Part). IsKeepingOf a.s a.past (keeping_of x)) c.in-Recorded.is c.self.invariant.kept in
-    let due : has_due c.args.self.now.sphere ≡ true =
-    sym (ap (λ (v : SizedSphere). has_due v.sphere) c.self.view_is)
-    ∙ ap (λ (x : Part). has_due (sphere_at a.past (role_in a.past.state.used x))) c.in-Recorded.is
-    ∙ due_there a.past.first a.past.state.memory a.past.state.threads (listed a.past.commits) a.past.state.last a.past.state.request a.s r stands (sym c.is_due.ensures ∙ c.if-not-is_due.false)
-    in
-    λ none. absurd (true≢false (sym due ∙ none))
-
-pub returns-in_err-begin_epoch-clause-needless : goal.returns-in_err-begin_epoch-clause-needless
-returns-in_err-begin_epoch-clause-needless g c =
-    let a = c.self.inside in
-    let r : InEpochs = c.in-Recorded.recording.in_epochs in
-    let p : Sphere = sphere_at a.past (Record (recording_of r)) in
-    let stands : HasRecorded a.s p r = subst (λ (x : Part). IsKeepingOf a.s a.past (keeping_of x)) c.in-Recorded.is c.self.invariant.kept in
-    let due : has_due c.args.self.now.sphere ≡ true =
-    sym (ap (λ (v : SizedSphere). has_due v.sphere) c.self.view_is)
-    ∙ ap (λ (x : Part). has_due (sphere_at a.past (role_in a.past.state.used x))) c.in-Recorded.is
-    ∙ due_there a.past.first a.past.state.memory a.past.state.threads (listed a.past.commits) a.past.state.last a.past.state.request a.s r stands (sym c.is_due.ensures ∙ c.if-not-is_due.false)
-    in
-    λ none. absurd (true≢false (sym due ∙ none))
