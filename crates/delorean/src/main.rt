@@ -8,7 +8,7 @@ ghost use Rattle.spec_program.specs.declared.status.Status.{Status};
 ghost use Rattle.delorean.specs.Answers.{Answers};
 
 use dl_commands::delorean;
-use dl_files::{RealFiles, StdSink};
+use dl_files::{Files, RealFiles, Sink, StdSink};
 use spec_program::status::Status;
 use std::alloc::{AllocError, Global};
 use std::env::Args;
@@ -20,12 +20,18 @@ fn main(rt: HostRuntime) -> ExitCode {
     let alloc = rt.alloc();
     let mut files = RealFiles::new(&rt);
     let mut out = StdSink::new(&rt);
-    let ended = run(
-        alloc,
-        env::args(&rt),
-        |words| delorean(alloc, words, &mut files, &mut out),
-    );
+    let ended = run_over(alloc, env::args(&rt), &mut files, &mut out);
     ExitCode::from(status_of(ended).code())
+}
+
+// Runs `delorean` over these files and this sink.
+fn run_over<F: Files, O: Sink>(
+    alloc: Global,
+    args: io::Result<Args<Global>>,
+    files: &mut F,
+    out: &mut O,
+) -> io::Result<Status> {
+    run(alloc, args, |words| delorean(alloc, words, files, out))
 }
 
 // Calls the program with the words of the process, and answers its status.
