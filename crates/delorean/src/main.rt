@@ -5,9 +5,10 @@ ghost use Rattle.std.specs.Prelude.{◌≡◌, ◌≢◌, [], drop, map, string_
 ghost use Rattle.std.specs.IoError.{error_kind};
 ghost use Rattle.std.specs.Vec.Iter.{into_iter_items};
 ghost use Rattle.spec_program.specs.declared.status.Status.{Status};
+ghost use Rattle.delorean.specs.Answers.{Answers};
 
 use dl_commands::delorean;
-use dl_files::{RealFiles, StdSink};
+use dl_files::{Files, RealFiles, Sink, StdSink};
 use spec_program::status::Status;
 use std::alloc::{AllocError, Global};
 use std::env::Args;
@@ -16,15 +17,39 @@ use std::process::ExitCode;
 use std::{env, io};
 
 fn main(rt: HostRuntime) -> ExitCode {
-    ExitCode::from(status_of(run(rt)).code())
+    let alloc = rt.alloc();
+    let mut files = RealFiles::new(&rt);
+    let mut out = StdSink::new(&rt);
+    let ended = run_over(alloc, env::args(&rt), &mut files, &mut out);
+    ExitCode::from(status_of(ended).code())
 }
 
-fn run(rt: HostRuntime) -> io::Result<Status> {
-    let alloc = rt.alloc();
-    let words = words_of(alloc, env::args(&rt))?;
-    let mut files = RealFiles::new(rt.clone()?);
-    let mut out = StdSink::new(rt.clone()?);
-    Ok(delorean(alloc, &texts_of(alloc, &words)?, &mut files, &mut out))
+// Runs `delorean` over these files and this sink.
+fn run_over<F: Files, O: Sink>(
+    alloc: Global,
+    args: io::Result<Args<Global>>,
+    files: &mut F,
+    out: &mut O,
+) -> io::Result<Status> {
+    run(alloc, args, |words| delorean(alloc, words, files, out))
+}
+
+// Calls the program with the words of the process, and answers its status.
+fn run<P: FnOnce(&[&str]) -> Status>(
+    alloc: Global,
+    args: io::Result<Args<Global>>,
+    program: P,
+) -> io::Result<Status>
+    requires { P.IsAlwaysCallable program }
+    ensures called { IfOk args (λ all. IfOk result (λ status.
+        Answers P.FnOnce program (map string_bytes (drop 1 (into_iter_items all))) status)) }
+    ensures no_text { IfErr args (λ e. error_kind e ≡ ErrorKind.InvalidData
+        → IfOk result (λ status. Answers P.FnOnce program [] status)) }
+    ensures refused { IfErr args (λ e. error_kind e ≢ ErrorKind.InvalidData → IsErr result) }
+{
+    let words = words_of(alloc, args)?;
+    let texts = texts_of(alloc, &words)?;
+    Ok(program(&texts))
 }
 
 // The status of the program; what the runtime refuses, it refuses for memory.

@@ -2,8 +2,7 @@
 use Rattle.std.proofs.Common.{◌≡◌, ◌⊎◌, ℕ, Bool, true, false, true≢false, if◌then◌else◌, List, [], slice_get, Option, Some, None, Result, Ok, Err, inl, inr, refl, sym, ◌∙◌, ap, subst, arith, append-nil}
 use Rattle.std.proofs.lemmas.Option.{none-some}
 use Rattle.dl_files.specs.Contents.{Contents, IsLast}
-use Rattle.dl_files.specs.Count.{Rose}
-use Rattle.dl_files.specs.Seen.{Seen, IsKept}
+use Rattle.dl_files.specs.Seen.{Seen, IsKept, IsUnread, FailsOnce}
 use Rattle.dl_words.specs.Commands.{CommandValues, Run, command_of}
 use Rattle.spec_program.specs.declared.status.Status.{Status}
 use Rattle.spec_program.specs.declared.status.Refusal.{Refusal}
@@ -14,10 +13,10 @@ use Rattle.spec_program.specs.Writes.{Write, written}
 use Rattle.spec_program.specs.Stages.{Refused, ◌>>◌}
 use Rattle.spec_program.specs.Tasks.{Task, setup_in, task_named}
 use Rattle.spec_program.specs.commands.Drill as drill
-use Rattle.spec_program.specs.commands.Run.{HasLimits}
+use Rattle.spec_program.specs.commands.Run.{HasRun}
 use Rattle.spec_program.specs.Outcomes.{Finish, Outcome, status_in}
 use Rattle.spec_program.specs.Asked.{IsDone, outcome_of, reads_of}
-use Rattle.spec_program.specs.Ends.{Took, TookAll, Partly, Stands, IsFaulted, IsFinished, IsShort, is_done, is_refusal}
+use Rattle.spec_program.specs.Ends.{Took, Partly, Stands, IsFaulted, IsFinished, IsShort, is_done, is_refusal}
 use Rattle.spec_program.specs.Runs.{ran}
 use Rattle.spec_program.proofs.Doing.{done_at, finished}
 use Rattle.spec_program.proofs.Finishing.{outcome_is}
@@ -25,15 +24,16 @@ use Rattle.dl_gather.specs.declared.halt.Halt.{Halt}
 use Rattle.dl_commands.specs.declared.job.Job.{Job}
 use Rattle.dl_commands.specs.Jobs.{finish_of, writes_of, IsJobOf, IsRunOf, IsTaskJob}
 use Rattle.dl_gather.specs.declared.task.Task as gather
-use Rattle.dl_gather.specs.Halts.{Halts, IsFault}
+use Rattle.dl_gather.specs.Halts.{Halts, IsFault, IsRefusal}
 use Rattle.dl_gather.specs.Tasks.{IsTaskOf}
 use Rattle.dl_machine.specs.Setups.{setup_in as machine_of}
 use Rattle.dl_plan.specs.Values.{PlanValues}
 use Rattle.dl_run.specs.Schedules.{events_in}
 use Rattle.spec_protocol.specs.declared.event.Event.{Event}
 use Rattle.spec_protocol.specs.machine.Machine as protocol
-use Rattle.dl_commands.specs.Ended.{IsRefusalSaid, Said, Stopped}
+use Rattle.dl_commands.specs.Ended.{IsLineSaid, IsRefusalSaid, Said, Stopped}
 use Rattle.dl_commands.specs.Performed.{IsCut, IsPerformed}
+use Rattle.dl_commands.proofs.Failing.{none_failed, read_failed}
 
 memory_stands : (o : Outcome) (reads : List (List ℕ)) (m : Contents) (before after : Outside) (s : Status) → s ≡ Status.Memory → IsShort o reads m before after → Stands o reads m before after s
 memory_stands o reads m before after s e short = subst (Stands o reads m before after) (sym e) short
@@ -131,13 +131,13 @@ run_is task job (t, is, run) =
     ap (λ (o : Result Task Refused). o >> λ x. ran x.plan (setup_in x) x.events) is
     ∙ (λ i. Ok (record { diverged = sym run.diverged i; writes = sym run.writes i; text = sym run.text i }))
 
--- and its machine is within its limits
-pub run_limited : (plan : List ℕ) (m : Contents) (job : Job) → IsTaskJob (task_named m plan) job → HasLimits plan m
-run_limited plan m job (t, is, run) = (t, is, run.limits)
+-- its machine is within its limits, and its tails are read again
+pub run_limited : (plan : List ℕ) (m : Contents) (job : Job) → IsTaskJob (task_named m plan) job → HasRun plan m
+run_limited plan m job (t, is, run) = (t, is, run.limits, run.tails)
 
 -- what a command that is done says
 pub done_is : (words : List (List ℕ)) (m : Contents) (before after : Outside) (s : Status) (command : CommandValues) (job : Job)
-    → command_of words ≡ Some command → ((plan : List ℕ) → command_of words ≡ Some (Run plan) → HasLimits plan m) → IsJobOf (outcome_of words m) job
+    → command_of words ≡ Some command → ((plan : List ℕ) → command_of words ≡ Some (Run plan) → HasRun plan m) → IsJobOf (outcome_of words m) job
     → Stands (outcome_of words m) (reads_of words m) m before after s → is_done s ≡ true
     → IsDone command m after.known before.taken after.taken s
 done_is words m before after s command job asks limits is stands done =
@@ -170,13 +170,16 @@ drill_said d text old new from to Status.Absent e said = absurd said
 none_due : (ws : List Write) (i : ℕ) (w : Write) → [] ≡ ws → slice_get ws i ≡ Some w → ⊥
 none_due ws i w none at = none-some w (ap (λ (xs : List Write). slice_get xs i) none ∙ at)
 
--- a drill that is computed writes nothing: it ends well, or by the sink, or since memory ran out, and no file failed
+-- a drill that is computed writes nothing: it ends well, or by the sink, or since memory ran out, and no file failed or changed
 pub drill_performed : (number : ℕ) (job : Job) (before after : Outside) (s : Status) → finish_of job ≡ drill.finish number → IsPerformed job.diverged (writes_of job.writes.items) job.text.items before after s
-    → IsDrillEnd s × (after.faults ≡ before.faults)
-drill_performed number job before after s made (inl w) =
-    (drill_said job.diverged job.text.items before.taken after.taken before.sink_faults after.sink_faults s (ap (λ (f : Finish). status_in (Ok f)) (sym made)) w.said, w.counted)
+    → IsDrillEnd s × (after.faults ≡ before.faults) × (after.changes ≡ before.changes)
+drill_performed number job before after s made (inl w) = (
+  drill_said job.diverged job.text.items before.taken after.taken before.sink_faults after.sink_faults s (ap (λ (f : Finish). status_in (Ok f)) (sym made)) w.said,
+  w.counted,
+  w.none (ap (λ (f : Finish). f.writes) made),
+)
 drill_performed number job before after s made (inr (inl (name, b))) = absurd (none_due (writes_of job.writes.items) b.due.0 b.due.1 (ap (λ (f : Finish). f.writes) (sym made)) b.due.2)
-drill_performed number job before after s made (inr (inr u)) = (inr (inr u.status), u.counted)
+drill_performed number job before after s made (inr (inr u)) = absurd (u.some (ap (λ (f : Finish). f.writes) made))
 
 -- a drill that isn't computed ends since memory ran out
 pub drill_halted : (h : Halt) (old new : Option (List ℕ)) (from to : ℕ) (s : Status) → h ≡ Halt.OutOfMemory → Stopped h old new from to s → IsDrillEnd s
@@ -217,6 +220,17 @@ absent_is Refusal.Image e = absurd (omega (arith, ap code_of e))
 absent_is Refusal.Grammar e = absurd (omega (arith, ap code_of e))
 absent_is Refusal.Source e = absurd (omega (arith, ap code_of e))
 absent_is Refusal.Absent e = refl
+
+-- at a refusal the read of an absent name failed, or no call did
+refused_at : (task : Contents → Outcome) (old new : Seen) (why : Refusal) (line : List ℕ) (known : Option Contents) → old.known ≡ known → IsRefusal task why line old new
+    → ((name : List ℕ) × (line ≡ absent_line name) × IsUnread name old new) ⊎ (new ≡ old)
+refused_at task old new why line (Some m) e refused = inr (refused.known m e).1
+refused_at task old new Refusal.Usage line None e refused = inr (refused.other (λ x. omega (arith, ap (λ (w : Refusal). code_of (status_of w)) x)))
+refused_at task old new Refusal.Plan line None e refused = inr (refused.other (λ x. omega (arith, ap (λ (w : Refusal). code_of (status_of w)) x)))
+refused_at task old new Refusal.Image line None e refused = inr (refused.other (λ x. omega (arith, ap (λ (w : Refusal). code_of (status_of w)) x)))
+refused_at task old new Refusal.Grammar line None e refused = inr (refused.other (λ x. omega (arith, ap (λ (w : Refusal). code_of (status_of w)) x)))
+refused_at task old new Refusal.Source line None e refused = inr (refused.other (λ x. omega (arith, ap (λ (w : Refusal). code_of (status_of w)) x)))
+refused_at task old new Refusal.Absent line None e refused = inl (refused.unknown e refl)
 
 -- A command halts before anything is written: the files were seen as `old` and then as `new`. The sink had taken so much, and
 -- then so much, and so its count of faults.
@@ -265,14 +279,31 @@ module _ (old new : Seen) (before after : Option (List ℕ)) (from to : ℕ) whe
   pub halted_kept : (task : Contents → Outcome) (reads : Contents → List (List ℕ)) (h : Halt) → Halts task reads old new h → IsKept old new
   halted_kept task reads (Halt.Refused why text) halts = halts.kept
   halted_kept task reads (Halt.Fault text) halts = halts.2.unread.kept
-  halted_kept task reads Halt.OutOfMemory (inl same) = record { known = ap (λ (x : Seen). x.known) same; changes = ap (λ (x : Seen). x.changes) same }
+  halted_kept task reads Halt.OutOfMemory (inl same) = record {
+    known = ap (λ (x : Seen). x.known) same;
+    changes = ap (λ (x : Seen). x.changes) same;
+    unwritten = ap (λ (x : Seen). x.unwritten) same;
+  }
   halted_kept task reads Halt.OutOfMemory (inr (name, f)) = f.unread.kept
+
+  unfailed : new ≡ old → FailsOnce old new
+  unfailed same = none_failed old new (ap (λ (x : Seen). x.faults) same)
+
+  -- at most one of its reads failed
+  pub halted_once : (task : Contents → Outcome) (reads : Contents → List (List ℕ)) (h : Halt) → Halts task reads old new h → FailsOnce old new
+  halted_once task reads (Halt.Refused why text) halts = elim (refused_at task old new why text.items old.known refl halts) [
+    | inl absent ↦ read_failed absent.0 old new absent.2
+    | inr same ↦ unfailed same
+  ]
+  halted_once task reads (Halt.Fault text) halts = read_failed halts.0 old new halts.2.unread
+  halted_once task reads Halt.OutOfMemory (inl same) = unfailed same
+  halted_once task reads Halt.OutOfMemory (inr (name, f)) = read_failed name old new f.unread
 
   -- its refusal is said in the form of its kind
   pub halted_line : (task : Contents → Outcome) (reads : Contents → List (List ℕ)) (h : Halt) (s : Status) → Halts task reads old new h → Stopped h before after from to s
       → is_refusal s ≡ true → IsRefusalSaid s before after from to
   halted_line task reads (Halt.Refused why text) s halts stopped e = elim stopped.0 [
-    | inl due ↦ (why, text.items, due.0, halts.form, stopped.1, due.1)
+    | inl due ↦ (why, text.items, due.0, halts.form, (stopped.1, due.1))
     | inr memory ↦ absurd (true≢false (sym e ∙ ap is_refusal memory.0))
   ]
   halted_line task reads (Halt.Fault text) s halts stopped e = elim stopped.0 [
@@ -283,18 +314,18 @@ module _ (old new : Seen) (before after : Option (List ℕ)) (from to : ℕ) whe
 
   -- a name that is said to be absent, where no contents are known, is the last fault's
   pub halted_absent : (task : Contents → Outcome) (reads : Contents → List (List ℕ)) (h : Halt) (s : Status) → Halts task reads old new h → Stopped h before after from to s
-      → old.known ≡ None → s ≡ Status.Absent → (Rose from to → ⊥) → (name : List ℕ) × IsLast new.last name × TookAll (absent_line name) before after
-  halted_absent task reads (Halt.Refused why text) s halts stopped none e whole = elim stopped.0 [
+      → old.known ≡ None → s ≡ Status.Absent → (name : List ℕ) × IsLast new.last name × IsLineSaid (absent_line name) before after from to
+  halted_absent task reads (Halt.Refused why text) s halts stopped none e = elim stopped.0 [
     | inl due ↦
         let absent = halts.unknown none (absent_is why (sym due.0 ∙ e)) in
-        (absent.0, absent.2.named, subst (λ (t : List ℕ). TookAll t before after) absent.1 (due.1 whole))
+        (absent.0, absent.2.named, subst (λ (t : List ℕ). IsLineSaid t before after from to) absent.1 (stopped.1, due.1))
     | inr memory ↦ absurd (no_memory_absent s memory.0 e)
   ]
-  halted_absent task reads (Halt.Fault text) s halts stopped none e whole = elim stopped.0 [
+  halted_absent task reads (Halt.Fault text) s halts stopped none e = elim stopped.0 [
     | inl due ↦ absurd (no_fault_absent s due.0 e)
     | inr memory ↦ absurd (no_memory_absent s memory.0 e)
   ]
-  halted_absent task reads Halt.OutOfMemory s halts stopped none e whole = absurd (no_memory_absent s stopped.0 e)
+  halted_absent task reads Halt.OutOfMemory s halts stopped none e = absurd (no_memory_absent s stopped.0 e)
 
 -- ---- a fault, and the line on it
 
@@ -309,19 +340,30 @@ no_refusal_fault Refusal.Grammar e = omega (arith, ap code_of e)
 no_refusal_fault Refusal.Source e = omega (arith, ap code_of e)
 no_refusal_fault Refusal.Absent e = omega (arith, ap code_of e)
 
--- the last fault's line is said, whole
-abbrev pub FaultSaid : (last old new : Option (List ℕ)) → Type 0
-FaultSaid last old new = (name : List ℕ) × IsLast last name × TookAll (fault_line name) old new
+-- the line on the last fault is said
+abbrev pub FaultSaid : (last old new : Option (List ℕ)) → (from to : ℕ) → Type 0
+FaultSaid last old new from to = (name : List ℕ) × IsLast last name × IsLineSaid (fault_line name) old new from to
 
--- a command that ends by a fault of a write says the last fault's line, whole where the sink had no fault
-pub performed_fault : (d : Bool) (ws : List Write) (text : List ℕ) (old new : Outside) (s : Status) → IsPerformed d ws text old new s → s ≡ Status.Fault → (Rose old.sink_faults new.sink_faults → ⊥)
-    → FaultSaid new.last old.taken new.taken
-performed_fault d ws text old new s (inl w) e whole = absurd (subst (Said d text old.taken new.taken old.sink_faults new.sink_faults) e w.said)
-performed_fault d ws text old new s (inr (inl (name, b))) e whole = elim b.said.0 [
-  | inl due ↦ (name, b.named, due.1 whole)
+-- a command that ends by a fault of a write says the line on it
+pub performed_fault : (d : Bool) (ws : List Write) (text : List ℕ) (old new : Outside) (s : Status) → IsPerformed d ws text old new s → s ≡ Status.Fault
+    → FaultSaid new.last old.taken new.taken old.sink_faults new.sink_faults
+performed_fault d ws text old new s (inl w) e = absurd (subst (Said d text old.taken new.taken old.sink_faults new.sink_faults) e w.said)
+performed_fault d ws text old new s (inr (inl (name, b))) e = elim b.said.0 [
+  | inl due ↦ (name, b.named, (b.said.1, due.1))
   | inr memory ↦ absurd (no_memory_fault s memory.0 e)
 ]
-performed_fault d ws text old new s (inr (inr u)) e whole = absurd (no_memory_fault s u.status e)
+performed_fault d ws text old new s (inr (inr u)) e = absurd (no_memory_fault s u.status e)
+
+-- where memory ran out after a fault, the first bytes of the line on it are said
+abbrev pub IsShortSaid : (last old new : Option (List ℕ)) → Type 0
+IsShortSaid last old new = (name : List ℕ) × IsLast last name × (Took (fault_line name) old new ⊎ Took (absent_line name) old new)
+
+-- so of a write
+pub performed_short : (d : Bool) (ws : List Write) (text : List ℕ) (old new : Outside) (s : Status) → IsPerformed d ws text old new s → (new.faults ≡ old.faults → ⊥)
+    → IsShortSaid new.last old.taken new.taken
+performed_short d ws text old new s (inl w) failed = absurd (failed w.counted)
+performed_short d ws text old new s (inr (inl (name, b))) failed = (name, b.named, inl b.said.1)
+performed_short d ws text old new s (inr (inr u)) failed = absurd (failed u.counted)
 
 -- ---- a command that stopped
 
@@ -349,15 +391,27 @@ module _ (before after : Option (List ℕ)) (from to : ℕ) (s : Status) where
   ]
   stopped_undone Halt.OutOfMemory stopped done = true≢false (sym done ∙ ap is_done stopped.0)
 
-  -- where it halted by a fault of a read, it says the last fault's line, whole where the sink had no fault
+  -- where it halted by a fault of a read, it says the line on it
   pub stopped_fault : (task : Contents → Outcome) (reads : Contents → List (List ℕ)) (old new : Seen) (h : Halt)
-      → Halts task reads old new h → Stopped h before after from to s → s ≡ Status.Fault → (Rose from to → ⊥) → FaultSaid new.last before after
-  stopped_fault task reads old new (Halt.Refused why text) halts stopped e whole = elim stopped.0 [
+      → Halts task reads old new h → Stopped h before after from to s → s ≡ Status.Fault → FaultSaid new.last before after from to
+  stopped_fault task reads old new (Halt.Refused why text) halts stopped e = elim stopped.0 [
     | inl due ↦ absurd (no_refusal_fault why (sym due.0 ∙ e))
     | inr memory ↦ absurd (no_memory_fault s memory.0 e)
   ]
-  stopped_fault task reads old new (Halt.Fault text) halts stopped e whole = elim stopped.0 [
-    | inl due ↦ (halts.0, halts.2.unread.named, subst (λ (t : List ℕ). TookAll t before after) halts.1 (due.1 whole))
+  stopped_fault task reads old new (Halt.Fault text) halts stopped e = elim stopped.0 [
+    | inl due ↦ (halts.0, halts.2.unread.named, subst (λ (t : List ℕ). IsLineSaid t before after from to) halts.1 (stopped.1, due.1))
     | inr memory ↦ absurd (no_memory_fault s memory.0 e)
   ]
-  stopped_fault task reads old new Halt.OutOfMemory halts stopped e whole = absurd (no_memory_fault s stopped.0 e)
+  stopped_fault task reads old new Halt.OutOfMemory halts stopped e = absurd (no_memory_fault s stopped.0 e)
+
+  -- where memory ran out after a read that failed, the first bytes of the line on it are said
+  pub stopped_short : (task : Contents → Outcome) (reads : Contents → List (List ℕ)) (old new : Seen) (h : Halt)
+      → Halts task reads old new h → Stopped h before after from to s → (new.faults ≡ old.faults → ⊥) → IsShortSaid new.last before after
+  stopped_short task reads old new (Halt.Refused why text) halts stopped failed = elim (refused_at task old new why text.items old.known refl halts) [
+    | inl absent ↦ (absent.0, absent.2.named, inr (subst (λ (t : List ℕ). Took t before after) absent.1 stopped.1))
+    | inr same ↦ absurd (failed (ap (λ (x : Seen). x.faults) same))
+  ]
+  stopped_short task reads old new (Halt.Fault text) halts stopped failed =
+      (halts.0, halts.2.unread.named, inl (subst (λ (t : List ℕ). Took t before after) halts.1 stopped.1))
+  stopped_short task reads old new Halt.OutOfMemory (inl same) stopped failed = absurd (failed (ap (λ (x : Seen). x.faults) same))
+  stopped_short task reads old new Halt.OutOfMemory (inr (name, f)) stopped failed = (name, f.unread.named, inl (took_none (fault_line name) before after stopped.1))

@@ -1,4 +1,5 @@
 pub mod Assembled
+pub mod Failing
 pub mod Finishing
 pub mod Growing
 pub mod Planned

@@ -1,5 +1,5 @@
 -- The files that a plan writes take the products of its own spheres, or of all.
-use Rattle.std.proofs.Common.{◌≡◌, ℕ, suc, ◌+◌, ◌<◌, ◌≤◌, List, [], ◌∷◌, ◌++◌, length, map, drop, get_or, Option, Some, None, sym, ap, ◌∙◌, append_assoc, arith}
+use Rattle.std.proofs.Common.{◌≡◌, ℕ, zero, suc, ◌+◌, ◌<◌, ◌≤◌, List, [], ◌∷◌, ◌++◌, length, map, take, drop, get_or, Option, Some, None, sym, ap, subst, ◌∙◌, append_assoc, arith}
 use Rattle.std.specs.List.{AllByRecursion}
 use Rattle.std.proofs.lemmas.List.{drop_more, map-append}
 use Rattle.dl_plan.specs.declared.Output.{Output}
@@ -18,6 +18,14 @@ use Rattle.dl_commands.specs.Products.{IsProduct, AreProducts}
 all_append : {X : Type 0} (P : X → Type 0) (xs ys : List X) → AllByRecursion P xs → AllByRecursion P ys → AllByRecursion P (xs ++ ys)
 all_append P [] ys a b = b
 all_append P (x ∷ xs) ys a b = (a.0, all_append P xs ys a.1 b)
+
+-- the first so many and the next are so
+pub all_next : {X Y : Type 0} (P : Y → Type 0) (f : X → Y) (xs : List X) (i : ℕ) (d : X) → i < length xs → AllByRecursion P (map f (take i xs)) → P (f (get_or xs i d)) → AllByRecursion P (map f (take (i + 1) xs))
+all_next P f [] i d inside before next = absurd (omega (arith, inside))
+all_next P f (x ∷ xs) zero d inside before next = (next, tt)
+all_next P f (x ∷ xs) (suc i) d inside before next =
+    let count : suc (i + 1) ≡ suc i + 1 = omega arith in
+    subst (λ (n : ℕ). AllByRecursion P (map f (take n (x ∷ xs)))) count (before.0, all_next P f xs i d (omega (arith, inside)) before.1 next)
 
 -- ---- products
 

@@ -27,6 +27,10 @@ Said diverged text old new from to Status.Absent = ⊥
 abbrev pub IsDue : (text : List ℕ) → (old new : Option (List ℕ)) → (from to : ℕ) → Type 0
 IsDue text old new from to = (Rose from to → ⊥) → TookAll text old new
 
+-- the first bytes of it are said, all where the sink's count did not rise
+abbrev pub IsLineSaid : (line : List ℕ) → (old new : Option (List ℕ)) → (from to : ℕ) → Type 0
+IsLineSaid line old new from to = Took line old new × IsDue line old new from to
+
 -- the line of a refusal or a fault, whose status is the first one: it changes only if memory runs out
 abbrev pub SaidLine : Status → (text : List ℕ) → (old new : Option (List ℕ)) → (from to : ℕ) → Status → Type 0
 SaidLine due text old new from to s =
@@ -41,4 +45,4 @@ Stopped Halt.OutOfMemory old new from to s = (s ≡ Status.Memory) × (new ≡ o
 -- the line of a refusal of this status is said, in the form of its kind, whole where the sink's count did not rise
 abbrev pub IsRefusalSaid : Status → (old new : Option (List ℕ)) → (from to : ℕ) → Type 0
 IsRefusalSaid s old new from to =
-    (why : Refusal) × (line : List ℕ) × (s ≡ status_of why) × IsLineOf why line × Took line old new × IsDue line old new from to
+    (why : Refusal) × (line : List ℕ) × (s ≡ status_of why) × IsLineOf why line × IsLineSaid line old new from to

@@ -7,6 +7,7 @@ use Rattle.spec_protocol.specs.machine.Machine.{Setup}
 use Rattle.spec_protocol.specs.promises.Sound.{IsWithinLimits}
 use Rattle.spec_run.specs.Runs.{diverges}
 use Rattle.spec_run.specs.Texts.{summary_text}
+use Rattle.spec_program.specs.Accepted.{AreReadAgain}
 use Rattle.spec_program.specs.commands.Drill as drill
 use Rattle.spec_program.specs.Outcomes.{Finish, Outcome}
 use Rattle.spec_program.specs.Runs.{writes_for}
@@ -46,6 +47,7 @@ IsJobOf outcome job = outcome ≡ Ok (finish_of job)
 pub record IsRunOf (p : PlanValues) (s : Setup) (es : List Event) (job : Job) : Type 0 where
   pub limits : IsWithinLimits s
   pub writes : writes_of job.writes.items ≡ writes_for p s es
+  pub tails : AreReadAgain p s es
   pub text : job.text.items ≡ summary_text s es
   pub diverged : job.diverged ≡ diverges s.spheres
 

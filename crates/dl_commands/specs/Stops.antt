@@ -1,5 +1,5 @@
 -- How writing ends, or stops before its end. The files were seen as `old` before, and as `new` after it.
-use Rattle.std.specs.Prelude.{◌≡◌, ◌⊎◌, ℕ, true, List, take, slice_get, Some}
+use Rattle.std.specs.Prelude.{◌≡◌, ◌⊎◌, ℕ, true, List, [], take, slice_get, Some}
 use Rattle.dl_files.specs.Contents.{Contents, IsLast, SameBut, with_file}
 use Rattle.dl_files.specs.Count.{Rose}
 use Rattle.dl_files.specs.declared.FileError.{FileError}
@@ -26,11 +26,12 @@ ContentStops content name old new FileError.OutOfMemory = IsCutShort content nam
 
 -- ---- all files
 
--- each is written
+-- each is written; with none no file is changed
 pub record AreWritten (writes : List Write) (old new : Seen) : Type 0 where
   pub known : (m : Contents) → old.known ≡ Some m → new.known ≡ Some (written writes m)
   pub faults : new.faults ≡ old.faults
   pub unread : new.unread ≡ old.unread
+  pub none : writes ≡ [] → new.changes ≡ old.changes
 
 -- the first are written, and then the write of index i failed
 pub record IsCutAt (writes : List Write) (i : ℕ) (old new : Seen) : Type 0 where
@@ -41,11 +42,12 @@ pub record IsCutAt (writes : List Write) (i : ℕ) (old new : Seen) : Type 0 whe
   pub known : (m : Contents) → old.known ≡ Some m → SameBut write.name (Some (written (take i writes) m)) new.known
   pub unread : new.unread ≡ old.unread
 
--- the first are written, and then memory ran out
+-- the first are written, and then memory ran out over another
 pub record AreCutShort (writes : List Write) (old new : Seen) : Type 0 where
   pub known : (m : Contents) → old.known ≡ Some m → Partly writes m new.known
   pub faults : new.faults ≡ old.faults
   pub unread : new.unread ≡ old.unread
+  pub some : writes ≡ [] → ⊥
 
 abbrev pub Stopped : List Write → (old new : Seen) → Stop → Type 0
 Stopped writes old new (Stop.Failed i) = IsCutAt writes i old new

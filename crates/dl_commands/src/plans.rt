@@ -3,7 +3,7 @@ ghost use Rattle.std.specs.Prelude.{◌≡◌, Some, IfOk, IfErr, OnOk};
 ghost use Rattle.dl_files.specs.Contents.{Contents};
 ghost use Rattle.dl_plan.specs.Files.{input_names};
 ghost use Rattle.dl_plan.specs.Values.{IsPlan, plan_view};
-ghost use Rattle.spec_program.specs.commands.Run.{HasLimits, outcome, reads};
+ghost use Rattle.spec_program.specs.commands.Run.{HasRun, outcome, reads};
 ghost use Rattle.spec_program.specs.Tasks.{task_named, task_planned};
 ghost use Rattle.dl_gather.specs.Halts.{Halts, IsNotUsage};
 ghost use Rattle.dl_commands.specs.Jobs.{IsJobOf, IsTaskJob};
@@ -20,7 +20,7 @@ pub fn run_plan<F: Files>(alloc: Global, files: &mut F, plan: &str) -> Result<Jo
     ensures job { IfOk result (λ job. (m : Contents) → (F.seen files.old).known ≡ Some m
         → IsJobOf (outcome m plan.now) job) }
     ensures limits { IfOk result (λ job. (m : Contents) → (F.seen files.old).known ≡ Some m
-        → HasLimits plan.now m) }
+        → HasRun plan.now m) }
     ensures halt { IfErr result (Halts (λ m. outcome m plan.now) (λ m. reads m plan.now)
         (F.seen files.old) (F.seen files.new)) }
     ensures usage { IfErr result IsNotUsage }

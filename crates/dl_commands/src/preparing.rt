@@ -3,7 +3,7 @@ ghost use Rattle.std.specs.Prelude.{◌≡◌, ◌≢◌, List, ℕ, None, Some,
 ghost use Rattle.dl_files.specs.Contents.{Contents};
 ghost use Rattle.dl_words.specs.Commands.{Drill, Run, command_of, command_view};
 ghost use Rattle.spec_program.specs.Asked.{outcome_for, outcome_of, reads_for, reads_of};
-ghost use Rattle.spec_program.specs.commands.Run.{HasLimits};
+ghost use Rattle.spec_program.specs.commands.Run.{HasRun};
 ghost use Rattle.dl_gather.specs.Halts.{Halts, IsNotUsage, IsUsage};
 ghost use Rattle.dl_commands.specs.Jobs.{IsDrill, IsJobOf};
 ghost use Rattle.dl_commands.specs.Texts.{texts};
@@ -31,7 +31,7 @@ pub fn prepare<F: Files>(alloc: Global, words: &[&str], files: &mut F) -> Result
     ensures job { IfOk result (λ job. (m : Contents) → (F.seen files.old).known ≡ Some m
         → IsJobOf (outcome_of (texts words.now) m) job) }
     ensures limits { (plan : List ℕ) (m : Contents) → command_of (texts words.now) ≡ Some (Run plan)
-        → (F.seen files.old).known ≡ Some m → IsOk result → HasLimits plan m }
+        → (F.seen files.old).known ≡ Some m → IsOk result → HasRun plan m }
     ensures command { IsOk result → command_of (texts words.now) ≢ None }
     ensures halt { IfErr result (Halts (outcome_of (texts words.now)) (reads_of (texts words.now))
         (F.seen files.old) (F.seen files.new)) }
@@ -55,7 +55,7 @@ fn compute_command<F: Files>(
     ensures job { IfOk result (λ job. (m : Contents) → (F.seen files.old).known ≡ Some m
         → IsJobOf (outcome_for m (command_view command.entry)) job) }
     ensures limits { (plan : List ℕ) (m : Contents) → command_view command.entry ≡ Run plan
-        → (F.seen files.old).known ≡ Some m → IsOk result → HasLimits plan m }
+        → (F.seen files.old).known ≡ Some m → IsOk result → HasRun plan m }
     ensures halt { IfErr result (Halts (λ m. outcome_for m (command_view command.entry))
         (λ m. reads_for m (command_view command.entry)) (F.seen files.old) (F.seen files.new)) }
     ensures usage { IfErr result IsNotUsage }

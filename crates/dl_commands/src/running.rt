@@ -1,5 +1,5 @@
 //! Running: the machine takes the schedule to its end, and what it comes to is put into texts.
-ghost use Rattle.std.specs.Prelude.{◌≡◌, ◌<◌, List, IfOk, length, map};
+ghost use Rattle.std.specs.Prelude.{◌≡◌, ◌<◌, List, Ok, IfOk, length, map};
 ghost use Rattle.dl_machine.specs.Setups.{IsWithin, setup_in};
 ghost use Rattle.dl_plan.specs.declared.Product.{Product};
 ghost use Rattle.dl_plan.specs.Values.{plan_view};
@@ -7,10 +7,13 @@ ghost use Rattle.dl_plan.specs.Views.{output_view};
 ghost use Rattle.dl_run.specs.Ran.{IsOver};
 ghost use Rattle.dl_run.specs.Schedules.{AreFew, events_in};
 ghost use Rattle.spec_protocol.specs.declared.event.Event.{Event};
+ghost use Rattle.spec_program.specs.Accepted.{IsReadAgain};
 ghost use Rattle.spec_program.specs.Runs.{is_log, product_for};
 ghost use Rattle.spec_program.specs.Writes.{filled};
 ghost use Rattle.dl_commands.specs.Jobs.{IsRunOf, bytes_in, is_in_pieces, write_of, writes_of};
-ghost use Rattle.dl_commands.specs.Products.{IsProduct, AreProducts};
+ghost use Rattle.dl_commands.specs.Products.{IsProduct, AreProducts, AreReadOf};
+ghost use Rattle.spec_tail.specs.Bytes.{tail_bytes};
+ghost use Rattle.spec_tail.specs.Reading.{read_of};
 
 use crate::job::Job;
 use crate::writing::{Content, NamedContent};
@@ -18,7 +21,7 @@ use dl_entry::OutOfMemory;
 use dl_machine::Setup;
 use dl_plan::{Output, Plan, Product, outputs_of};
 use dl_run::{Run, Schedule, SphereLog};
-use dl_tail::write_tail;
+use dl_tail::{Tail, write_tail};
 use std::alloc::Global;
 
 /// The run of a plan's machine over the schedule, which has at most 2^24 events.
@@ -60,8 +63,10 @@ fn writes_to(
     run: &Run,
 ) -> Result<Vec<NamedContent>, OutOfMemory>
     requires { AreProducts (length run.now.setup.spheres) (map output_view outputs.now) }
-    ensures { IfOk result (λ writes. (es : List Event) → IsOver es run.now
+    ensures writes { IfOk result (λ writes. (es : List Event) → IsOver es run.now
         → writes_of writes.items ≡ map (filled (product_for run.now.setup es) (is_log run.now.setup)) (map output_view outputs.now)) }
+    ensures tails { IfOk result (λ writes. (es : List Event) → IsOver es run.now
+        → AreReadOf run.now.setup es (map output_view outputs.now)) }
 {
     let mut writes = Vec::new(alloc);
     for output in outputs {
@@ -76,8 +81,10 @@ fn writes_to(
 
 fn write_to(alloc: Global, output: &Output<'_>, run: &Run) -> Result<NamedContent, OutOfMemory>
     requires { IsProduct (length run.now.setup.spheres) output.now.product }
-    ensures { IfOk result (λ write. (es : List Event) → IsOver es run.now
+    ensures write { IfOk result (λ write. (es : List Event) → IsOver es run.now
         → write_of write ≡ filled (product_for run.now.setup es) (is_log run.now.setup) (output_view output.now)) }
+    ensures tail { IfOk result (λ write. (es : List Event) → IsOver es run.now
+        → IsReadAgain run.now.setup es output.now.product) }
 {
     let content = product_of(alloc, output.product, run)?;
     Ok(NamedContent {
@@ -90,6 +97,8 @@ fn product_of(alloc: Global, product: Product, run: &Run) -> Result<Content, Out
     requires { IsProduct (length run.now.setup.spheres) product }
     ensures bytes { IfOk result (λ content. (es : List Event) → IsOver es run.now
         → bytes_in content ≡ product_for run.now.setup es product) }
+    ensures tail { IfOk result (λ content. (es : List Event) → IsOver es run.now
+        → IsReadAgain run.now.setup es product) }
     ensures in_pieces { IfOk result (λ content. is_in_pieces content ≡ is_log run.now.setup product) }
 {
     match product {
@@ -105,11 +114,22 @@ fn log_of(alloc: Global, sphere: usize, run: &Run) -> Result<Content, OutOfMemor
     requires { sphere < length run.now.setup.spheres }
     ensures bytes { IfOk result (λ content. (es : List Event) → IsOver es run.now
         → bytes_in content ≡ product_for run.now.setup es (Product.Log sphere)) }
+    ensures tail { IfOk result (λ content. (es : List Event) → IsOver es run.now
+        → IsReadAgain run.now.setup es (Product.Log sphere)) }
     ensures in_pieces { IfOk result (λ content. is_in_pieces content ≡ is_log run.now.setup (Product.Log sphere)) }
 {
     match run.log(alloc, sphere)? {
         SphereLog::None => Ok(Content::Bytes(Vec::new(alloc))),
         SphereLog::Whole(log) => Ok(Content::Log(log)),
-        SphereLog::Tail(tail) => Ok(Content::Bytes(write_tail(alloc, &tail)?)),
+        SphereLog::Tail(tail) => Ok(Content::Bytes(bytes_of(alloc, &tail)?)),
     }
+}
+
+// The bytes of a tail, which are read as that tail again.
+fn bytes_of(alloc: Global, tail: &Tail) -> Result<Vec<u8>, OutOfMemory>
+    ensures bytes { IfOk result (λ bytes. bytes.items ≡ tail_bytes tail.now) }
+    ensures again { IfOk result (λ bytes. read_of bytes.items ≡ Ok tail.now) }
+{
+    let _ = tail.parts();
+    write_tail(alloc, tail)
 }

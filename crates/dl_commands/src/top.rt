@@ -2,6 +2,7 @@
 ghost use Rattle.std.specs.Prelude.{◌≡◌, ◌⊎◌, ℕ, List, None, Some, true, false};
 ghost use Rattle.dl_files.specs.Contents.{Contents, IsLast};
 ghost use Rattle.dl_files.specs.Count.{Rose};
+ghost use Rattle.dl_files.specs.Seen.{FailsOnce};
 ghost use Rattle.spec_program.specs.declared.status.Status.{Status};
 ghost use Rattle.dl_words.specs.Commands.{CommandValues, Run, Drill, command_of};
 ghost use Rattle.spec_program.specs.Asked.{IsDone, outcome_of, reads_of};
@@ -10,7 +11,7 @@ ghost use Rattle.spec_program.specs.Headline.{Headline};
 ghost use Rattle.spec_program.specs.Lines.{absent_line as absent_text, fault_line as fault_text, usage_line as usage_text};
 ghost use Rattle.spec_program.specs.Outcomes.{status_in, text_in};
 ghost use Rattle.spec_program.specs.Outside.{in_memory, outside};
-ghost use Rattle.dl_commands.specs.Ended.{IsRefusalSaid};
+ghost use Rattle.dl_commands.specs.Ended.{IsLineSaid, IsRefusalSaid};
 ghost use Rattle.dl_commands.specs.Jobs.{writes_of};
 ghost use Rattle.dl_commands.specs.Performed.{IsPerformed};
 ghost use Rattle.dl_commands.specs.Texts.{texts};
@@ -48,10 +49,12 @@ pub fn delorean<F: Files, O: Sink>(
         → command_of (texts words.now) ≡ Some command → (F.seen files.old).known ≡ Some m → is_done result ≡ true
         → IsDone command m (F.seen files.new).known (O.taken out.old) (O.taken out.new) result }
 
-    // A drill is done, for every number and over any files, except if memory runs out or the sink fails; no file fails.
+    // A drill is done, for every number and over any files, except if memory runs out or the sink fails; no file fails or is
+    // changed.
     ensures drill { (number : ℕ) → command_of (texts words.now) ≡ Some (Drill number)
         → ((result ≡ Status.Done) ⊎ ((result ≡ Status.Sink) ⊎ (result ≡ Status.Memory)))
-        × ((F.seen files.new).faults ≡ (F.seen files.old).faults) }
+        × ((F.seen files.new).faults ≡ (F.seen files.old).faults)
+        × ((F.seen files.new).changes ≡ (F.seen files.old).changes) }
 
     // What each answer says.
     ensures stands { (m : Contents) → (F.seen files.old).known ≡ Some m
@@ -60,13 +63,12 @@ pub fn delorean<F: Files, O: Sink>(
         (outside (F.seen files.new) (O.taken out.new) (O.count out.new))
         result }
 
-    // The line of a refusal, and of a fault, is said whole where the sink's count did not rise.
+    // The line of a refusal, and of a fault, is said, whole where the sink's count did not rise.
     ensures whole { (m : Contents) → (F.seen files.old).known ≡ Some m
         → is_refusal result ≡ true → (Rose (O.count out.old) (O.count out.new) → ⊥)
         → TookAll (text_in (outcome_of (texts words.now) m)) (O.taken out.old) (O.taken out.new) }
-    ensures fault_said { result ≡ Status.Fault → (Rose (O.count out.old) (O.count out.new) → ⊥)
-        → (name : List ℕ) × IsLast (F.seen files.new).last name
-        × TookAll (fault_text name) (O.taken out.old) (O.taken out.new) }
+    ensures fault_said { result ≡ Status.Fault → (name : List ℕ) × IsLast (F.seen files.new).last name
+        × IsLineSaid (fault_text name) (O.taken out.old) (O.taken out.new) (O.count out.old) (O.count out.new) }
 
     // What each answer shows, also where no contents are known.
     ensures files_steady { is_of_files result ≡ false → (F.seen files.new).faults ≡ (F.seen files.old).faults }
@@ -83,15 +85,19 @@ pub fn delorean<F: Files, O: Sink>(
     ensures absent { (F.seen files.old).known ≡ None → result ≡ Status.Absent
         → Rose (F.seen files.old).faults (F.seen files.new).faults }
     ensures absent_said { (F.seen files.old).known ≡ None → result ≡ Status.Absent
-        → (Rose (O.count out.old) (O.count out.new) → ⊥)
         → (name : List ℕ) × IsLast (F.seen files.new).last name
-        × TookAll (absent_text name) (O.taken out.old) (O.taken out.new) }
+        × IsLineSaid (absent_text name) (O.taken out.old) (O.taken out.new) (O.count out.old) (O.count out.new) }
+    ensures memory_said { result ≡ Status.Memory → ((F.seen files.new).faults ≡ (F.seen files.old).faults → ⊥)
+        → (name : List ℕ) × IsLast (F.seen files.new).last name
+        × (Took (fault_text name) (O.taken out.old) (O.taken out.new) ⊎ Took (absent_text name) (O.taken out.old) (O.taken out.new)) }
 
     // The line of a refusal has the form of its kind.
     ensures line { is_refusal result ≡ true
         → IsRefusalSaid result (O.taken out.old) (O.taken out.new) (O.count out.old) (O.count out.new) }
 
-    // After a refusal, and after a read that failed, no file has changed.
+    // At most one call of the files fails, and none that changes a file comes after it. After a refusal, and after a read that
+    // failed, no file has changed.
+    ensures once { FailsOnce (F.seen files.old) (F.seen files.new) }
     ensures refused_kept { is_refusal result ≡ true → (F.seen files.new).changes ≡ (F.seen files.old).changes }
     ensures unread_kept { ((F.seen files.new).unread ≡ (F.seen files.old).unread → ⊥)
         → (F.seen files.new).changes ≡ (F.seen files.old).changes }
@@ -132,10 +138,11 @@ pub fn delorean_in_memory(
 
 // Writes the files, and then says the text.
 fn perform<F: Files, O: Sink>(alloc: Global, job: &Job, files: &mut F, out: &mut O) -> Status
-    ensures { IsPerformed job.now.diverged (writes_of job.now.writes.items) job.now.text.items
+    ensures ends { IsPerformed job.now.diverged (writes_of job.now.writes.items) job.now.text.items
         (outside (F.seen files.old) (O.taken out.old) (O.count out.old))
         (outside (F.seen files.new) (O.taken out.new) (O.count out.new))
         result }
+    ensures once { FailsOnce (F.seen files.old) (F.seen files.new) }
 {
     match write_all(files, &job.writes) {
         Ok(()) => say(out, job),

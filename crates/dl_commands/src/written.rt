@@ -1,7 +1,7 @@
 //! Writing the files of a command, in their order.
 ghost use Rattle.std.specs.Prelude.{OnOk, IfErr};
 ghost use Rattle.dl_files.specs.Contents.{with_file};
-ghost use Rattle.dl_files.specs.Seen.{IsWritten};
+ghost use Rattle.dl_files.specs.Seen.{FailsOnce, IsWritten};
 ghost use Rattle.dl_commands.specs.Jobs.{bytes_in, writes_of};
 ghost use Rattle.dl_commands.specs.Stops.{AreWritten, ContentStops, Stopped};
 
@@ -13,6 +13,7 @@ use dl_logio::write_log_file;
 pub fn write_all<F: Files>(files: &mut F, writes: &[NamedContent]) -> Result<(), Stop>
     ensures written { OnOk result (AreWritten (writes_of writes.now) (F.seen files.old) (F.seen files.new)) }
     ensures stop { IfErr result (Stopped (writes_of writes.now) (F.seen files.old) (F.seen files.new)) }
+    ensures once { FailsOnce (F.seen files.old) (F.seen files.new) }
 {
     for (i, write) in writes.iter().enumerate() {
         match write_content(files, write.name.as_str(), &write.content) {

@@ -8,7 +8,7 @@ use Rattle.std.proofs.lemmas.Map.Text.{is_eq-slice_cmp}
 use Rattle.std.proofs.lemmas.Slice.Eq.{bytes_eq-Decides}
 use Rattle.std.proofs.lemmas.List.{append_assoc}
 use Rattle.dl_files.specs.Contents.{Contents, more}
-use Rattle.dl_files.specs.Told.{Told, Reads, Grows, Spoils, holding}
+use Rattle.dl_files.specs.Told.{Told, Reads, Grows, Spoils, holding, opening}
 
 -- ---- files
 
@@ -54,7 +54,7 @@ Reads-trans None None (Some z) p q = absurd q
 Reads-trans None (Some y) c p q = absurd p
 Reads-trans (Some x) None c p q = absurd p
 Reads-trans (Some x) (Some y) None p q = absurd q
-Reads-trans (Some x) (Some y) (Some z) p q = record { holds = q.holds ∙ p.holds; failed = q.failed ∙ p.failed; interrupted = omega (arith, p.interrupted, q.interrupted) }
+Reads-trans (Some x) (Some y) (Some z) p q = record { holds = q.holds ∙ p.holds; opened = q.opened ∙ p.opened; failed = q.failed ∙ p.failed; interrupted = omega (arith, p.interrupted, q.interrupted) }
 
 -- ---- writing
 
@@ -63,6 +63,7 @@ Grows-one name bytes None b e = subst (Grows name bytes None) (sym e) tt
 Grows-one name bytes (Some t) b e = subst (Grows name bytes (Some t)) (sym e) (record {
   holds = λ m base is. ap (more name bytes) is ∙ more_of m name base bytes;
   others = λ other n. get_other t.holds name _ other n;
+  opened = refl;
   refused = le_refl (t.failed + t.interrupted);
 })
 
@@ -75,6 +76,7 @@ Grows-after name bytes (Some x) (Some y) None p q = absurd q
 Grows-after name bytes (Some x) (Some y) (Some z) p q = record {
   holds = λ m base is. q.holds m base (p.holds ∙ is);
   others = λ other n. q.others other n ∙ ap (λ (m : Contents). get m other) p.holds;
+  opened = q.opened ∙ p.opened;
   refused = omega (arith, p.failed, p.interrupted, q.refused);
 }
 
@@ -87,23 +89,25 @@ Grows-trans name xs ys (Some x) (Some y) None p q = absurd q
 Grows-trans name xs ys (Some x) (Some y) (Some z) p q = record {
   holds = λ m base is. q.holds m (base ++ xs) (p.holds m base is) ∙ ap (insert m name) (append_assoc base xs ys);
   others = λ other n. q.others other n ∙ p.others other n;
+  opened = q.opened ∙ p.opened;
   refused = omega (arith, p.refused, q.refused);
 }
 
 -- what failed after a file was made or opened at a name
 spoils_made : (f : Contents → Contents) (name to : List ℕ) → ((m : Contents) (other : List ℕ) → other ≢ name → get (f m) other ≡ get m other)
-    → (a b c : Option Told) → IfSome a (λ _. to ≡ name) → b ≡ holding f a → Spoils to b c → Spoils name a c
+    → (a b c : Option Told) → IfSome a (λ _. to ≡ name) → b ≡ holding f (opening a) → Spoils to b c → Spoils name (opening a) c
 spoils_made f name to keeps None b None is e q = tt
 spoils_made f name to keeps None b (Some z) is e q = absurd (subst (λ o. Spoils to o (Some z)) e q)
 spoils_made f name to keeps (Some x) b None is e q = absurd (subst (λ o. Spoils to o None) e q)
 spoils_made f name to keeps (Some x) b (Some z) is e q =
-    let p = subst (λ t. Spoils t (holding f (Some x)) (Some z)) is (subst (λ o. Spoils to o (Some z)) e q) in record {
+    let p = subst (λ t. Spoils t (holding f (opening (Some x))) (Some z)) is (subst (λ o. Spoils to o (Some z)) e q) in record {
       others = λ other n. p.others other n ∙ keeps x.holds other n;
+      opened = p.opened;
       refused = p.refused;
     }
 
 pub made_spoils : {X E : Type 0} (r : Result X E) (f : Contents → Contents) (name to : List ℕ) → ((m : Contents) (other : List ℕ) → other ≢ name → get (f m) other ≡ get m other)
-    → (a b c : Option Told) → IfSome a (λ _. to ≡ name) → b ≡ holding f a → OnErr r (Spoils to b c) → OnErr r (Spoils name a c)
+    → (a b c : Option Told) → IfSome a (λ _. to ≡ name) → b ≡ holding f (opening a) → OnErr r (Spoils to b c) → OnErr r (Spoils name (opening a) c)
 made_spoils (Ok x) f name to keeps a b c is e q = tt
 made_spoils (Err x) f name to keeps a b c is e q = spoils_made f name to keeps a b c is e q
 

@@ -1,44 +1,53 @@
 -- What is seen of files from outside, before a call and after it.
-use Rattle.std.specs.Prelude.{◌≡◌, ℕ, List, Option, None, Some, IfSome, IfNone}
+use Rattle.std.specs.Prelude.{◌≡◌, ◌≤◌, ◌⊎◌, ℕ, Bool, true, false, List, Option, None, Some, IfSome, IfNone}
 use Rattle.std.specs.FinMap.{get}
 use Rattle.dl_files.specs.Contents.{Contents, IsLast, IsThere, SameBut}
 use Rattle.dl_files.specs.Count.{Rose, next}
 use Rattle.dl_files.specs.declared.error.FileError.{FileError}
 
--- what the files hold, if they tell it; how many calls failed, and the name of the last that did, if it is told; and if
--- they don't tell what they hold, how many reads failed, and how many calls may have changed a file
+-- what the files hold, if they tell it; how many calls failed, and the name of the last that did, if it is told; if they
+-- don't tell what they hold, how many reads failed, and how many calls may have changed a file; and whether the last call
+-- that was to change a file failed
 pub record Seen : Type 0 where
   pub known : Option Contents
   pub faults : ℕ
   pub last : Option (List ℕ)
   pub unread : ℕ
   pub changes : ℕ
+  pub unwritten : Bool
 
--- files that tell what they hold, and have had that many faults
+-- files that tell what they hold, and have had that many faults, the last of them not in changing a file
 abbrev pub telling : Contents → (faults : ℕ) → (last : Option (List ℕ)) → Seen
-telling m faults last = record { known = Some m; faults = faults; last = last; unread = 0; changes = 0 }
+telling m faults last = record { known = Some m; faults = faults; last = last; unread = 0; changes = 0; unwritten = false }
 
--- of files that tell nothing, how many calls failed, how many of those were reads, and how many calls may have changed a file
+-- of files that tell nothing, how many calls failed, how many of those did for another reason than that a name is absent, how many
+-- were reads, how many calls may have changed a file, and whether the last of these failed
 pub record Counts : Type 0 where
   pub faults : ℕ
+  pub failed : ℕ
   pub unread : ℕ
   pub changes : ℕ
+  pub unwritten : Bool
 
 abbrev pub untold : Counts → Seen
-untold c = record { known = None; faults = c.faults; last = None; unread = c.unread; changes = c.changes }
+untold c = record { known = None; faults = c.faults; last = None; unread = c.unread; changes = c.changes; unwritten = c.unwritten }
 
 abbrev pub uncounted : Counts
-uncounted = record { faults = 0; unread = 0; changes = 0 }
+uncounted = record { faults = 0; failed = 0; unread = 0; changes = 0; unwritten = false }
 
--- the counts after a read that failed, a call that changed a file, and a call that was to change one but failed
+-- the counts after a read of an absent name, a read that failed otherwise, a call that changed a file, and a call that was to change
+-- one but failed
+abbrev pub with_absent : Counts → Counts
+with_absent c = record c { faults = next c.faults; unread = next c.unread }
+
 abbrev pub with_unread : Counts → Counts
-with_unread c = record { faults = next c.faults; unread = next c.unread; changes = c.changes }
+with_unread c = record c { faults = next c.faults; failed = next c.failed; unread = next c.unread }
 
 abbrev pub with_change : Counts → Counts
-with_change c = record { faults = c.faults; unread = c.unread; changes = next c.changes }
+with_change c = record c { changes = next c.changes; unwritten = false }
 
 abbrev pub with_unwritten : Counts → Counts
-with_unwritten c = record { faults = next c.faults; unread = c.unread; changes = next c.changes }
+with_unwritten c = record c { faults = next c.faults; failed = next c.failed; changes = next c.changes; unwritten = true }
 
 -- ---- reading
 
@@ -46,10 +55,12 @@ with_unwritten c = record { faults = next c.faults; unread = c.unread; changes =
 pub record IsKept (old new : Seen) : Type 0 where
   pub known : new.known ≡ old.known
   pub changes : new.changes ≡ old.changes
+  pub unwritten : new.unwritten ≡ old.unwritten
 
--- a read of that name failed
+-- a read of that name failed, once
 pub record IsUnread (name : List ℕ) (old new : Seen) : Type 0 where
   pub counted : Rose old.faults new.faults
+  pub once : new.faults ≤ next old.faults
   pub named : IsLast new.last name
   pub kept : IsKept old new
   pub unread : IfNone old.known (Rose old.unread new.unread)
@@ -78,17 +89,28 @@ pub record IsWritten (now : Option Contents) (old new : Seen) : Type 0 where
   pub last : new.last ≡ old.last
   pub unread : new.unread ≡ old.unread
   pub changed : IsChange old new
+  pub unwritten : new.unwritten ≡ false
 
--- a write to that name failed: what it holds isn't known, and nothing else has changed
+-- a write to that name failed, once: what it holds isn't known, and nothing else has changed
 pub record IsUnwritten (name : List ℕ) (old new : Seen) : Type 0 where
   pub counted : Rose old.faults new.faults
+  pub once : new.faults ≤ next old.faults
   pub named : IsLast new.last name
   pub others : SameBut name old.known new.known
   pub unread : new.unread ≡ old.unread
   pub changed : IsChange old new
+  pub unwritten : new.unwritten ≡ true
 
 -- a write to that name stopped for this reason
 abbrev pub WriteStops : (name : List ℕ) → (old new : Seen) → FileError → Type 0
 WriteStops name old new FileError.Failed = IsUnwritten name old new
 WriteStops name old new FileError.Absent = ⊥
 WriteStops name old new FileError.OutOfMemory = new ≡ old
+
+-- ---- any number of calls
+
+-- at most one call failed, and after it none changed a file, or was to: either no file has changed, or it was itself the last
+-- that was to change one
+pub record FailsOnce (old new : Seen) : Type 0 where
+  pub once : new.faults ≤ next old.faults
+  pub last : (new.faults ≡ old.faults → ⊥) → IsKept old new ⊎ (new.unwritten ≡ true)

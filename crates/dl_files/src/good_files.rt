@@ -49,6 +49,8 @@ impl GoodFiles {
 impl Files for GoodFiles {
     ghost seen = { λ files. telling files 0 None };
 
+    ghost largest = { λ _. 0 };
+
     fn faults(&self) -> u64
         ensures { result ≡ 0 }
     {

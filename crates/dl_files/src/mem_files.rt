@@ -1,5 +1,5 @@
 //! Files in memory whose calls fail as a list says.
-ghost use Rattle.std.specs.Prelude.{◌≡◌, ◌≢◌, ◌↔◌, ◌≤◌, [], length, take, None, Some, IsSome, IfOk, IfErr, OnOk, OnErr, IsErrOf};
+ghost use Rattle.std.specs.Prelude.{◌≡◌, ◌≢◌, ◌↔◌, ◌≤◌, [], length, max, take, true, false, None, Some, IsSome, IfOk, IfErr, OnOk, OnErr, IsErrOf};
 ghost use Rattle.std.specs.FinMap.{get, insert};
 ghost use Rattle.dl_files.specs.Calls.{unmade, FailsNext, passed, faulted};
 ghost use Rattle.dl_files.specs.Contents.{part_of, more, SameBut};
@@ -12,7 +12,7 @@ use crate::{FileError, Files, GoodFiles};
 use std::alloc::{AllocError, Global};
 use std::marker::Model;
 
-/// Files in memory some of whose calls fail. Calls that read, write, create or append are numbered
+/// Files in memory some of whose calls fail, and which keep the size of the largest piece that was asked for. Calls that read, write, create or append are numbered
 /// together, from 0 in the order in which they are made. A read of an absent name takes no number, since
 /// the name is looked up first; nor does a call for which memory ran out.
 #[derive(Drop)]
@@ -21,6 +21,10 @@ pub struct MemFiles {
     calls: Calls,
     // The place of the last fault's name in the store.
     last: Option<usize>,
+    // Whether the last call that was to change a file failed.
+    unwritten: bool,
+    // The size of the largest piece that was asked for.
+    largest: usize,
 }
 
 impl Model for MemFiles {
@@ -36,6 +40,8 @@ impl Model for MemFiles {
       contents = contents_of files.store;
       calls = files.calls;
       last_fault = option_and_then (name_at files.store) files.last;
+      unwritten = files.unwritten;
+      largest = files.largest;
     } };
 
     ghost invariant = { λ files. IfSome files.last (λ place. place < length files.store) };
@@ -49,6 +55,8 @@ impl MemFiles {
           contents = files;
           calls = unmade failing.now;
           last_fault = None;
+          unwritten = false;
+          largest = 0;
         }) }
         ensures only { IfErr result (λ e. e ≡ FileError.OutOfMemory) }
     {
@@ -56,30 +64,39 @@ impl MemFiles {
             calls: Calls::new(alloc, failing)?,
             store: files.into_store(),
             last: None,
+            unwritten: false,
+            largest: 0,
         })
     }
 
-    // The next call fails at the name, which is added without bytes if it is new.
+    // The next call, which is to change a file, fails at the name, which is added without bytes if it is new.
     fn fault(&mut self, name: &str) -> Result<(), AllocError>
         ensures others { OnOk result
             (SameBut name.now (Some self.old.contents) (Some self.new.contents)) }
         ensures fault { OnOk result (self.new ≡ record self.new {
           calls = faulted self.old.calls;
           last_fault = Some name.now;
+          unwritten = true;
         }) }
+        ensures asked { self.new.largest ≡ self.old.largest }
         ensures same { OnErr result (self.new ≡ self.old) }
     {
         let place = self.store.touch(name)?;
         self.calls.fault();
         self.last = Some(place);
+        self.unwritten = true;
         Ok(())
     }
 }
 
 impl Files for MemFiles {
-    ghost seen = { λ files. telling files.contents files.calls.faults files.last_fault };
+    ghost seen = { λ files. record (telling files.contents files.calls.faults files.last_fault) { unwritten = files.unwritten } };
 
-    fn faults(&self) -> u64 {
+    ghost largest = { λ files. files.largest };
+
+    fn faults(&self) -> u64
+        ensures { result ≡ self.now.calls.faults }
+    {
         self.calls.faults()
     }
 
@@ -94,6 +111,7 @@ impl Files for MemFiles {
           last_fault = Some name.now;
         } }
         ensures same { IfErr result (λ e. e ≢ FileError.Failed → self.new ≡ self.old) }
+        ensures asked { self.new.largest ≡ self.old.largest }
     {
         let Some(place) = self.store.place(name) else {
             return Err(FileError::Absent);
@@ -116,13 +134,20 @@ impl Files for MemFiles {
         ensures no_memory { IfErr result (λ e. e ≢ FileError.OutOfMemory) }
         ensures passes { OnOk result (FailsNext self.old.calls → ⊥) }
         ensures fails { IsErrOf result FileError.Failed → FailsNext self.old.calls }
-        ensures ok { OnOk result (self.new ≡ record self.old { calls = passed self.old.calls }) }
+        ensures ok { OnOk result (self.new ≡ record self.old {
+          calls = passed self.old.calls;
+          largest = max self.old.largest (length into.old);
+        }) }
         ensures fault { IsErrOf result FileError.Failed → self.new ≡ record self.old {
           calls = faulted self.old.calls;
           last_fault = Some name.now;
+          largest = max self.old.largest (length into.old);
         } }
-        ensures same { IfErr result (λ e. e ≢ FileError.Failed → self.new ≡ self.old) }
+        ensures same { IfErr result (λ e. e ≢ FileError.Failed
+            → self.new ≡ record self.old { largest = max self.old.largest (length into.old) }) }
+        ensures asked { self.new.largest ≡ max self.old.largest (length into.old) }
     {
+        self.largest = self.largest.max(into.len());
         let Some(place) = self.store.place(name) else {
             return Err(FileError::Absent);
         };
@@ -142,15 +167,18 @@ impl Files for MemFiles {
         ensures written { OnOk result (self.new ≡ record self.old {
           contents = insert self.old.contents name.now bytes.now;
           calls = passed self.old.calls;
+          unwritten = false;
         }) }
         ensures others { IsErrOf result FileError.Failed
             → SameBut name.now (Some self.old.contents) (Some self.new.contents) }
         ensures fault { IsErrOf result FileError.Failed → self.new ≡ record self.new {
           calls = faulted self.old.calls;
           last_fault = Some name.now;
+          unwritten = true;
         } }
         ensures same { IsErrOf result FileError.OutOfMemory → self.new ≡ self.old }
         ensures not_absent { IfErr result (λ e. e ≢ FileError.Absent) }
+        ensures asked { self.new.largest ≡ self.old.largest }
     {
         if self.calls.fails_next() {
             self.fault(name)?;
@@ -158,6 +186,7 @@ impl Files for MemFiles {
         }
         self.store.put(name, bytes)?;
         self.calls.pass();
+        self.unwritten = false;
         Ok(())
     }
 
@@ -167,15 +196,18 @@ impl Files for MemFiles {
         ensures created { OnOk result (self.new ≡ record self.old {
           contents = insert self.old.contents name.now [];
           calls = passed self.old.calls;
+          unwritten = false;
         }) }
         ensures others { IsErrOf result FileError.Failed
             → SameBut name.now (Some self.old.contents) (Some self.new.contents) }
         ensures fault { IsErrOf result FileError.Failed → self.new ≡ record self.new {
           calls = faulted self.old.calls;
           last_fault = Some name.now;
+          unwritten = true;
         } }
         ensures same { IsErrOf result FileError.OutOfMemory → self.new ≡ self.old }
         ensures not_absent { IfErr result (λ e. e ≢ FileError.Absent) }
+        ensures asked { self.new.largest ≡ self.old.largest }
     {
         self.write(name, b"")
     }
@@ -186,15 +218,18 @@ impl Files for MemFiles {
         ensures appended { OnOk result (self.new ≡ record self.old {
           contents = more name.now bytes.now self.old.contents;
           calls = passed self.old.calls;
+          unwritten = false;
         }) }
         ensures others { IsErrOf result FileError.Failed
             → SameBut name.now (Some self.old.contents) (Some self.new.contents) }
         ensures fault { IsErrOf result FileError.Failed → self.new ≡ record self.new {
           calls = faulted self.old.calls;
           last_fault = Some name.now;
+          unwritten = true;
         } }
         ensures same { IsErrOf result FileError.OutOfMemory → self.new ≡ self.old }
         ensures not_absent { IfErr result (λ e. e ≢ FileError.Absent) }
+        ensures asked { self.new.largest ≡ self.old.largest }
     {
         if self.calls.fails_next() {
             self.fault(name)?;
@@ -202,6 +237,7 @@ impl Files for MemFiles {
         }
         self.store.append(name, bytes)?;
         self.calls.pass();
+        self.unwritten = false;
         Ok(())
     }
 }

@@ -3,7 +3,7 @@ ghost use Rattle.std.specs.Prelude.{◌≡◌, ◌≢◌, ◌↔◌, ◌<◌, �
 ghost use Rattle.std.specs.FinMap.{get};
 ghost use Rattle.std.specs.IoError.{error_kind};
 ghost use Rattle.dl_files.specs.Contents.{Holds, HoldsAt, with_file, with_more};
-ghost use Rattle.dl_files.specs.Told.{CantRead, Reads, Refuses, Spoils, held};
+ghost use Rattle.dl_files.specs.Told.{CantRead, Fits, IsOpenedOnce, Reads, Refuses, Spoils, held, opening};
 
 use crate::streams::{Unread, fill, read_whole, write_whole};
 use crate::{FileError, System};
@@ -21,11 +21,12 @@ pub(crate) fn read_file<S: System>(
     ensures size { IfOk result (λ bytes. vec_len bytes ≤ 2 ^ 30) }
     ensures absent { IfSome (held (S.told system.old))
         (λ m. IsErrOf result FileError.Absent ↔ (get m name.now ≡ None)) }
-    ensures ok { OnOk result (Reads (S.told system.old) (S.told system.new)) }
+    ensures ok { OnOk result (Reads (opening (S.told system.old)) (S.told system.new)) }
     ensures failed { IsErrOf result FileError.Failed
-        → CantRead name.now (S.told system.old) (S.told system.new) }
+        → CantRead name.now (opening (S.told system.old)) (S.told system.new) }
     ensures passed { IfErr result (λ e. e ≢ FileError.Failed
-        → Reads (S.told system.old) (S.told system.new)) }
+        → Reads (opening (S.told system.old)) (S.told system.new)) }
+    ensures small { IsErrOf result FileError.OutOfMemory → Fits (held (S.told system.old)) name.now }
 {
     let mut file = match system.open(name) {
         Ok(file) => file,
@@ -50,10 +51,11 @@ pub(crate) fn read_part<S: System>(
     ensures most { IfOk result (λ n. n ≤ length into.old) }
     ensures absent { IfSome (held (S.told system.old))
         (λ m. IsErrOf result FileError.Absent ↔ (get m name.now ≡ None)) }
-    ensures ok { OnOk result (Reads (S.told system.old) (S.told system.new)) }
-    ensures failed { IsErrOf result FileError.Failed → Refuses (S.told system.old) (S.told system.new) }
+    ensures ok { OnOk result (Reads (opening (S.told system.old)) (S.told system.new)) }
+    ensures failed { IsErrOf result FileError.Failed
+        → Refuses (opening (S.told system.old)) (S.told system.new) }
     ensures passed { IfErr result (λ e. e ≢ FileError.Failed
-        → Reads (S.told system.old) (S.told system.new)) }
+        → Reads (opening (S.told system.old)) (S.told system.new)) }
     ensures no_memory { IfErr result (λ e. e ≢ FileError.OutOfMemory) }
 {
     let mut file = match system.open(name) {
@@ -76,7 +78,8 @@ pub(crate) fn read_part<S: System>(
 pub(crate) fn write_file<S: System>(system: &mut S, name: &str, bytes: &[u8]) -> io::Result<()>
     ensures written { OnOk result
         (held (S.told system.new) ≡ with_file name.now bytes.now (held (S.told system.old))) }
-    ensures refused { OnErr result (Spoils name.now (S.told system.old) (S.told system.new)) }
+    ensures opened { OnOk result (IsOpenedOnce (S.told system.old) (S.told system.new)) }
+    ensures refused { OnErr result (Spoils name.now (opening (S.told system.old)) (S.told system.new)) }
 {
     let mut file = system.create(name)?;
     write_whole(system, &mut file, bytes)
@@ -86,7 +89,8 @@ pub(crate) fn write_file<S: System>(system: &mut S, name: &str, bytes: &[u8]) ->
 pub(crate) fn append_file<S: System>(system: &mut S, name: &str, bytes: &[u8]) -> io::Result<()>
     ensures written { OnOk result
         (held (S.told system.new) ≡ with_more name.now bytes.now (held (S.told system.old))) }
-    ensures refused { OnErr result (Spoils name.now (S.told system.old) (S.told system.new)) }
+    ensures opened { OnOk result (IsOpenedOnce (S.told system.old) (S.told system.new)) }
+    ensures refused { OnErr result (Spoils name.now (opening (S.told system.old)) (S.told system.new)) }
 {
     let mut file = system.add(name)?;
     write_whole(system, &mut file, bytes)

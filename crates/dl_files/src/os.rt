@@ -70,6 +70,8 @@ impl<R: Print> Output for Os<R> {
 
     ghost holds = { λ _. None };
 
+    ghost refusals = { λ _. 0 };
+
     fn write(&mut self, bytes: &[u8]) -> io::Result<usize> {
         io::writer(&self.rt).write(bytes)
     }

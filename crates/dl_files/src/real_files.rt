@@ -3,8 +3,8 @@
 ghost use Rattle.std.specs.Prelude.{◌≡◌, ◌≢◌, ◌≤◌, ◌^◌, ◌↔◌, [], None, length, take, vec_len, IfOk, IfErr, IfSome, IsOk, OnOk, OnErr, IsErrOf};
 ghost use Rattle.std.specs.FinMap.{get};
 ghost use Rattle.dl_files.specs.Contents.{Begins, Holds, HoldsAt, with_file, with_more};
-ghost use Rattle.dl_files.specs.Seen.{uncounted, untold, with_change, with_unread, with_unwritten};
-ghost use Rattle.dl_files.specs.Told.{CantRead, Reads, Refuses, Spoils, held};
+ghost use Rattle.dl_files.specs.Seen.{uncounted, with_absent, with_change, with_unread, with_unwritten};
+ghost use Rattle.dl_files.specs.Told.{CantRead, Fits, IsOpenedOnce, IsReadAs, Reads, Refuses, Spoils, held, opening, seen_by};
 
 use crate::opened::{append_file, read_file, read_part, write_file};
 use crate::{Beginning, FileError, Files, Os, System};
@@ -19,8 +19,12 @@ use std::{io, rt};
 pub struct SystemFiles<S: System> {
     system: S,
     faults: u64,
+    // Those of them that aren't by absent names.
+    failed: u64,
     unread: u64,
     changes: u64,
+    // Whether the last call that was to change a file failed.
+    unwritten: bool,
 }
 
 /// The files of the system that `R` reaches.
@@ -33,10 +37,20 @@ impl<S: System> Model for SystemFiles<S> {
 
     ghost coded = { outside_code };
 
+    ghost use Rattle.std.specs.Prelude.{◌≤◌};
+
     ghost view = { λ files. record {
       told = S.told files.system;
-      counts = record { faults = files.faults; unread = files.unread; changes = files.changes };
+      counts = record {
+        faults = files.faults;
+        failed = files.failed;
+        unread = files.unread;
+        changes = files.changes;
+        unwritten = files.unwritten;
+      };
     } };
+
+    ghost invariant = { λ files. files.failed ≤ files.faults };
 }
 
 impl<R: rt::Files> SystemFiles<Os<R>> {
@@ -56,16 +70,27 @@ impl<S: System> SystemFiles<S> {
         Self {
             system,
             faults: 0,
+            failed: 0,
             unread: 0,
             changes: 0,
+            unwritten: false,
         }
     }
 
-    // A read that failed, or that found no file.
+    // A read that found no file.
+    fn absent(&mut self)
+        ensures { self.new ≡ record self.old { counts = with_absent self.old.counts } }
+    {
+        self.faults = self.faults.saturating_add(1);
+        self.unread = self.unread.saturating_add(1);
+    }
+
+    // A read that failed.
     fn unread(&mut self)
         ensures { self.new ≡ record self.old { counts = with_unread self.old.counts } }
     {
         self.faults = self.faults.saturating_add(1);
+        self.failed = self.failed.saturating_add(1);
         self.unread = self.unread.saturating_add(1);
     }
 
@@ -73,12 +98,15 @@ impl<S: System> SystemFiles<S> {
     fn settle_read<T: Drop>(&mut self, read: Result<T, FileError>) -> Result<T, FileError>
         ensures answer { result ≡ read }
         ensures ok { OnOk result (self.new ≡ self.old) }
-        ensures refused { IfErr result (λ e. e ≢ FileError.OutOfMemory
-            → self.new ≡ record self.old { counts = with_unread self.old.counts }) }
+        ensures unfound { IsErrOf result FileError.Absent
+            → self.new ≡ record self.old { counts = with_absent self.old.counts } }
+        ensures refused { IsErrOf result FileError.Failed
+            → self.new ≡ record self.old { counts = with_unread self.old.counts } }
         ensures memory { IsErrOf result FileError.OutOfMemory → self.new ≡ self.old }
     {
         match read {
-            Err(FileError::Failed | FileError::Absent) => self.unread(),
+            Err(FileError::Absent) => self.absent(),
+            Err(FileError::Failed) => self.unread(),
             Ok(_) | Err(FileError::OutOfMemory) => {}
         }
         read
@@ -92,10 +120,12 @@ impl<S: System> SystemFiles<S> {
         ensures refused { OnErr result (self.new ≡ record self.old { counts = with_unwritten self.old.counts }) }
     {
         self.changes = self.changes.saturating_add(1);
+        self.unwritten = done.is_err();
         match done {
             Ok(()) => Ok(()),
             Err(_) => {
                 self.faults = self.faults.saturating_add(1);
+                self.failed = self.failed.saturating_add(1);
                 Err(FileError::Failed)
             }
         }
@@ -103,9 +133,16 @@ impl<S: System> SystemFiles<S> {
 }
 
 impl<S: System> Files for SystemFiles<S> {
-    ghost seen = { λ files. untold files.counts };
+    ghost seen = { λ files. seen_by files.told files.counts };
 
-    fn faults(&self) -> u64 {
+    ghost largest = { λ _. 0 };
+
+    fn faults(&self) -> u64
+        ensures faults { result ≡ self.now.counts.faults }
+        ensures counted { (seen_by self.now.told self.now.counts).faults ≤ result }
+        ensures untold { (seen_by self.now.told self.now.counts).known ≡ None
+            → result ≡ (seen_by self.now.told self.now.counts).faults }
+    {
         self.faults
     }
 
@@ -114,12 +151,15 @@ impl<S: System> Files for SystemFiles<S> {
         ensures size { IfOk result (λ bytes. vec_len bytes ≤ 2 ^ 30) }
         ensures absent { IfSome (held self.old.told)
             (λ m. IsErrOf result FileError.Absent ↔ (get m name.now ≡ None)) }
-        ensures told { OnOk result (Reads self.old.told self.new.told) }
-        ensures failed { IsErrOf result FileError.Failed → CantRead name.now self.old.told self.new.told }
-        ensures passed { IfErr result (λ e. e ≢ FileError.Failed → Reads self.old.told self.new.told) }
+        ensures told { OnOk result (Reads (opening self.old.told) self.new.told) }
+        ensures failed { IsErrOf result FileError.Failed
+            → CantRead name.now (opening self.old.told) self.new.told }
+        ensures passed { IfErr result (λ e. e ≢ FileError.Failed
+            → Reads (opening self.old.told) self.new.told) }
+        ensures small { IsErrOf result FileError.OutOfMemory → Fits (held self.old.told) name.now }
         ensures ok { OnOk result (self.new.counts ≡ self.old.counts) }
-        ensures refused { IfErr result (λ e. e ≢ FileError.OutOfMemory
-            → self.new.counts ≡ with_unread self.old.counts) }
+        ensures unfound { IsErrOf result FileError.Absent → self.new.counts ≡ with_absent self.old.counts }
+        ensures refused { IsErrOf result FileError.Failed → self.new.counts ≡ with_unread self.old.counts }
         ensures memory { IsErrOf result FileError.OutOfMemory → self.new.counts ≡ self.old.counts }
     {
         let read = read_file(&mut self.system, name, alloc);
@@ -132,12 +172,15 @@ impl<S: System> Files for SystemFiles<S> {
         ensures most { IfOk result (λ n. n ≤ length into.old) }
         ensures absent { IfSome (held self.old.told)
             (λ m. IsErrOf result FileError.Absent ↔ (get m name.now ≡ None)) }
-        ensures told { OnOk result (Reads self.old.told self.new.told) }
-        ensures failed { IsErrOf result FileError.Failed → Refuses self.old.told self.new.told }
-        ensures passed { IfErr result (λ e. e ≢ FileError.Failed → Reads self.old.told self.new.told) }
+        ensures told { OnOk result (Reads (opening self.old.told) self.new.told) }
+        ensures failed { IsErrOf result FileError.Failed
+            → Refuses (opening self.old.told) self.new.told }
+        ensures passed { IfErr result (λ e. e ≢ FileError.Failed
+            → Reads (opening self.old.told) self.new.told) }
         ensures ok { OnOk result (self.new.counts ≡ self.old.counts) }
         ensures no_memory { IfErr result (λ e. e ≢ FileError.OutOfMemory) }
-        ensures refused { OnErr result (self.new.counts ≡ with_unread self.old.counts) }
+        ensures unfound { IsErrOf result FileError.Absent → self.new.counts ≡ with_absent self.old.counts }
+        ensures refused { IsErrOf result FileError.Failed → self.new.counts ≡ with_unread self.old.counts }
     {
         let read = read_part(&mut self.system, name, offset, into);
         self.settle_read(read)
@@ -146,14 +189,18 @@ impl<S: System> Files for SystemFiles<S> {
     // Of a pipe or a device only the next part can be read.
     fn begin(&mut self, alloc: Global, name: &str, into: &mut [u8]) -> Result<Beginning, FileError>
         ensures begins { IfOk result (Begins (held self.old.told) name.now (length into.old) into.new) }
+        ensures whole { IfOk result (IsReadAs self.old.told name.now) }
         ensures absent { IfSome (held self.old.told)
             (λ m. IsErrOf result FileError.Absent ↔ (get m name.now ≡ None)) }
-        ensures told { OnOk result (Reads self.old.told self.new.told) }
-        ensures failed { IsErrOf result FileError.Failed → CantRead name.now self.old.told self.new.told }
-        ensures passed { IfErr result (λ e. e ≢ FileError.Failed → Reads self.old.told self.new.told) }
+        ensures told { OnOk result (Reads (opening self.old.told) self.new.told) }
+        ensures failed { IsErrOf result FileError.Failed
+            → CantRead name.now (opening self.old.told) self.new.told }
+        ensures passed { IfErr result (λ e. e ≢ FileError.Failed
+            → Reads (opening self.old.told) self.new.told) }
+        ensures small { IsErrOf result FileError.OutOfMemory → Fits (held self.old.told) name.now }
         ensures ok { OnOk result (self.new.counts ≡ self.old.counts) }
-        ensures refused { IfErr result (λ e. e ≢ FileError.OutOfMemory
-            → self.new.counts ≡ with_unread self.old.counts) }
+        ensures unfound { IsErrOf result FileError.Absent → self.new.counts ≡ with_absent self.old.counts }
+        ensures refused { IsErrOf result FileError.Failed → self.new.counts ≡ with_unread self.old.counts }
         ensures memory { IsErrOf result FileError.OutOfMemory → self.new.counts ≡ self.old.counts }
     {
         if self.system.is_file(name) {
@@ -167,7 +214,8 @@ impl<S: System> Files for SystemFiles<S> {
     fn write(&mut self, name: &str, bytes: &[u8]) -> Result<(), FileError>
         ensures written { OnOk result
             (held self.new.told ≡ with_file name.now bytes.now (held self.old.told)) }
-        ensures spoiled { OnErr result (Spoils name.now self.old.told self.new.told) }
+        ensures opened { OnOk result (IsOpenedOnce self.old.told self.new.told) }
+        ensures spoiled { OnErr result (Spoils name.now (opening self.old.told) self.new.told) }
         ensures ok { OnOk result (self.new.counts ≡ with_change self.old.counts) }
         ensures only { IfErr result (λ e. e ≡ FileError.Failed) }
         ensures refused { OnErr result (self.new.counts ≡ with_unwritten self.old.counts) }
@@ -179,7 +227,8 @@ impl<S: System> Files for SystemFiles<S> {
     fn create(&mut self, name: &str) -> Result<(), FileError>
         ensures created { OnOk result
             (held self.new.told ≡ with_file name.now [] (held self.old.told)) }
-        ensures spoiled { OnErr result (Spoils name.now self.old.told self.new.told) }
+        ensures opened { OnOk result (IsOpenedOnce self.old.told self.new.told) }
+        ensures spoiled { OnErr result (Spoils name.now (opening self.old.told) self.new.told) }
         ensures ok { OnOk result (self.new.counts ≡ with_change self.old.counts) }
         ensures only { IfErr result (λ e. e ≡ FileError.Failed) }
         ensures refused { OnErr result (self.new.counts ≡ with_unwritten self.old.counts) }
@@ -190,7 +239,8 @@ impl<S: System> Files for SystemFiles<S> {
     fn append(&mut self, name: &str, bytes: &[u8]) -> Result<(), FileError>
         ensures appended { OnOk result
             (held self.new.told ≡ with_more name.now bytes.now (held self.old.told)) }
-        ensures spoiled { OnErr result (Spoils name.now self.old.told self.new.told) }
+        ensures opened { OnOk result (IsOpenedOnce self.old.told self.new.told) }
+        ensures spoiled { OnErr result (Spoils name.now (opening self.old.told) self.new.told) }
         ensures ok { OnOk result (self.new.counts ≡ with_change self.old.counts) }
         ensures only { IfErr result (λ e. e ≡ FileError.Failed) }
         ensures refused { OnErr result (self.new.counts ≡ with_unwritten self.old.counts) }

@@ -1,14 +1,14 @@
 //! A sink over an output, which is all that is trusted: how bytes are handed to it is proved of any output that tells what it
 //! holds.
-ghost use Rattle.std.specs.Prelude.{◌≡◌, None, ◌≤◌, ◌<◌, length, IfOk, IfErr, OnOk, OnErr};
-ghost use Rattle.dl_files.specs.Count.{next};
+ghost use Rattle.std.specs.Prelude.{◌≡◌, None, ◌≤◌, ◌<◌, length, IfOk, IfErr, IfSome, OnOk, OnErr};
+ghost use Rattle.dl_files.specs.Count.{Rose, next};
 ghost use Rattle.dl_files.specs.Taken.{with_taken};
 
 use crate::streams::write_some;
 use crate::{Os, Output, Sink, SinkError};
 use std::marker::Model;
 
-/// An output as a sink, seen as what it holds, if it tells, and its count of faults. It keeps nothing, so it needs no memory.
+/// An output as a sink, seen as what it holds, if it tells, how many of its calls were refused, and its count of faults. It keeps nothing, so it needs no memory.
 #[derive(Drop)]
 pub struct OutputSink<O: Output> {
     output: O,
@@ -23,13 +23,17 @@ impl<O: Output> Model for OutputSink<O> {
 
     ghost Value = { Out };
 
-    ghost view = { λ sink. record { taken = O.holds sink.output; faults = sink.faults } };
+    ghost view = { λ sink. record {
+      taken = O.holds sink.output;
+      refusals = O.refusals sink.output;
+      faults = sink.faults;
+    } };
 }
 
 impl<R: Print> OutputSink<Os<R>> {
     /// The standard output of `rt`, with no fault yet.
     pub fn new(rt: R) -> Self
-        ensures { result ≡ record { taken = None; faults = 0 } }
+        ensures { result ≡ record { taken = None; refusals = 0; faults = 0 } }
     {
         Self::over(Os::new(rt))
     }
@@ -38,7 +42,7 @@ impl<R: Print> OutputSink<Os<R>> {
 impl<O: Output> OutputSink<O> {
     /// This output, with no fault yet.
     pub fn over(output: O) -> Self
-        ensures { result ≡ record { taken = O.holds output; faults = 0 } }
+        ensures { result ≡ record { taken = O.holds output; refusals = O.refusals output; faults = 0 } }
     {
         Self { output, faults: 0 }
     }
@@ -61,6 +65,8 @@ impl<O: Output> Sink for OutputSink<O> {
         ensures ok { OnOk result (self.new.faults ≡ self.old.faults) }
         ensures only { IfErr result (λ e. e ≡ SinkError.Failed) }
         ensures refused { OnErr result (self.new.faults ≡ next self.old.faults) }
+        ensures counted { IfSome self.old.taken
+            (λ _. OnErr result (Rose self.old.refusals self.new.refusals)) }
     {
         match write_some(&mut self.output, bytes) {
             Ok(n) => Ok(n),

@@ -1,14 +1,15 @@
 //! How bytes go through files of a system, and to its output: all of them, in as many calls as that takes, going on after
 //! an interruption.
-ghost use Rattle.std.specs.Prelude.{◌≡◌, ◌≢◌, ℕ, ◌<◌, ◌≤◌, ◌^◌, length, take, vec_len, IfOk, IfErr, OnOk, OnErr, IsErr, IsErrOf};
+ghost use Rattle.std.specs.Prelude.{◌≡◌, ◌≢◌, ℕ, ◌<◌, ◌≤◌, ◌^◌, ◌++◌, length, take, vec_len, None, IfOk, IfErr, IfSome, OnOk, OnErr, IsErr, IsErrOf};
 ghost use Rattle.std.specs.IoError.{error_kind};
 ghost use Rattle.std.specs.Io.KnownBytes.{Consumes, IsAtEnd, Keeps, ReadConsumes};
-ghost use Rattle.dl_files.specs.Streams.{IsLarge};
+ghost use Rattle.dl_files.specs.Count.{Rose};
+ghost use Rattle.dl_files.specs.Streams.{IsLarge, IsSmall};
 ghost use Rattle.dl_files.specs.Taken.{with_taken};
 ghost use Rattle.dl_files.specs.Told.{Grows, Reads, Refuses, Spoils};
 
 use crate::{Output, System};
-use std::alloc::{AllocError, Global};
+use std::alloc::Global;
 use std::io;
 use std::io::ErrorKind;
 
@@ -40,18 +41,7 @@ impl From<io::Error> for Unread {
     }
 }
 
-impl From<AllocError> for Unread {
-    ghost use Rattle.std.specs.Prelude.{◌≡◌};
-    ghost use Rattle.dl_files.specs.declared.streams.Unread.TheVariants.{OutOfMemory};
-
-    ghost from_gives = { λ _ unread. unread ≡ OutOfMemory };
-
-    fn from(_error: AllocError) -> Unread {
-        Unread::OutOfMemory
-    }
-}
-
-/// All bytes that the file has left.
+/// All bytes that the file has left. Also when memory has run out it goes on, to see whether there are too many.
 pub(crate) fn read_whole<S: System>(
     system: &mut S,
     file: &mut S::Reader,
@@ -61,23 +51,41 @@ pub(crate) fn read_whole<S: System>(
     ensures ended { OnOk result (IsAtEnd (S.left file.new)) }
     ensures size { IfOk result (λ bytes. vec_len bytes ≤ 2 ^ 30) }
     ensures large { IfErr result (λ e. e ≡ Unread.TooLarge → IsLarge (S.left file.old)) }
+    ensures small { IfErr result (λ e. e ≡ Unread.OutOfMemory → IsSmall (S.left file.old)) }
     ensures ok { OnOk result (Reads (S.told system.old) (S.told system.new)) }
     ensures refused { IfErr result (λ e. e ≢ Unread.TooLarge → e ≢ Unread.OutOfMemory
         → Refuses (S.told system.old) (S.told system.new)) }
     ensures too_large { IfErr result (λ e. e ≡ Unread.TooLarge → Reads (S.told system.old) (S.told system.new)) }
     ensures memory { IfErr result (λ e. e ≡ Unread.OutOfMemory → Reads (S.told system.old) (S.told system.new)) }
 {
-    let mut bytes = Vec::new(alloc);
+    let mut kept = Some(Vec::new(alloc));
+    let mut count = 0;
     let mut piece = [0u8; PIECE];
     // Each turn but the last takes a whole piece.
-    while bytes.len() <= LARGEST {
+    while count <= LARGEST {
         let n = fill(system, file, &mut piece)?;
-        bytes.extend_from_slice(&piece[..n])?;
-        if n < PIECE && bytes.len() <= LARGEST {
-            return Ok(bytes);
+        kept = keep(kept, &piece[..n]);
+        count += n;
+        if n < PIECE && count <= LARGEST {
+            return match kept {
+                Some(bytes) => Ok(bytes),
+                None => Err(Unread::OutOfMemory),
+            };
         }
     }
     Err(Unread::TooLarge)
+}
+
+// These bytes and the next ones, as long as memory lasts.
+fn keep(kept: Option<Vec<u8>>, bytes: &[u8]) -> Option<Vec<u8>>
+    ensures more { IfSome result (λ new. IfSome kept (λ old. new.items ≡ old.items ++ bytes.now)) }
+    ensures lost { kept ≡ None → result ≡ None }
+{
+    let mut kept = kept?;
+    match kept.extend_from_slice(bytes) {
+        Ok(()) => Some(kept),
+        Err(_) => None,
+    }
 }
 
 /// The next bytes that the file has left, as many as fit into the piece.
@@ -191,15 +199,31 @@ pub(crate) fn write_some<O: Output>(output: &mut O, bytes: &[u8]) -> io::Result<
     ensures within { IfOk result (λ n. n ≤ length bytes.now) }
     ensures some { IfOk result (λ n. 0 < length bytes.now → 0 < n) }
     ensures same { OnErr result (O.holds output.new ≡ O.holds output.old) }
+    ensures counted { IfSome (O.holds output.old)
+        (λ _. OnErr result (Rose (O.refusals output.old) (O.refusals output.new))) }
     ensures retried { IfErr result (λ e. error_kind e ≢ ErrorKind.Interrupted) }
 {
-    for _ in 0..u64::MAX {
-        match output.write(bytes) {
-            Ok(0) if !bytes.is_empty() => break,
-            Ok(n) => return Ok(n),
+    for _ in 1..u64::MAX {
+        match write_once(output, bytes) {
             Err(error) if error.kind() == ErrorKind::Interrupted => {}
-            Err(error) => return Err(error),
+            answer => return answer,
         }
     }
-    Err(io::Error::from(ErrorKind::WriteZero))
+    given_up(write_once(output, bytes))
+}
+
+// One call, which is refused if it took nothing.
+fn write_once<O: Output>(output: &mut O, bytes: &[u8]) -> io::Result<usize>
+    ensures took { IfOk result (λ n. O.holds output.new ≡ with_taken n bytes.now (O.holds output.old)) }
+    ensures within { IfOk result (λ n. n ≤ length bytes.now) }
+    ensures some { IfOk result (λ n. 0 < length bytes.now → 0 < n) }
+    ensures same { OnErr result (O.holds output.new ≡ O.holds output.old) }
+    ensures grows { O.refusals output.old ≤ O.refusals output.new }
+    ensures counted { IfSome (O.holds output.old)
+        (λ _. OnErr result (Rose (O.refusals output.old) (O.refusals output.new))) }
+{
+    match output.write(bytes) {
+        Ok(0) if !bytes.is_empty() => Err(io::Error::from(ErrorKind::WriteZero)),
+        answer => answer,
+    }
 }

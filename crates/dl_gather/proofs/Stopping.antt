@@ -62,7 +62,11 @@ missing_kept : {A : Type 0} (part : Contents → Result A (List ℕ)) (name : Li
 missing_kept part name old new None e u = (u.unknown e).kept
 missing_kept part name old new (Some m) e u =
     let same = (u.known m e).1 in
-    record { known = ap (λ (s : Seen). s.known) same; changes = ap (λ (s : Seen). s.changes) same }
+    record {
+      known = ap (λ (s : Seen). s.known) same;
+      changes = ap (λ (s : Seen). s.changes) same;
+      unwritten = ap (λ (s : Seen). s.unwritten) same;
+    }
 
 -- what comes of a file that is absent is its refusal
 pub file_refused : {A B : Type 0} (o : Result A (List ℕ)) (f : A → Result B Refused) (name : List ℕ) → o ≡ Err name → (refusing absent o >> f) ≡ Err (absent name)

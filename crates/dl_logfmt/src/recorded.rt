@@ -1,5 +1,5 @@
 //! The fields of a section's entries.
-ghost use Rattle.std.specs.Prelude.{◌≡◌, ◌==◌};
+ghost use Rattle.std.specs.Prelude.{◌≡◌, ◌≢◌, ◌==◌, IfErr};
 ghost use Rattle.std.specs.List.{list_any};
 ghost use Rattle.dl_entry.specs.Numbers.{most_bytes};
 ghost use Rattle.spec_log.specs.Log.{input_kinds};
@@ -26,7 +26,8 @@ pub fn is_before(moment: (u8, u32), later: (u8, u32)) -> bool
 
 /// The size of a short chunk, in a log of this shape.
 pub fn read_short(bytes: &[u8], at: &mut usize, shape: Shape) -> Result<u32, LogError>
-    ensures { Answers (field (size_width shape.version) (from_to 1 shape.s) bytes.now at.old) result at.new }
+    ensures value { Answers (field (size_width shape.version) (from_to 1 shape.s) bytes.now at.old) result at.new }
+    ensures no_memory { IfErr result (λ e. e ≢ LogError.OutOfMemory) }
 {
     let start = *at;
     let size = read_size(bytes, at, shape.version)?;
@@ -36,7 +37,8 @@ pub fn read_short(bytes: &[u8], at: &mut usize, shape: Shape) -> Result<u32, Log
 
 /// The kind of an input.
 pub fn read_kind(bytes: &[u8], at: &mut usize) -> Result<u8, LogError>
-    ensures { Answers (field 1 (λ kind. list_any (λ k. k == kind) input_kinds) bytes.now at.old) result at.new }
+    ensures value { Answers (field 1 (λ kind. list_any (λ k. k == kind) input_kinds) bytes.now at.old) result at.new }
+    ensures no_memory { IfErr result (λ e. e ≢ LogError.OutOfMemory) }
 {
     let start = *at;
     let kind = read_u8(bytes, at)?;
@@ -63,7 +65,8 @@ pub fn read_counted(source: &Source<'_>, at: &mut usize) -> Result<Bytes, LogErr
 }
 
 fn read_length(bytes: &[u8], at: &mut usize) -> Result<u16, LogError>
-    ensures { Answers (field 2 (at_most most_bytes) bytes.now at.old) result at.new }
+    ensures value { Answers (field 2 (at_most most_bytes) bytes.now at.old) result at.new }
+    ensures no_memory { IfErr result (λ e. e ≢ LogError.OutOfMemory) }
 {
     let start = *at;
     let length = read_u16(bytes, at)?;

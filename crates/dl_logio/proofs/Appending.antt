@@ -1,5 +1,5 @@
 -- Pieces that are appended to a file one after another make the whole, and nothing else changes.
-use Rattle.std.proofs.Common.{◌≡◌, ◌≢◌, ◌<◌, ℕ, min, Bool, true, false, List, [], ◌++◌, length, take, drop, cond, Option, Some, None, inl, inr, refl, sym, ap, subst, ◌∙◌, unwrap_or, arith, append-nil, append_assoc}
+use Rattle.std.proofs.Common.{◌≡◌, ◌≢◌, ◌<◌, ◌≤◌, ℕ, min, Bool, true, false, List, [], ◌++◌, length, take, drop, cond, Option, Some, None, inl, inr, refl, sym, ap, subst, ◌∙◌, unwrap_or, arith, append-nil, append_assoc}
 use Rattle.std.specs.Prelude.{IfErr, IfNone, IsErrAnd, Result, Ok, Err}
 use Rattle.std.proofs.Math.Seq.{take-append_seam}
 use Rattle.std.proofs.lemmas.List.{length-take-le, nil_from_length, take-append-drop}
@@ -9,7 +9,7 @@ use Rattle.std.specs.FinMap.{get, insert, get-insert, same_map, slice_cmp-IsAnti
 use Rattle.std.proofs.lemmas.Map.Text.{is_eq-slice_cmp}
 use Rattle.std.proofs.lemmas.Slice.Eq.{bytes_eq-Decides}
 use Rattle.dl_files.specs.Contents.{Contents, SameBut, with_file, with_more}
-use Rattle.dl_files.specs.Count.{Rose}
+use Rattle.dl_files.specs.Count.{Rose, next}
 use Rattle.dl_files.specs.declared.FileError.{FileError}
 use Rattle.dl_files.specs.Seen.{Seen, IsWritten, IsUnwritten, WriteStops}
 use Rattle.dl_logio.specs.Files.{IsPartly, LogStops}
@@ -81,16 +81,19 @@ written_more old mid new name bytes piece first second = record {
   last = second.last ∙ first.last;
   unread = second.unread ∙ first.unread;
   changed = change_after old.known mid.known name bytes old.changes mid.changes new.changes first.known first.changed second.changed;
+  unwritten = second.unwritten;
 }
 
 -- a name that was given bytes, and then failed
 pub failed_after : (old mid new : Seen) (name bytes : List ℕ) → IsWritten (with_file name bytes old.known) old mid → IsUnwritten name mid new → IsUnwritten name old new
 failed_after old mid new name bytes first failed = record {
   counted = subst (λ (n : ℕ). Rose n new.faults) first.faults failed.counted;
+  once = subst (λ (n : ℕ). new.faults ≤ next n) first.faults failed.once;
   named = failed.named;
   others = others_kept old.known new.known name bytes (subst (λ (t : Option Contents). SameBut name t new.known) first.known failed.others);
   unread = failed.unread ∙ first.unread;
   changed = change_after old.known mid.known name bytes old.changes mid.changes new.changes first.known first.changed failed.changed;
+  unwritten = failed.unwritten;
 }
 
 -- a name that was given the first bytes of a whole, and then memory ran out

@@ -1,5 +1,5 @@
 //! A log read from its file.
-ghost use Rattle.std.specs.Prelude.{◌≡◌, ℕ, List, IfOk, IfErr, OnOk};
+ghost use Rattle.std.specs.Prelude.{◌≡◌, ◌≤◌, ℕ, List, max, IfOk, IfErr, OnOk};
 ghost use Rattle.dl_files.specs.Seen.{ReadStops};
 ghost use Rattle.dl_logfmt.specs.Feeding.{HasFed};
 ghost use Rattle.dl_logio.specs.Files.{SaysLog, read_view};
@@ -28,6 +28,7 @@ pub fn read_log_file<F: Files>(
     ensures read { IfOk result (λ r. SaysLog (F.seen files.old).known name.now (read_view r)) }
     ensures ok { OnOk result (F.seen files.new ≡ F.seen files.old) }
     ensures err { IfErr result (ReadStops name.now (F.seen files.old) (F.seen files.new)) }
+    ensures pieces { F.largest files.new ≤ max (F.largest files.old) 4096 }
 {
     let mut reader = LogReader::new(alloc);
     let mut piece = [0; PIECE];

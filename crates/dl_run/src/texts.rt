@@ -1,12 +1,13 @@
 //! The texts of a run that is over.
-ghost use Rattle.std.specs.Prelude.{◌≡◌, ◌<◌, List, None, IfOk, length};
+ghost use Rattle.std.specs.Prelude.{◌≡◌, ◌<◌, List, None, Some, IfOk, length};
 ghost use Rattle.dl_account.specs.CommitLists.{commits_in};
 ghost use Rattle.dl_kernel.specs.InOrder.{listed};
 ghost use Rattle.spec_protocol.specs.declared.event.Event.{Event};
-ghost use Rattle.spec_sphere.specs.sphere.Setups.{RecordSetup, IsRecorded};
+ghost use Rattle.spec_sphere.specs.sphere.Setups.{EpochSetup, RecordSetup, IsRecorded};
 ghost use Rattle.spec_protocol.specs.promises.Sound.{image_at};
 ghost use Rattle.spec_run.specs.Texts.{account_text as account_of, console_text, log_of_points, log_text, report_text as report_of, summary_text as summary_of};
-ghost use Rattle.spec_run.specs.Tails.{is_recorded_whole};
+ghost use Rattle.spec_run.specs.Tails.{is_recorded_whole, tail_of_points};
+ghost use Rattle.dl_run.specs.declared.texts.SphereLog.TheVariants.{Tail as TailOf};
 ghost use Rattle.dl_run.specs.Logs.{bytes_of, is_whole};
 ghost use Rattle.dl_run.specs.Ran.{IsOver};
 
@@ -37,6 +38,9 @@ impl Run {
         ensures bytes { IfOk result (λ log. (es : List Event) → IsOver es self.now
             → bytes_of log ≡ log_text self.now.setup es sphere) }
         ensures whole { IfOk result (λ log. is_whole log ≡ is_recorded_whole (image_at self.now.setup sphere).role) }
+        ensures tail { IfOk result (λ log. (es : List Event) (asked : RecordSetup) (x : EpochSetup) → IsOver es self.now
+            → (image_at self.now.setup sphere).role ≡ IsRecorded asked → asked.epochs ≡ Some x
+            → log ≡ TailOf (tail_of_points self.now.setup es sphere asked x)) }
     {
         match self.role(sphere) {
             Role::Plain | Role::Replay(_) => Ok(SphereLog::None),

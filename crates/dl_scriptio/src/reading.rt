@@ -1,5 +1,5 @@
 //! A script read from its file.
-ghost use Rattle.std.specs.Prelude.{◌≡◌, ◌≤◌, ◌^◌, List, length, Result, IfOk, IfErr, OnOk};
+ghost use Rattle.std.specs.Prelude.{◌≡◌, ◌≤◌, ◌^◌, List, length, max, Result, IfOk, IfErr, OnOk};
 ghost use Rattle.dl_event.specs.Script.{script_of};
 ghost use Rattle.dl_event.specs.declared.error.ScriptError.{ScriptError};
 ghost use Rattle.dl_files.specs.Seen.{ReadStops};
@@ -35,6 +35,7 @@ pub fn read_script_file<F: Files>(
     ensures few { IfOk result (λ r. IfOk (read_view r) (λ events. length events ≤ 2 ^ 24)) }
     ensures ok { OnOk result (F.seen files.new ≡ F.seen files.old) }
     ensures err { IfErr result (ReadStops name.now (F.seen files.old) (F.seen files.new)) }
+    ensures pieces { F.largest files.new ≤ max (F.largest files.old) 32768 }
 {
     let mut reader = ScriptReader::new(alloc);
     let mut piece = [0; PIECE];
@@ -70,6 +71,7 @@ fn read_at_once<F: Files>(alloc: Global, files: &mut F, name: &str) -> Result<Sc
     ensures few { IfOk result (λ r. IfOk (read_view r) (λ events. length events ≤ 2 ^ 24)) }
     ensures ok { OnOk result (F.seen files.new ≡ F.seen files.old) }
     ensures err { IfErr result (ReadStops name.now (F.seen files.old) (F.seen files.new)) }
+    ensures pieces { F.largest files.new ≤ F.largest files.old }
 {
     let bytes = files.read(alloc, name)?;
     script_in(alloc, &bytes)

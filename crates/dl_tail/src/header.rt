@@ -1,5 +1,5 @@
 //! The header of a tail.
-ghost use Rattle.std.specs.Prelude.{◌≡◌, ◌^◌, ◌==◌, ◌||◌, nat_lt, ◌++◌, OnOk};
+ghost use Rattle.std.specs.Prelude.{◌≡◌, ◌≢◌, ◌^◌, ◌==◌, ◌||◌, nat_lt, ◌++◌, OnOk, IfErr};
 ghost use Rattle.dl_entry.specs.Numbers.{most_bytes, most_threads};
 ghost use Rattle.spec_log.specs.Fields.{number, field, at_most, from_to};
 ghost use Rattle.spec_tail.specs.Reading.{has_buffer as has_buffer_in, header_fields, header_parts, is_size as is_size_for, last};
@@ -16,7 +16,8 @@ pub const NO_THREAD: u8 = 255;
 
 /// Reads the header.
 pub fn read_header(bytes: &[u8], at: &mut usize) -> Result<TailHeader, LogError>
-    ensures { Answers (header_fields bytes.now at.old) result at.new }
+    ensures value { Answers (header_fields bytes.now at.old) result at.new }
+    ensures no_memory { IfErr result (λ e. e ≢ LogError.OutOfMemory) }
 {
     read_magic(bytes, at)?;
     read_version(bytes, at)?;
@@ -26,7 +27,8 @@ pub fn read_header(bytes: &[u8], at: &mut usize) -> Result<TailHeader, LogError>
 
 /// What comes after the magic word, the version and a zero byte.
 fn read_parts(bytes: &[u8], at: &mut usize) -> Result<TailHeader, LogError>
-    ensures { Answers (header_parts bytes.now at.old) result at.new }
+    ensures value { Answers (header_parts bytes.now at.old) result at.new }
+    ensures no_memory { IfErr result (λ e. e ≢ LogError.OutOfMemory) }
 {
     let present = read_present(bytes, at)?;
     let base = read_base(bytes, at)?;
@@ -44,7 +46,8 @@ fn read_parts(bytes: &[u8], at: &mut usize) -> Result<TailHeader, LogError>
 
 /// The magic word.
 fn read_magic(bytes: &[u8], at: &mut usize) -> Result<u32, LogError>
-    ensures { Answers (number 4 2 (λ x. x == 0x54524C44) bytes.now at.old) result at.new }
+    ensures value { Answers (number 4 2 (λ x. x == 0x54524C44) bytes.now at.old) result at.new }
+    ensures no_memory { IfErr result (λ e. e ≢ LogError.OutOfMemory) }
 {
     let start = *at;
     let word = read_u32(bytes, at)?;
@@ -54,7 +57,8 @@ fn read_magic(bytes: &[u8], at: &mut usize) -> Result<u32, LogError>
 
 /// The version of the file, which is not a log's.
 fn read_version(bytes: &[u8], at: &mut usize) -> Result<u8, LogError>
-    ensures { Answers (number 1 3 (λ x. x == 1) bytes.now at.old) result at.new }
+    ensures value { Answers (number 1 3 (λ x. x == 1) bytes.now at.old) result at.new }
+    ensures no_memory { IfErr result (λ e. e ≢ LogError.OutOfMemory) }
 {
     let start = *at;
     let version = read_u8(bytes, at)?;
@@ -64,7 +68,8 @@ fn read_version(bytes: &[u8], at: &mut usize) -> Result<u8, LogError>
 
 /// How many threads there are.
 fn read_present(bytes: &[u8], at: &mut usize) -> Result<u8, LogError>
-    ensures { Answers (field 2 (from_to 1 most_threads) bytes.now at.old) result at.new }
+    ensures value { Answers (field 2 (from_to 1 most_threads) bytes.now at.old) result at.new }
+    ensures no_memory { IfErr result (λ e. e ≢ LogError.OutOfMemory) }
 {
     let start = *at;
     let present = read_u16(bytes, at)?;
@@ -78,7 +83,8 @@ fn read_present(bytes: &[u8], at: &mut usize) -> Result<u8, LogError>
 
 /// The number of commits before the tail.
 fn read_base(bytes: &[u8], at: &mut usize) -> Result<u32, LogError>
-    ensures { Answers (field 4 (at_most (2 ^ 24)) bytes.now at.old) result at.new }
+    ensures value { Answers (field 4 (at_most (2 ^ 24)) bytes.now at.old) result at.new }
+    ensures no_memory { IfErr result (λ e. e ≢ LogError.OutOfMemory) }
 {
     let start = *at;
     let base = read_u32(bytes, at)?;
@@ -88,7 +94,8 @@ fn read_base(bytes: &[u8], at: &mut usize) -> Result<u32, LogError>
 
 /// The thread that committed last.
 fn read_last(bytes: &[u8], at: &mut usize, present: u8) -> Result<Option<u8>, LogError>
-    ensures { Answers (last present bytes.now at.old) result at.new }
+    ensures value { Answers (last present bytes.now at.old) result at.new }
+    ensures no_memory { IfErr result (λ e. e ≢ LogError.OutOfMemory) }
 {
     let code = read_last_code(bytes, at, present)?;
     Ok(if code == NO_THREAD { None } else { Some(code) })
@@ -96,7 +103,8 @@ fn read_last(bytes: &[u8], at: &mut usize, present: u8) -> Result<Option<u8>, Lo
 
 /// The number of one of the threads, or the one that means no thread.
 fn read_last_code(bytes: &[u8], at: &mut usize, present: u8) -> Result<u8, LogError>
-    ensures { Answers (field 1 (λ x. (x == 255) || nat_lt x present) bytes.now at.old) result at.new }
+    ensures value { Answers (field 1 (λ x. (x == 255) || nat_lt x present) bytes.now at.old) result at.new }
+    ensures no_memory { IfErr result (λ e. e ≢ LogError.OutOfMemory) }
 {
     let start = *at;
     let code = read_u8(bytes, at)?;
@@ -106,7 +114,8 @@ fn read_last_code(bytes: &[u8], at: &mut usize, present: u8) -> Result<u8, LogEr
 
 /// The outstanding request.
 fn read_request(bytes: &[u8], at: &mut usize) -> Result<Option<Request>, LogError>
-    ensures { Answers (request_field bytes.now at.old) result at.new }
+    ensures value { Answers (request_field bytes.now at.old) result at.new }
+    ensures no_memory { IfErr result (λ e. e ≢ LogError.OutOfMemory) }
 {
     let asked = read_flag(bytes, at)?;
     read_zero_u16(bytes, at)?;
@@ -119,7 +128,8 @@ fn read_request(bytes: &[u8], at: &mut usize) -> Result<Option<Request>, LogErro
 
 /// Whether there is something.
 fn read_flag(bytes: &[u8], at: &mut usize) -> Result<u8, LogError>
-    ensures { Answers (field 1 (at_most 1) bytes.now at.old) result at.new }
+    ensures value { Answers (field 1 (at_most 1) bytes.now at.old) result at.new }
+    ensures no_memory { IfErr result (λ e. e ≢ LogError.OutOfMemory) }
 {
     let start = *at;
     let flag = read_u8(bytes, at)?;
@@ -128,7 +138,8 @@ fn read_flag(bytes: &[u8], at: &mut usize) -> Result<u8, LogError>
 }
 
 fn read_some_request(bytes: &[u8], at: &mut usize) -> Result<Option<Request>, LogError>
-    ensures { Answers (some_request bytes.now at.old) result at.new }
+    ensures value { Answers (some_request bytes.now at.old) result at.new }
+    ensures no_memory { IfErr result (λ e. e ≢ LogError.OutOfMemory) }
 {
     let buf = read_aligned(bytes, at)?;
     let len = read_len(bytes, at)?;
@@ -136,7 +147,8 @@ fn read_some_request(bytes: &[u8], at: &mut usize) -> Result<Option<Request>, Lo
 }
 
 fn read_len(bytes: &[u8], at: &mut usize) -> Result<u32, LogError>
-    ensures { Answers (field 4 (at_most most_bytes) bytes.now at.old) result at.new }
+    ensures value { Answers (field 4 (at_most most_bytes) bytes.now at.old) result at.new }
+    ensures no_memory { IfErr result (λ e. e ≢ LogError.OutOfMemory) }
 {
     let start = *at;
     let len = read_u32(bytes, at)?;
@@ -145,7 +157,8 @@ fn read_len(bytes: &[u8], at: &mut usize) -> Result<u32, LogError>
 }
 
 fn read_no_request(bytes: &[u8], at: &mut usize) -> Result<Option<Request>, LogError>
-    ensures { Answers (no_request bytes.now at.old) result at.new }
+    ensures value { Answers (no_request bytes.now at.old) result at.new }
+    ensures no_memory { IfErr result (λ e. e ≢ LogError.OutOfMemory) }
 {
     read_zero_u32(bytes, at)?;
     read_zero_u32(bytes, at)?;
@@ -154,7 +167,8 @@ fn read_no_request(bytes: &[u8], at: &mut usize) -> Result<Option<Request>, LogE
 
 /// The size of the memory, which has the request's buffer.
 fn read_size(bytes: &[u8], at: &mut usize, request: Option<Request>) -> Result<u32, LogError>
-    ensures { Answers (field 4 (is_size_for request) bytes.now at.old) result at.new }
+    ensures value { Answers (field 4 (is_size_for request) bytes.now at.old) result at.new }
+    ensures no_memory { IfErr result (λ e. e ≢ LogError.OutOfMemory) }
 {
     let start = *at;
     let size = read_u32(bytes, at)?;

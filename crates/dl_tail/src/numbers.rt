@@ -1,5 +1,5 @@
 //! Numbers of a tail's bytes that are zero or multiples of 4.
-ghost use Rattle.std.specs.Prelude.{◌≡◌};
+ghost use Rattle.std.specs.Prelude.{◌≡◌, ◌≢◌, IfErr};
 ghost use Rattle.spec_log.specs.Fields.{field};
 ghost use Rattle.spec_tail.specs.Reading.{is_aligned as is_multiple, zeros};
 ghost use Rattle.dl_logfmt.specs.Answer.{Answers};
@@ -8,7 +8,8 @@ use dl_logfmt::{FIELD, LogError, judge, read_u8, read_u16, read_u32};
 
 /// A zero byte.
 pub fn read_zero_u8(bytes: &[u8], at: &mut usize) -> Result<u8, LogError>
-    ensures { Answers (zeros 1 bytes.now at.old) result at.new }
+    ensures value { Answers (zeros 1 bytes.now at.old) result at.new }
+    ensures no_memory { IfErr result (λ e. e ≢ LogError.OutOfMemory) }
 {
     let start = *at;
     let zero = read_u8(bytes, at)?;
@@ -18,7 +19,8 @@ pub fn read_zero_u8(bytes: &[u8], at: &mut usize) -> Result<u8, LogError>
 
 /// Two zero bytes.
 pub fn read_zero_u16(bytes: &[u8], at: &mut usize) -> Result<u16, LogError>
-    ensures { Answers (zeros 2 bytes.now at.old) result at.new }
+    ensures value { Answers (zeros 2 bytes.now at.old) result at.new }
+    ensures no_memory { IfErr result (λ e. e ≢ LogError.OutOfMemory) }
 {
     let start = *at;
     let zero = read_u16(bytes, at)?;
@@ -28,7 +30,8 @@ pub fn read_zero_u16(bytes: &[u8], at: &mut usize) -> Result<u16, LogError>
 
 /// Four zero bytes.
 pub fn read_zero_u32(bytes: &[u8], at: &mut usize) -> Result<u32, LogError>
-    ensures { Answers (zeros 4 bytes.now at.old) result at.new }
+    ensures value { Answers (zeros 4 bytes.now at.old) result at.new }
+    ensures no_memory { IfErr result (λ e. e ≢ LogError.OutOfMemory) }
 {
     let start = *at;
     let zero = read_u32(bytes, at)?;
@@ -38,7 +41,8 @@ pub fn read_zero_u32(bytes: &[u8], at: &mut usize) -> Result<u32, LogError>
 
 /// A multiple of 4.
 pub fn read_aligned(bytes: &[u8], at: &mut usize) -> Result<u32, LogError>
-    ensures { Answers (field 4 is_multiple bytes.now at.old) result at.new }
+    ensures value { Answers (field 4 is_multiple bytes.now at.old) result at.new }
+    ensures no_memory { IfErr result (λ e. e ≢ LogError.OutOfMemory) }
 {
     let start = *at;
     let address = read_u32(bytes, at)?;

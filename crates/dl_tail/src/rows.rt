@@ -1,5 +1,5 @@
 //! The rows of a tail's memory.
-ghost use Rattle.std.specs.Prelude.{◌≡◌, ◌+◌, ◌*◌, ◌/◌, ◌≤◌, length, nat_lt, All, IfOk};
+ghost use Rattle.std.specs.Prelude.{◌≡◌, ◌≢◌, ◌+◌, ◌*◌, ◌/◌, ◌≤◌, length, nat_lt, All, IfOk, IfErr};
 ghost use Rattle.spec_log.specs.Fields.{comes_after, last, field, staged};
 ghost use Rattle.spec_tail.specs.Bytes.{is_empty as is_zeros};
 ghost use Rattle.spec_tail.specs.Reading.{filled, memory_of as memory_in, row, rows, rows_rise, with_row};
@@ -47,7 +47,8 @@ fn follows(before: &[Row], row: &Row) -> bool
 
 /// A row of a memory of this size.
 fn read_row(bytes: &[u8], at: &mut usize, size: u32) -> Result<Row, LogError>
-    ensures { Answers (row size bytes.now at.old) result at.new }
+    ensures value { Answers (row size bytes.now at.old) result at.new }
+    ensures no_memory { IfErr result (λ e. e ≢ LogError.OutOfMemory) }
 {
     let number = read_number(bytes, at, size)?;
     let bytes = read_filled(bytes, at)?;
@@ -55,7 +56,8 @@ fn read_row(bytes: &[u8], at: &mut usize, size: u32) -> Result<Row, LogError>
 }
 
 fn read_number(bytes: &[u8], at: &mut usize, size: u32) -> Result<u32, LogError>
-    ensures { Answers (field 4 (λ number. nat_lt number (size / 32)) bytes.now at.old) result at.new }
+    ensures value { Answers (field 4 (λ number. nat_lt number (size / 32)) bytes.now at.old) result at.new }
+    ensures no_memory { IfErr result (λ e. e ≢ LogError.OutOfMemory) }
 {
     let start = *at;
     let number = read_u32(bytes, at)?;
@@ -65,7 +67,8 @@ fn read_number(bytes: &[u8], at: &mut usize, size: u32) -> Result<u32, LogError>
 
 /// Bytes that aren't all 0.
 fn read_filled(bytes: &[u8], at: &mut usize) -> Result<[u8; ROW], LogError>
-    ensures { Answers (filled 32 bytes.now at.old) result at.new }
+    ensures value { Answers (filled 32 bytes.now at.old) result at.new }
+    ensures no_memory { IfErr result (λ e. e ≢ LogError.OutOfMemory) }
 {
     let start = *at;
     let row = read_raw(bytes, at, ROW)?;

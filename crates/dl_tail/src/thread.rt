@@ -1,5 +1,5 @@
 //! A thread of a tail.
-ghost use Rattle.std.specs.Prelude.{◌≡◌, ◌&&◌, true, []};
+ghost use Rattle.std.specs.Prelude.{◌≡◌, ◌≢◌, ◌&&◌, true, [], IfErr};
 ghost use Rattle.spec_log.specs.Fields.{any, field, at_most, one_more, repeated};
 ghost use Rattle.spec_tail.specs.Reading.{is_aligned as is_multiple, is_code as is_code_of, is_saved as is_saved_under, registers};
 ghost use Rattle.spec_tail.specs.Reading.{status as status_in, thread, thread_parts};
@@ -11,7 +11,8 @@ use spec_isa::thread::{Parts, ThreadStatus};
 
 /// Reads a thread that has at most the commits before the base.
 pub fn read_thread(bytes: &[u8], at: &mut usize, base: u32) -> Result<Parts, LogError>
-    ensures { Answers (thread base bytes.now at.old) result at.new }
+    ensures value { Answers (thread base bytes.now at.old) result at.new }
+    ensures no_memory { IfErr result (λ e. e ≢ LogError.OutOfMemory) }
 {
     let kind = read_kind(bytes, at)?;
     let mask = read_mask(bytes, at)?;
@@ -28,7 +29,8 @@ fn read_parts(
     mask: u8,
     status: ThreadStatus,
 ) -> Result<Parts, LogError>
-    ensures { Answers (thread_parts base mask status bytes.now at.old) result at.new }
+    ensures value { Answers (thread_parts base mask status bytes.now at.old) result at.new }
+    ensures no_memory { IfErr result (λ e. e ≢ LogError.OutOfMemory) }
 {
     let pc = read_aligned(bytes, at)?;
     let handler = read_aligned(bytes, at)?;
@@ -53,7 +55,8 @@ fn read_parts(
 
 /// Whether it lives, or how it stopped.
 fn read_kind(bytes: &[u8], at: &mut usize) -> Result<u8, LogError>
-    ensures { Answers (field 1 (at_most 2) bytes.now at.old) result at.new }
+    ensures value { Answers (field 1 (at_most 2) bytes.now at.old) result at.new }
+    ensures no_memory { IfErr result (λ e. e ≢ LogError.OutOfMemory) }
 {
     let start = *at;
     let kind = read_u8(bytes, at)?;
@@ -62,7 +65,8 @@ fn read_kind(bytes: &[u8], at: &mut usize) -> Result<u8, LogError>
 }
 
 fn read_mask(bytes: &[u8], at: &mut usize) -> Result<u8, LogError>
-    ensures { Answers (field 1 (at_most 1) bytes.now at.old) result at.new }
+    ensures value { Answers (field 1 (at_most 1) bytes.now at.old) result at.new }
+    ensures no_memory { IfErr result (λ e. e ≢ LogError.OutOfMemory) }
 {
     let start = *at;
     let mask = read_u8(bytes, at)?;
@@ -72,7 +76,8 @@ fn read_mask(bytes: &[u8], at: &mut usize) -> Result<u8, LogError>
 
 /// The code with which it ended, or the cause of its fault.
 fn read_code(bytes: &[u8], at: &mut usize, kind: u8) -> Result<u32, LogError>
-    ensures { Answers (field 4 (is_code_of kind) bytes.now at.old) result at.new }
+    ensures value { Answers (field 4 (is_code_of kind) bytes.now at.old) result at.new }
+    ensures no_memory { IfErr result (λ e. e ≢ LogError.OutOfMemory) }
 {
     let start = *at;
     let code = read_u32(bytes, at)?;
@@ -103,7 +108,8 @@ fn status_of(kind: u8, code: u32) -> ThreadStatus
 
 /// The saved pc.
 fn read_saved_pc(bytes: &[u8], at: &mut usize, mask: u8) -> Result<u32, LogError>
-    ensures { Answers (field 4 (λ x. is_multiple x && is_saved_under mask x) bytes.now at.old) result at.new }
+    ensures value { Answers (field 4 (λ x. is_multiple x && is_saved_under mask x) bytes.now at.old) result at.new }
+    ensures no_memory { IfErr result (λ e. e ≢ LogError.OutOfMemory) }
 {
     let start = *at;
     let value = read_u32(bytes, at)?;
@@ -113,7 +119,8 @@ fn read_saved_pc(bytes: &[u8], at: &mut usize, mask: u8) -> Result<u32, LogError
 
 /// A saved value.
 fn read_saved(bytes: &[u8], at: &mut usize, mask: u8) -> Result<u32, LogError>
-    ensures { Answers (field 4 (is_saved_under mask) bytes.now at.old) result at.new }
+    ensures value { Answers (field 4 (is_saved_under mask) bytes.now at.old) result at.new }
+    ensures no_memory { IfErr result (λ e. e ≢ LogError.OutOfMemory) }
 {
     let start = *at;
     let value = read_u32(bytes, at)?;
@@ -129,7 +136,8 @@ fn is_saved(mask: u8, value: u32) -> bool
 }
 
 fn read_commits(bytes: &[u8], at: &mut usize, base: u32) -> Result<u32, LogError>
-    ensures { Answers (field 4 (at_most base) bytes.now at.old) result at.new }
+    ensures value { Answers (field 4 (at_most base) bytes.now at.old) result at.new }
+    ensures no_memory { IfErr result (λ e. e ≢ LogError.OutOfMemory) }
 {
     let start = *at;
     let commits = read_u32(bytes, at)?;
@@ -139,7 +147,8 @@ fn read_commits(bytes: &[u8], at: &mut usize, base: u32) -> Result<u32, LogError
 
 /// The registers, of which the first isn't there.
 fn read_registers(bytes: &[u8], at: &mut usize) -> Result<[u32; 32], LogError>
-    ensures { Answers (registers bytes.now at.old) result at.new }
+    ensures value { Answers (registers bytes.now at.old) result at.new }
+    ensures no_memory { IfErr result (λ e. e ≢ LogError.OutOfMemory) }
 {
     let words = read_words(bytes, at)?;
     let mut x = [0; 32];
@@ -148,7 +157,8 @@ fn read_registers(bytes: &[u8], at: &mut usize) -> Result<[u32; 32], LogError>
 }
 
 fn read_words(bytes: &[u8], at: &mut usize) -> Result<[u32; 31], LogError>
-    ensures { Answers (repeated (one_more (λ x y. true) (any 4)) 31 [] bytes.now at.old) result at.new }
+    ensures value { Answers (repeated (one_more (λ x y. true) (any 4)) 31 [] bytes.now at.old) result at.new }
+    ensures no_memory { IfErr result (λ e. e ≢ LogError.OutOfMemory) }
 {
     let mut words = [0; 31];
     for number in 0..31 {

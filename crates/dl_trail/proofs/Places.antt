@@ -1,7 +1,7 @@
 -- The states of a trail by their places.
 use Rattle.std.proofs.Common.{◌≡◌, ℕ, zero, suc, ◌*◌, ◌/◌, ◌<◌, ◌≤◌, List, [], ◌∷◌, length, get_or, slice_get, Some, refl, sym, ap, ◌∙◌, subst, arith}
 use Rattle.std.proofs.lemmas.Option.{none-some, slice_get_within}
-use Rattle.std.proofs.Math.Nat.{div-mul-le_self}
+use Rattle.std.proofs.Math.Nat.{div-mul-le_self, le-div_iff_mul-le}
 use Rattle.spec_log.specs.declared.LogParts.{LogParts}
 use Rattle.spec_play.specs.States as play
 use Rattle.spec_play.specs.States.{state_after}
@@ -16,7 +16,7 @@ found-there [] n x l e = absurd (omega arith)
 found-there (y ∷ ys) zero x l e = ap Some (sym e)
 found-there (y ∷ ys) (suc n) x l e = found-there ys n x (omega arith) e
 
-times_most : (m n every : ℕ) → m ≤ n → m * every ≤ n * every
+pub times_most : (m n every : ℕ) → m ≤ n → m * every ≤ n * every
 times_most zero n every l = omega arith
 times_most (suc m) zero every l = absurd (omega arith)
 times_most (suc m) (suc n) every l = let h = times_most m n every (omega arith) in omega (arith, h)
@@ -27,6 +27,10 @@ place-before i n every l =
     let a = times_most n (i / every) every l in
     let b = div-mul-le_self i every in
     omega (arith, a, b)
+
+-- a place that is after no more commits is no further than the quotient
+pub place-within : (i n every : ℕ) → 1 ≤ every → n * every ≤ i → n ≤ i / every
+place-within i n every one l = (le-div_iff_mul-le (omega (arith, one))).1 l
 
 -- States are kept of this log's play on an image.
 module _ (log : LogParts) (memory : List ℕ) (entry every : ℕ) (kept : List State) (are : AreKept log memory entry every kept) where

@@ -1,5 +1,5 @@
 //! The trail of a log.
-ghost use Rattle.std.specs.Prelude.{◌≡◌, ◌≤◌, IfOk};
+ghost use Rattle.std.specs.Prelude.{◌≡◌, ℕ, ◌*◌, ◌≤◌, IfOk};
 ghost use Rattle.spec_play.specs.States.{state_after};
 ghost use Rattle.spec_play.specs.Resuming.{HasDone};
 ghost use Rattle.spec_interval.specs.Slices.{slice};
@@ -82,6 +82,8 @@ impl Trail {
         ensures done { let t = self.now in HasDone t.log t.memory t.entry result.now.commits }
         ensures state { let t = self.now in
             state_in result.now ≡ state_after t.log t.memory t.entry result.now.commits }
+        ensures nearest { let t = self.now in (n : ℕ) → HasDone t.log t.memory t.entry (n * t.every) → n * t.every ≤ i →
+            n * t.every ≤ result.now.commits }
     {
         let last = self.kept.len() - 1;
         let index = ((i / self.every) as usize).min(last);

@@ -1,23 +1,29 @@
 -- Tasks that agree on a sphere write the same account of it.
-use Rattle.std.proofs.Common.{◌≡◌, ℕ, Option, Some, Result, Ok, Err, refl, sym, ap, ◌∙◌}
+use Rattle.std.proofs.Common.{◌≡◌, ℕ, min, Option, Some, None, Result, Ok, Err, refl, sym, ap, ◌∙◌, arith}
 use Rattle.dl_elf.specs.Images.{Image}
 use Rattle.dl_elf.specs.Loading.{image_of}
 use Rattle.std.specs.Prelude.{option_map}
 use Rattle.dl_plan.specs.Values.{EpochValues}
+use Rattle.dl_words.specs.Commands.{IntervalValues}
+use Rattle.spec_interval.specs.Slices.{Slice, slice}
+use Rattle.spec_interval.proofs.Counting.{slices_stop_at_count}
 use Rattle.spec_log.specs.declared.LogParts.{LogParts}
 use Rattle.spec_log.specs.declared.fault.Fault.{Fault}
 use Rattle.spec_protocol.specs.machine.Logged.{sphere_in}
 use Rattle.spec_sphere.specs.sphere.Setups.{RecordSetup, ReplaySetup, RoleSetup, IsRecorded, IsReplayed, SphereSetup, in_strata}
 use Rattle.dl_account.specs.Account.{account_of}
+use Rattle.spec_play.specs.declared.interval.Interval.{Interval}
+use Rattle.spec_play.specs.Intervals.{interval_of, within}
 use Rattle.spec_play.specs.Walks.{Walked}
 use Rattle.spec_run.specs.Runs.{executed}
 use Rattle.spec_run.specs.Tails.{tail_of_points}
 use Rattle.spec_run.specs.Texts.{account_as, account_text, log_as, log_of_points, log_text, recorded_account, recorded_bytes}
 use Rattle.spec_run.proofs.Described.{recordings_reproduced}
+use Rattle.spec_run.proofs.Slices.{intervals_sliced}
 use Rattle.spec_run.proofs.Tails.{tails_are_played}
 use Rattle.spec_strata.specs.declared.strata.StrataParts.{StrataParts}
 use Rattle.spec_strata.specs.Checking.{StrataAnswer, Parallel, Unfit, Conflict, answer_of}
-use Rattle.spec_program.specs.Agreement.{IsReplay, AccountsAgree, RecordingsAreReplayed, TailsAreWalked, walk_end}
+use Rattle.spec_program.specs.Agreement.{AreEnds, IsReplay, AccountsAgree, IntervalsAreTold, RecordingsAreReplayed, TailsAreWalked, walk_end}
 use Rattle.spec_tail.specs.Tails.{Tail}
 use Rattle.spec_program.specs.Built.{bad_log, epoch_setup, record_setup, replay_setup, role_in_strata, role_of}
 use Rattle.spec_program.specs.Files.{ReplayInputs, whole, RoleRead, PlainRead, RecordRead, ReplayRead, StrataRead, SphereRead}
@@ -108,6 +114,39 @@ recordings_replayed plan other m n t u i j s inputs is is_too role whole_log at 
     ∙ plays
     ∙ ap (account_as b.setup y) (ap (replays_log replay) (sym parts) ∙ sym q.2)
     ∙ ap (λ (d : SphereSetup). account_as d y d.role) (sym b.at)
+
+-- ---- intervals
+
+-- the interval that a plan asks for, by the numbers of `interval`
+named-ends : (from to : Option ℕ) (count : ℕ) (asked : IntervalValues) → AreEnds from to count asked → interval_of from to count ≡ Some (within count asked.from asked.to)
+named-ends None None count asked e = absurd e
+named-ends None (Some to) count asked e = λ k. Some (within count (sym e.0 k) (sym e.1 k))
+named-ends (Some from) None count asked e =
+    let few = e.1 in
+    let last : min count count ≡ min asked.to count = omega (arith, few) in
+    λ k. Some (record { first = min (sym e.0 k) count; last = last k })
+named-ends (Some from) (Some to) count asked e = λ k. Some (within count (sym e.0 k) (sym e.1 k))
+
+-- an interval's account is what `interval` tells of it
+pub intervals_told : IntervalsAreTold
+unfolding account_text
+intervals_told plan m t i s inputs asked read is role at same =
+    let a = sphere_of_task plan m t i s is at in
+    let q = replayed inputs s a.setup role a.made in
+    let log : LogParts = read.log in
+    let parts : q.0 ≡ log = same_Ok q.0 log (sym q.1 ∙ same.log) in
+    let image : a.made.image ≡ read.image = same_Ok a.made.image read.image (sym a.made.loaded ∙ same.image) in
+    let bytes : a.setup.memory ≡ read.image.bytes = a.made.memory ∙ ap (λ (d : Image). d.bytes) image in
+    let entry : a.setup.entry ≡ read.image.entry = a.made.entry ∙ ap (λ (d : Image). d.entry) image in
+    let x = sphere_in (executed (setup_in t) t.events) i in
+    let w : Interval = within log.count asked.from asked.to in
+    let order = same.order in
+    ap (λ (d : SphereSetup). account_as d x d.role) a.at
+    ∙ ap (account_as a.setup x) (q.2 ∙ ap (replays_log inputs) parts)
+    ∙ ap (λ (o : Option Interval). account_as a.setup x (IsReplayed (record { log = log; interval = o; strata = None }))) (named-ends inputs.from inputs.to log.count asked same.ends)
+    ∙ intervals_sliced a.setup log w (record { order = omega (arith, order); most = omega arith })
+    ∙ (λ k. (slice log (bytes k) (entry k) w.first w.last).text)
+    ∙ ap (λ (v : Slice). v.text) (slices_stop_at_count log read.image.bytes read.image.entry asked.from asked.to)
 
 -- ---- tails
 

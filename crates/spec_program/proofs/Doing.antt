@@ -19,6 +19,7 @@ use Rattle.spec_strata.proofs.Images.Ending.{ends-as, fits-complete}
 use Rattle.spec_run.proofs.Described.{points-possible}
 use Rattle.spec_tail.specs.Reading as tails
 use Rattle.spec_program.specs.declared.status.Status.{Status}
+use Rattle.spec_program.specs.Accepted.{AreReadAgain}
 use Rattle.spec_program.specs.Asked.{IsDone, outcome_for}
 use Rattle.spec_program.specs.Built.{bad_image, bad_log}
 use Rattle.spec_program.specs.commands.Asm as asm
@@ -43,6 +44,7 @@ use Rattle.spec_program.specs.Stages.{Refused}
 use Rattle.spec_program.specs.Tasks.{Task, absent, setup_in, task_named}
 use Rattle.spec_program.proofs.Able.{task_can_finish}
 use Rattle.spec_program.proofs.Drilling.{drill_reproduced}
+use Rattle.spec_program.proofs.Accepting.{tails_accepted}
 use Rattle.spec_program.proofs.Made.{not_refused, then_ok}
 
 -- a status that says that all is done
@@ -113,17 +115,19 @@ module _ (m : Contents) (before after : Outside) (s : Status) where
   reached : (made finish : Finish) → ◌≡◌ {A = Outcome} (Ok made) (Ok finish) → IsReached finish → IsReached made
   reached made finish e f = subst (λ (o : Outcome). IsFinished o m before after s) (sym e) f
 
-  run_done : (plan : List ℕ) (finish : Finish) → run.outcome m plan ≡ Ok finish → run.HasLimits plan m → IsReached finish → Headline plan m after.known before.taken after.taken s
+  run_done : (plan : List ℕ) (finish : Finish) → run.outcome m plan ≡ Ok finish → run.HasRun plan m → IsReached finish → Headline plan m after.known before.taken after.taken s
   run_done plan finish e limits f =
       let task = then_ok (task_named m plan) _ finish e in
       let same : limits.0 ≡ task.0 = same_Ok limits.0 task.0 (sym limits.1 ∙ task.1) in
+      let within = subst (λ (t : Task). IsWithinLimits (setup_in t)) same limits.2 in
       let g = subst (λ (o : Outcome). IsFinished o m before after s) (sym task.2) f in
       record {
         task = task.0;
         asked = task.1;
-        limits = subst (λ (t : Task). IsWithinLimits (setup_in t)) same limits.2;
+        limits = within;
         possible = points-possible (setup_in task.0) task.0.events (task_can_finish plan m task.0 task.1).setup;
         files = g.files;
+        tails = tails_accepted task.0 within (subst (λ (t : Task). AreReadAgain t.plan (setup_in t) t.events) same limits.3);
         output = g.output;
         status = g.status;
       }
@@ -203,7 +207,7 @@ module _ (m : Contents) (before after : Outside) (s : Status) where
       record { read = read.0; playback_read = is; done = cut_done name read.0 over.0 over.1 (subst (λ (now : TurnOrEnd). IsReached (cut_at name read.0 now)) over.1 g) }
 
   -- the outcome of a command is reached; a run's machine is within its limits
-  pub done_at : (command : CommandValues) (finish : Finish) → outcome_for m command ≡ Ok finish → ((plan : List ℕ) → command ≡ Run plan → run.HasLimits plan m) → IsFinished (Ok finish) m before after s
+  pub done_at : (command : CommandValues) (finish : Finish) → outcome_for m command ≡ Ok finish → ((plan : List ℕ) → command ≡ Run plan → run.HasRun plan m) → IsFinished (Ok finish) m before after s
       → IsDone command m after.known before.taken after.taken s
   done_at (Run plan) finish e limits f = run_done plan finish e (limits plan refl) f
   done_at (Inspect log) finish e limits f = inspect_done log finish e f

@@ -5,4 +5,5 @@ pub mod Able
 pub mod Finishing
 pub mod Agreeing
 pub mod Drilling
+pub mod Accepting
 pub mod Doing

@@ -1,16 +1,20 @@
 -- What tasks have in common that agree on a sphere.
-use Rattle.std.specs.Prelude.{◌≡◌, ℕ, List, slice_get, Some, None}
+use Rattle.std.specs.Prelude.{◌≡◌, ℕ, ◌≤◌, List, slice_get, Option, Some, None, Ok}
 use Rattle.dl_account.specs.Account.{account_of}
+use Rattle.dl_elf.specs.Loading.{image_of}
 use Rattle.dl_files.specs.Contents.{Contents}
 use Rattle.dl_entry.specs.declared.End.{End}
 use Rattle.dl_plan.specs.declared.Product.{Product}
 use Rattle.dl_plan.specs.Values.{EpochValues}
+use Rattle.dl_words.specs.Commands.{IntervalValues}
 use Rattle.spec_play.specs.declared.WalkEnd.{WalkEnd}
 use Rattle.spec_protocol.specs.promises.Sound.{IsWithinLimits}
 use Rattle.spec_run.specs.Tails.{tail_of_points}
 use Rattle.spec_run.specs.Texts.{log_of_points}
 use Rattle.spec_program.specs.Built.{epoch_setup, record_setup}
-use Rattle.spec_program.specs.Files.{RecordInputs, whole, RoleRead, PlainRead, RecordRead, ReplayRead, StrataRead, SphereRead}
+use Rattle.spec_program.specs.commands.Interval.{told}
+use Rattle.spec_program.specs.Files.{RecordInputs, ReplayInputs, whole, RoleRead, PlainRead, RecordRead, ReplayRead, StrataRead, SphereRead}
+use Rattle.spec_program.specs.Operands.{PlaybackRead}
 use Rattle.spec_program.specs.Runs.{product_for}
 use Rattle.spec_program.specs.Tasks.{Task, IsTask, setup_in}
 use Rattle.spec_tail.specs.Bytes.{tail_bytes}
@@ -53,6 +57,35 @@ RecordingsAreReplayed =
     → slice_get u.read.spheres j
     ≡ Some (record s { role = ReplayRead (whole (log_of_points (setup_in t) t.events i (record_setup inputs))) })
     → account_in t i ≡ account_in u j
+
+-- ---- intervals
+
+-- the numbers of `interval` are the ends that a plan names, one of them at least. In place of a first that it doesn't name they
+-- have 0, and in place of a last the log's count or more
+abbrev pub AreEnds : (from to : Option ℕ) → (count : ℕ) → IntervalValues → Type 0
+AreEnds None None count asked = ⊥
+AreEnds None (Some to) count asked = (asked.from ≡ 0) × (asked.to ≡ to)
+AreEnds (Some from) None count asked = (asked.from ≡ from) × (count ≤ asked.to)
+AreEnds (Some from) (Some to) count asked = (asked.from ≡ from) × (asked.to ≡ to)
+
+-- a sphere replays an interval, and `interval` is asked for the same one, of the same log on the same image
+pub record AsksSame (s : SphereRead) (inputs : ReplayInputs) (asked : IntervalValues) (read : PlaybackRead) : Type 0 where
+  pub image : image_of s.image s.memory ≡ Ok read.image
+  pub log : inputs.log ≡ Ok read.log
+  pub ends : AreEnds inputs.from inputs.to read.log.count asked
+  pub order : asked.from ≤ asked.to
+
+-- then the account that the task has written is the text that `interval` tells
+abbrev pub IntervalsAreTold : Type 0
+IntervalsAreTold =
+    (plan : List ℕ) (m : Contents) (t : Task) (i : ℕ) (s : SphereRead) (inputs : ReplayInputs) (asked : IntervalValues) (read : PlaybackRead)
+    → IsTask plan m t
+    → s.role ≡ ReplayRead inputs
+    → slice_get t.read.spheres i ≡ Some s
+    → AsksSame s inputs asked read
+    → account_in t i ≡ (told asked read).text
+
+-- ---- tails
 
 -- how a walk has ended; one that was stopped has come so far
 abbrev pub walk_end : WalkEnd → End

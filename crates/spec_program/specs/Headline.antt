@@ -9,6 +9,7 @@ use Rattle.spec_protocol.specs.promises.Sound.{IsWithinLimits}
 use Rattle.spec_run.specs.Runs.{diverges}
 use Rattle.spec_run.specs.Texts.{summary_text}
 use Rattle.spec_program.specs.declared.status.Status.{Status}
+use Rattle.spec_program.specs.Accepted.{AreAccepted}
 use Rattle.spec_program.specs.Ends.{TookAll}
 use Rattle.spec_program.specs.Runs.{writes_for}
 use Rattle.spec_program.specs.Tasks.{Task, IsTask, setup_in, points_in}
@@ -27,6 +28,8 @@ pub record Headline (plan : List ℕ) (m : Contents) (known : Option Contents) (
   -- each file of the plan holds what is made of the points and of executing them, or of a replayed log; every other file
   -- holds what it held
   pub files : known ≡ Some (written (writes_for task.plan (setup_in task) task.events) m)
+  -- each tail among them is one that `tail` accepts: its play is complete, and has the account of its sphere, byte for byte
+  pub tails : AreAccepted task
   -- the sink took the summary
   pub output : TookAll (summary_text (setup_in task) task.events) old new
   -- the status says whether a replayed log diverges from its image

@@ -12,6 +12,7 @@ pub mod Outside
 pub mod Ends
 pub mod Operands
 pub mod Runs
+pub mod Accepted
 pub mod Headline
 pub mod commands
 pub mod Asked

@@ -6,5 +6,6 @@ mod promise;
 pub mod status;
 
 pub use promise::{
-    accounts_agree, drills_are_reproduced, recordings_are_replayed, tails_are_walked, tasks_are_run,
+    accounts_agree, drills_are_reproduced, intervals_are_told, recordings_are_replayed,
+    tails_are_walked, tasks_are_run,
 };

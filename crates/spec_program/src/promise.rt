@@ -1,5 +1,5 @@
 //! What is promised of commands. Each promise is a clause of a function that does nothing.
-ghost use Rattle.spec_program.specs.Agreement.{AccountsAgree, RecordingsAreReplayed, TailsAreWalked};
+ghost use Rattle.spec_program.specs.Agreement.{AccountsAgree, IntervalsAreTold, RecordingsAreReplayed, TailsAreWalked};
 ghost use Rattle.spec_program.specs.Drilled.{DrillsAreReproduced};
 ghost use Rattle.spec_program.specs.Promise.{TasksAreRun};
 
@@ -18,6 +18,12 @@ pub fn accounts_agree()
 /// Where one task records a sphere whole and another replays that log on the same image, both write the same account.
 pub fn recordings_are_replayed()
     ensures { RecordingsAreReplayed }
+{}
+
+/// The account of a sphere that replays an interval is, byte for byte, the text that `interval` tells of the same log, image and
+/// ends.
+pub fn intervals_are_told()
+    ensures { IntervalsAreTold }
 {}
 
 /// What a task writes as the log of a sphere that it records in epochs is a tail, and the walk of this tail has the account

@@ -10,5 +10,6 @@ pub mod Threads
 pub mod Transfers
 pub mod Schedules
 pub mod OneChunk
+pub mod Youngers
 pub mod AsksGranted
 pub mod Lasts

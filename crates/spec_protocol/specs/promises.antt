@@ -12,6 +12,7 @@ pub mod Logs
 pub mod Committers
 pub mod Lasts
 pub mod OneChunk
+pub mod Youngers
 pub mod ConsoleBytes
 pub mod Alike
 pub mod Kept

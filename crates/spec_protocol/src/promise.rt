@@ -13,6 +13,7 @@ ghost use Rattle.spec_protocol.specs.promises.Pieces.{PiecesCountNothing, Pieces
 ghost use Rattle.spec_protocol.specs.promises.PlayingBack.{LogsPlayBack};
 ghost use Rattle.spec_protocol.specs.promises.Replying.{AsksAreGranted, GrantsAreClear, PointsAreMade};
 ghost use Rattle.spec_protocol.specs.promises.Sound.{EventsKeepSound, WorldsAreSound};
+ghost use Rattle.spec_protocol.specs.promises.Youngers.{HitsSpareTheOlder, InterruptsAbandon, YoungersBegin};
 
 /// For every setup and every list of events, in any order: the plain and recorded spheres, with their threads, requests,
 /// current memories, commits and logs, and the devices with the console, are those of executing the serialisation points
@@ -41,6 +42,25 @@ pub fn invariants_hold()
 /// After every list of events of a machine of depth 1: no core has a younger chunk, and no step begins one.
 pub fn cores_have_one_chunk()
     ensures { CoresHaveOneChunk }
+{}
+
+/// Whatever the world and the event: a core that holds one chunk holds two afterwards exactly if the event is a step of that
+/// core, the machine has depth 2, the sphere goes on, and the chunk was closed so that one may follow: by its limit, or, except in
+/// a replay, because it found no room or was cut off.
+pub fn youngers_begin()
+    ensures { YoungersBegin }
+{}
+
+/// A flight that hits what the younger chunk has read or written, and not the older, squashes the younger alone: the older is as
+/// it was.
+pub fn hits_spare_the_older()
+    ensures { HitsSpareTheOlder }
+{}
+
+/// After every list of events: if a core with two chunks is granted its older one, the younger becomes the older exactly if the
+/// log that is replayed has no interrupt of the thread there, or none is replayed. Otherwise the younger is abandoned.
+pub fn interrupts_abandon()
+    ensures { InterruptsAbandon }
 {}
 
 /// After every list of events there are as many spheres, cores and slots as at first, and the sizes are the same.

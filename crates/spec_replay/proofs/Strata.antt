@@ -8,3 +8,4 @@ pub mod Steps
 pub mod Moved
 pub mod All
 pub mod Stopping
+pub mod Ends

@@ -1,16 +1,18 @@
 -- A sphere that is replayed in strata, beside the play of their log: it has done all strata before the present one, and of that
 -- some commits of each thread, its first ones; and maybe pieces of one more.
-use Rattle.std.specs.Prelude.{◌≡◌, ℕ, ◌<◌, ◌≤◌, ◌⊎◌, ◌++◌, List, [], ◌∷◌, slice_index_or, Some, None}
+use Rattle.std.specs.Prelude.{◌≡◌, ◌↔◌, ℕ, ◌<◌, ◌≤◌, ◌⊎◌, ◌++◌, List, [], ◌∷◌, length, take, slice_index_or, Option, Some, None}
+use Rattle.dl_entry.specs.declared.Commit.{Commit}
+use Rattle.dl_entry.specs.declared.End.{End}
 use Rattle.spec_isa.specs.declared.thread.Parts.{Parts}
 use Rattle.spec_log.specs.declared.LogParts.{LogParts}
-use Rattle.spec_play.specs.Turns.{Turn}
-use Rattle.spec_play.specs.Plays.{Played, opened, plays}
+use Rattle.spec_play.specs.Turns.{Turn, Ended}
+use Rattle.spec_play.specs.Plays.{Played, opened, play, plays}
 use Rattle.spec_strata.specs.declared.stratum.Stratum.{Stratum}
 use Rattle.spec_strata.specs.declared.stratum.Stratum.TheVariants.{Chunks, Serial, Dma}
 use Rattle.spec_strata.specs.declared.strata.StrataParts.{StrataParts}
 use Rattle.spec_strata.specs.Strata.{commits_in_all}
 use Rattle.spec_strata.specs.Canonical.{canonical}
-use Rattle.spec_strata.specs.InPlay.{in_stratum}
+use Rattle.spec_strata.specs.InPlay.{commits_by, in_stratum}
 use Rattle.spec_strata.specs.Standing.{Standing}
 use Rattle.spec_sphere.specs.sphere.Spheres.{Cursor, Replay, Sphere}
 use Rattle.spec_sphere.specs.sphere.Commits.{now_by}
@@ -62,3 +64,20 @@ pub record FollowsInStrata (v : StrataParts) (image : SphereSetup) (p : Sphere) 
       IsWhole at p cursor ⊎ ((k : ℕ) × HasPieces (canonical v) at standing k p cursor)
   pub now : let at = stratum_at v image standing in
       cursor.total ≡ 0 → cursor.now ≡ now_by (Some standing) (canonical v) at.progress at.used at.threads
+
+-- ---- it never diverges
+
+-- these commits are the first ones of all
+abbrev pub AreFirst : (commits all : List Commit) → Type 0
+AreFirst commits all = take (length commits) all ≡ commits
+
+-- the sphere p is complete exactly if no stratum is left, and ends in no other way. Each thread's commits, and those of DMAs,
+-- are its first ones of the play of the strata's log, with their loads and outputs
+pub record NeverDiverges (v : StrataParts) (image : SphereSetup) (p : Sphere) : Type 0 where
+  pub cursor : Cursor
+  pub role : p.role ≡ Replay cursor
+  pub standing : Standing
+  pub there : cursor.strata ≡ Some standing
+  pub ends : (how : End) → (cursor.now ≡ Ended how) ↔ ((standing.strata ≡ []) × (how ≡ End.Complete (canonical v).count))
+  pub first : (by : Option ℕ) → let all = (play (canonical v) image.memory image.entry).progress.commits in
+      AreFirst (commits_by by p.progress.commits) (commits_by by all)

@@ -15,7 +15,7 @@ use Rattle.spec_protocol.specs.promises.Promises.{IsSetup, after}
 use Rattle.spec_sphere.specs.promises.Sound.{AreReplayableIf}
 use Rattle.spec_strata.specs.declared.strata.StrataParts.{StrataParts}
 use Rattle.spec_replay.specs.Following.{Follows}
-use Rattle.spec_replay.specs.InStrata.{FollowsInStrata}
+use Rattle.spec_replay.specs.InStrata.{FollowsInStrata, NeverDiverges}
 
 -- ---- every replay is its log's play
 
@@ -45,6 +45,13 @@ StrataAreFollowed =
     (image : SphereSetup) (v : StrataParts) (s : Setup) (es : List Event) (i : ℕ) (p : Sphere)
     → IsReplay image (in_strata v) s es i p
     → FollowsInStrata v image p
+
+-- and it never diverges: it has stopped exactly if all strata are done, and is then complete
+abbrev pub StrataNeverDiverge : Type 0
+StrataNeverDiverge =
+    (image : SphereSetup) (v : StrataParts) (s : Setup) (es : List Event) (i : ℕ) (p : Sphere)
+    → IsReplay image (in_strata v) s es i p
+    → NeverDiverges v image p
 
 -- ---- a replay that has stopped has done the whole play
 

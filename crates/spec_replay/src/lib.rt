@@ -6,4 +6,5 @@ mod promise;
 
 pub use promise::{
     replays_agree, replays_are_plays, stopped_replays_are_played, strata_are_followed,
+    strata_never_diverge,
 };

@@ -1,5 +1,5 @@
 //! What is promised of replays. Each promise is a clause of a function that does nothing.
-ghost use Rattle.spec_replay.specs.Promises.{ReplaysAgree, ReplaysArePlays, StoppedArePlayed, StrataAreFollowed};
+ghost use Rattle.spec_replay.specs.Promises.{ReplaysAgree, ReplaysArePlays, StoppedArePlayed, StrataAreFollowed, StrataNeverDiverge};
 
 /// After every list of events, with any other spheres beside it and for logs of each mode: a sphere that is replayed, and not
 /// in strata, has done whole commits of its log's play on its image, from the first one that it was asked for, the same ones
@@ -16,6 +16,12 @@ pub fn replays_are_plays()
 /// memory are those that these commits leave, moved on by the pieces.
 pub fn strata_are_followed()
     ensures { StrataAreFollowed }
+{}
+
+/// Such a sphere never diverges. It has stopped exactly if the commits of all strata are done, and is then complete. What is done
+/// of a stratum are commits of the play of the strata's log: each thread's first ones, with their loads and outputs.
+pub fn strata_never_diverge()
+    ensures { StrataNeverDiverge }
 {}
 
 /// A replay that has stopped has done all commits of the play that it was asked for, its log's whole play or an interval of it,

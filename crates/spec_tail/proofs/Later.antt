@@ -1,8 +1,8 @@
 -- A tail plays as its log for later does, except for what is left over at the end.
-use Rattle.std.proofs.Common.{◌≡◌, ℕ, zero, suc, ◌+◌, ◌-◌, ◌<◌, ◌≤◌, inl, inr, Bool, true, false, ◌&&◌, cond, List, [], ◌∷◌, ◌++◌, length, map, Option, Some, None, refl, ap, sym, ◌∙◌, subst, arith}
-use Rattle.std.specs.Prelude.{nat_eq, nat_lt, nat_le, ◌==◌, ◌||◌, not, find, option_map, slice_get}
-use Rattle.std.specs.List.{list_any, list_all}
-use Rattle.std.proofs.lemmas.Bool.{cases_lt, le-ltb, lt-ltb, ltb-true, ltb-false, true≢false}
+use Rattle.std.proofs.Common.{◌≡◌, ℕ, zero, suc, ◌+◌, ◌-◌, ◌<◌, ◌≤◌, Bool, true, false, ◌&&◌, cond, List, [], ◌∷◌, length, map, Option, Some, None, refl, ap, sym, ◌∙◌, subst, arith}
+use Rattle.std.specs.Prelude.{nat_eq, nat_lt, ◌==◌, ◌||◌, not, option_map, slice_get}
+use Rattle.std.specs.List.{list_any}
+use Rattle.std.proofs.lemmas.Bool.{lt-ltb, ltb-true, true≢false}
 use Rattle.std.proofs.lemmas.List.{length-map}
 use Rattle.std.proofs.lemmas.Option.{slice_get_past, slice_get_within}
 use Rattle.dl_entry.specs.declared.Actor.{Actor}
@@ -10,7 +10,6 @@ use Rattle.dl_entry.specs.declared.End.{End}
 use Rattle.dl_entry.specs.declared.Input.{Input}
 use Rattle.dl_entry.specs.declared.Request.{Request}
 use Rattle.dl_entry.specs.declared.Why.{Why}
-use Rattle.dl_entry.specs.Numbers.{most_threads}
 use Rattle.spec_isa.specs.declared.thread.Parts.{Parts}
 use Rattle.spec_isa.specs.declared.thread.Kind.{Kind}
 use Rattle.spec_isa.specs.Runs.{Run, run}
@@ -20,11 +19,10 @@ use Rattle.spec_kernel.specs.Records.{fits}
 use Rattle.spec_kernel.specs.Serving.{serve}
 use Rattle.spec_log.specs.declared.DmaRecord.{DmaRecord}
 use Rattle.spec_log.specs.declared.Interrupt.{Interrupt}
-use Rattle.spec_log.specs.declared.LogParts.{LogParts}
 use Rattle.spec_log.specs.declared.ModeName.{ModeName}
 use Rattle.spec_log.specs.declared.ShortSize.{ShortSize}
 use Rattle.spec_log.specs.declared.Sizes.{Sizes}
-use Rattle.spec_log.specs.Head.{is_dma_at, head_by_turn, head_in}
+use Rattle.spec_log.specs.Head.{head_by_turn, head_in}
 use Rattle.spec_log.proofs.Threads.{threads-few}
 use Rattle.spec_log.specs.Size.{thread_size, dma_size, size_in}
 use Rattle.spec_play.specs.declared.used.Used.{Used}
@@ -32,8 +30,8 @@ use Rattle.spec_play.specs.declared.WalkEnd.{WalkEnd}
 use Rattle.spec_play.specs.Effects.{Effect, chunk_effect, serial_effect}
 use Rattle.spec_play.specs.Progress.{Progress, position, nothing_used, with_effect, with_dma, with_dma_used, with_interrupt, with_input}
 use Rattle.spec_play.specs.Plays.{Played, with_threads, settled, size_or_standard, thread_verdict, play_thread, dma_settled, play_turn, play_one, plays}
-use Rattle.spec_play.specs.States.{State, progress_from, resumed}
-use Rattle.spec_play.specs.Transfers.{DmaVerdict, DmaGoes, DmaFails, dma_unless, transferred, is_for, dma_verdict}
+use Rattle.spec_play.specs.States.{State, progress_from, resumed, state_of as state_after}
+use Rattle.spec_play.specs.Transfers.{DmaVerdict, DmaGoes, DmaFails, dma_unless, transferred, dma_verdict}
 use Rattle.spec_play.specs.Turns.{TurnOrEnd, Turn, TurnOfDma, Ended, are_sizes_used, has_left_over, at_end, turn_of_thread, turn_of, now_at}
 use Rattle.spec_play.specs.Verdicts.{LogVerdict, Goes, Fails, unless, interrupt_at, with_interrupted, ended, chunk_why, chunk_verdict, serial_why, TakenRecord, given, served_verdict, serial_verdict}
 use Rattle.spec_play.specs.Walks.{walk_end, walked_at, is_looked_at}
@@ -124,9 +122,9 @@ length_first (Some value) p ps rest same = length_taken value p ps rest (takes_i
   length_taken value p ps rest true same = ap suc same
   length_taken value p ps rest false same = refl
 
-length_raised : (xs : List Interrupt) (k : ℕ) (ps : List Parts) → length (raised xs k ps).threads ≡ length ps
-length_raised xs k [] = refl
-length_raised xs k (p ∷ ps) = length_first (interrupt_at xs k p.commits) p ps (raised xs (suc k) ps) (length_raised xs (suc k) ps)
+pub length-raised : (xs : List Interrupt) (k : ℕ) (ps : List Parts) → length (raised xs k ps).threads ≡ length ps
+length-raised xs k [] = refl
+length-raised xs k (p ∷ ps) = length_first (interrupt_at xs k p.commits) p ps (raised xs (suc k) ps) (length-raised xs (suc k) ps)
 
 -- ---- heads
 
@@ -527,7 +525,7 @@ module _ (t : Tail) (tail : IsTail t) where
 
   few_at_base : length (raised_at t).threads ≤ t.log.threads
   few_at_base =
-      let raised = length_raised (log_since t).interrupts 0 (map uncounted t.threads) in
+      let raised = length-raised (log_since t).interrupts 0 (map uncounted t.threads) in
       let all = length-map t.threads uncounted in
       let most = tail.most in
       omega (arith, raised, all, most)
@@ -560,6 +558,19 @@ module _ (t : Tail) (tail : IsTail t) where
 
   pub later-played : AreAlike (play_later t) (play t)
   later-played = plays_alike (opened_later t) (opened t) (begun_alike (raised_at t).refused) t.log.count
+
+  -- so the tail's play leaves the same state, in which so much of the tail's log is used
+  pub state-later : let u = (play_later t).used in
+      state_after (play t) ≡ record (state_after (play_later t)) { used = record u { interrupts = (raised_at t).count + u.interrupts; dmas = u.dmas - dmas_passed t } }
+  state-later = ap state_after later-played.same
+
+  passed_few : (u : Used) (b : Bool) → early ≡ b → IsPassed u → dmas_passed t ≤ u.dmas
+  passed_few u true e passed = let same = passed e in omega (arith, same)
+  passed_few u false e passed = let none = none_passed e in omega (arith, none)
+
+  -- the DMAs that were passed over are among those that count as used
+  pub passed-later : dmas_passed t ≤ (play_later t).used.dmas
+  passed-later = passed_few (play_later t).used early refl later-played.played.passed
 
 -- what a tail's play leaves, from what that of its log for later leaves
 pub tails-play-later : (t : Tail) → IsTail t → walked t ≡ walked_since t (walked_later t)

@@ -1,5 +1,5 @@
 -- A log of which something is left out, and which counts from the base, is a log again.
-use Rattle.std.proofs.Common.{◌≡◌, ℕ, zero, suc, ◌+◌, ◌-◌, ◌^◌, ◌<◌, ◌≤◌, ◌⊎◌, inl, inr, Bool, true, false, cond, List, [], ◌∷◌, All, length, map, get_or, refl, ap, sym, ◌∙◌, subst, add-one, arith}
+use Rattle.std.proofs.Common.{◌≡◌, ℕ, zero, suc, ◌-◌, ◌<◌, ◌≤◌, inl, inr, Bool, true, false, List, [], ◌∷◌, All, length, map, get_or, refl, ap, sym, ◌∙◌, subst, add-one, arith}
 use Rattle.std.specs.Prelude.{nat_lt, not, ◌||◌, filter}
 use Rattle.std.specs.List.{list_any, AllAdjacentBelow}
 use Rattle.std.proofs.lemmas.Bool.{le-ltb, ltb-true, ltb-false, true≢false}
@@ -11,7 +11,7 @@ use Rattle.spec_log.specs.declared.ModeName.{ModeName}
 use Rattle.spec_log.specs.declared.ShortSize.{ShortSize}
 use Rattle.spec_log.specs.declared.Sizes.{Sizes}
 use Rattle.spec_log.specs.Log.{ComesBefore, IsSection, IsShortSize, AreShortSizes, IsSizes, IsInterrupt, AreInterrupts, IsDmaRecord, AreDmas, IsLog}
-use Rattle.spec_tail.specs.Playing.{begun, no_thread, short_since, interrupt_since, dma_since}
+use Rattle.spec_tail.specs.Playing.{begun, short_since, interrupt_since, dma_since}
 use Rattle.spec_tail.specs.Later.{is_early_size, sizes_later, is_later_interrupt, interrupts_later, is_early_dma, dmas_later, log_later}
 use Rattle.spec_tail.specs.Tails.{Tail, IsTail}
 

@@ -1,5 +1,5 @@
 -- A commit of a play leaves no more threads than its log may have.
-use Rattle.std.proofs.Common.{◌≡◌, ℕ, zero, suc, ◌+◌, ◌<◌, ◌≤◌, Bool, true, false, ◌&&◌, eqb, cond, List, [], ◌∷◌, ◌++◌, length, Option, Some, None, refl, sym, ap, ◌∙◌, arith}
+use Rattle.std.proofs.Common.{◌≡◌, ℕ, ◌+◌, ◌≤◌, Bool, true, false, ◌&&◌, eqb, cond, List, [], ◌∷◌, length, Option, Some, None, refl, sym, arith}
 use Rattle.std.specs.Prelude.{slice_get, slice_set, nat_lt, ◌%◌}
 use Rattle.std.proofs.lemmas.Bool.{ltb-true, true≢false}
 use Rattle.std.proofs.lemmas.List.{length-append, length-set}
@@ -16,7 +16,7 @@ use Rattle.spec_log.specs.Size.{size_in}
 use Rattle.spec_kernel.specs.Needs.{Need, next_kind, next_operation, need, a0, a1, a2, cut}
 use Rattle.spec_kernel.specs.Answers.{bad_buffer, refused}
 use Rattle.spec_kernel.specs.Interrupts.{takes_interrupt, interrupted}
-use Rattle.spec_kernel.specs.Calls.{Called, gives, exit, spawned, spawn, returned, with_result, set_handler, iret, request_dma, is_dma_buffer, called}
+use Rattle.spec_kernel.specs.Calls.{Called, gives, spawned, spawn, returned, with_result, set_handler, iret, request_dma, is_dma_buffer, called}
 use Rattle.spec_kernel.specs.Serving.{StepResult, outside_called, inside_called, is_outside, device_loaded, device_stored, serve_kind, serve}
 use Rattle.spec_play.specs.Effects.{Effect, chunk_effect, serial_effect}
 use Rattle.spec_play.specs.Progress.{Progress, with_interrupt}

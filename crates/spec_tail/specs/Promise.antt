@@ -8,7 +8,8 @@ use Rattle.spec_play.specs.Plays.{Played, opened as log_opened, plays, play as l
 use Rattle.spec_play.specs.States.{walked_from}
 use Rattle.spec_play.specs.Turns.{TurnOrEnd, Turn, TurnOfDma, Ended}
 use Rattle.spec_tail.specs.Cutting.{IsTailOf}
-use Rattle.spec_tail.specs.Tails.{Tail, state_of}
+use Rattle.spec_tail.specs.Direct as direct
+use Rattle.spec_tail.specs.Tails.{Tail, IsTail, state_of}
 use Rattle.spec_tail.specs.Playing.{begun, counted_from, end_from, played, walked}
 
 -- a tail that has all of a recording: no commit comes before it, and no interrupt is logged for a thread's first commit
@@ -56,3 +57,25 @@ TailsPlayOn =
     (log : LogParts) (memory : List ℕ) (entry : ℕ) (t : Tail)
     → IsLog log → FitsImage log memory entry → IsTailOf log memory entry t
     → PlaysOn log memory entry t
+
+-- ---- told directly
+
+-- a play that counts from the base, counted from the recording's start
+abbrev pub told : Tail → Played → Played
+told t w =
+    record {
+      memory = w.memory;
+      threads = counted_from (begun t.threads) 0 w.threads;
+      progress = record w.progress { first = t.base + w.progress.first };
+      used = w.used;
+      now = turn_from t.base w.now;
+    }
+
+-- the play is the one that is told directly: after any number of commits, and in what its walk leaves
+pub record IsDirect (t : Tail) : Type 0 where
+  pub each : (i : ℕ) → direct.played t i ≡ told t (played t i)
+  pub walked : direct.walked t ≡ walked t
+
+-- for every tail, whether it plays to its end or diverges
+abbrev pub TailsAreDirect : Type 0
+TailsAreDirect = (t : Tail) → IsTail t → IsDirect t

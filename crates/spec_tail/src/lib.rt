@@ -6,4 +6,4 @@ mod draft;
 mod promise;
 
 pub use draft::{Row, TailDraft, TailHeader};
-pub use promise::{tails_play_on, whole_tails_play_logs};
+pub use promise::{tails_are_direct, tails_play_on, whole_tails_play_logs};

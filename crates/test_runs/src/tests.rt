@@ -1,11 +1,13 @@
 //! The program over files and sinks in memory, and once over the real ones.
 use dl_commands::{delorean, delorean_in_memory};
-use dl_files::{Files, GoodFiles, GoodSink, Sink};
+use dl_files::{Files, GoodFiles, GoodSink, MemFiles, MemSink, Sink};
+use short::whole;
 use spec_program::status::Status;
 use std::alloc::Global;
 use std::process::Abort;
 use std::test::Fail;
 
+mod calls;
 mod depths;
 mod failures;
 mod in_strata;
@@ -19,6 +21,7 @@ mod real_files;
 mod recording;
 mod refusals;
 mod rows;
+mod short;
 mod strata;
 mod tails;
 mod tools;
@@ -47,20 +50,44 @@ fn holds<F: Files>(alloc: Global, files: &mut F, name: &str, want: &[u8]) -> boo
     }
 }
 
-fn hold_all<F: Files>(rt: &impl Abort, alloc: Global, files: &mut F, written: &[(&str, &[u8])]) {
-    for (name, want) in written {
-        assert!(rt; holds(alloc, files, name, want), "{name}");
-    }
-}
-
-fn write_all<F: Files>(files: &mut F, read: &[(&str, &[u8])]) -> Result<(), Fail> {
-    for (name, bytes) in read {
-        files.write(name, bytes)?;
+fn hold_all<F: Files>(
+    rt: &impl Abort,
+    alloc: Global,
+    files: &mut F,
+    written: &[(&str, &[u8])],
+) -> Result<(), Fail> {
+    for (name, text) in written {
+        let want = whole(alloc, text)?;
+        assert!(rt; holds(alloc, files, name, want.as_slice()), "{name}");
     }
     Ok(())
 }
 
-/// Words, the files that are read, what is answered and said, and the files that are written.
+// The call of the files that has this number fails, and this is answered and said.
+fn fails_at(
+    rt: &impl Abort,
+    alloc: Global,
+    words: &[&str],
+    files: GoodFiles,
+    call: u64,
+    status: Status,
+    said: &[u8],
+) -> Result<MemFiles, Fail> {
+    let mut files = MemFiles::new(alloc, files, &[call])?;
+    let mut out = MemSink::new(alloc, &[])?;
+    assert!(rt; answer(alloc, words, &mut files, &mut out) == status);
+    assert!(rt; out.taken() == whole(alloc, said)?.as_slice());
+    Ok(files)
+}
+
+fn write_all<F: Files>(alloc: Global, files: &mut F, read: &[(&str, &[u8])]) -> Result<(), Fail> {
+    for (name, text) in read {
+        files.write(name, whole(alloc, text)?.as_slice())?;
+    }
+    Ok(())
+}
+
+/// Words, the files that are read, what is answered and said, and the files that are written. The texts may be [short](short).
 struct Case {
     words: &'static [&'static str],
     read: &'static [(&'static str, &'static [u8])],
@@ -78,10 +105,9 @@ fn come_out(rt: &impl Abort, alloc: Global, cases: &[Case]) -> Result<(), Fail> 
 
 fn comes_out(rt: &impl Abort, alloc: Global, case: &Case) -> Result<(), Fail> {
     let mut files = GoodFiles::new(alloc);
-    write_all(&mut files, case.read)?;
+    write_all(alloc, &mut files, case.read)?;
     let mut out = GoodSink::new(alloc);
     assert!(rt; answer_in_memory(alloc, case.words, &mut files, &mut out) == case.status);
-    assert!(rt; out.taken() == case.said);
-    hold_all(rt, alloc, &mut files, case.written);
-    Ok(())
+    assert!(rt; out.taken() == whole(alloc, case.said)?.as_slice());
+    hold_all(rt, alloc, &mut files, case.written)
 }

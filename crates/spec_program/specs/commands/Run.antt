@@ -4,6 +4,7 @@ use Rattle.dl_files.specs.Contents.{Contents}
 use Rattle.dl_plan.specs.Files.{input_names}
 use Rattle.dl_plan.specs.Values.{PlanValues}
 use Rattle.spec_protocol.specs.promises.Sound.{IsWithinLimits}
+use Rattle.spec_program.specs.Accepted.{AreReadAgain}
 use Rattle.spec_program.specs.Outcomes.{Finish}
 use Rattle.spec_program.specs.Runs.{ran}
 use Rattle.spec_program.specs.Stages.{Refused, ◌>>◌}
@@ -21,6 +22,6 @@ reads m plan = plan ∷ inputs_of (plan_at m plan)
 abbrev pub outcome : Contents → (plan : List ℕ) → Result Finish Refused
 outcome m plan = task_named m plan >> λ t. ran t.plan (setup_in t) t.events
 
--- it has a task, whose machine is within its limits
-abbrev pub HasLimits : (plan : List ℕ) → Contents → Type 0
-HasLimits plan m = (t : Task) × IsTask plan m t × IsWithinLimits (setup_in t)
+-- it has a task, whose machine is within its limits, and the tails that its run writes are read again
+abbrev pub HasRun : (plan : List ℕ) → Contents → Type 0
+HasRun plan m = (t : Task) × IsTask plan m t × IsWithinLimits (setup_in t) × AreReadAgain t.plan (setup_in t) t.events

@@ -54,7 +54,7 @@ position-from v image x c =
 abbrev pub now_in_strata : StrataParts → SphereSetup → Standing → TurnOrEnd
 now_in_strata v image x = let y = stratum_at v image x in now_by (Some x) (canonical v) y.progress y.used y.threads
 
-now-at-start : (v : StrataParts) (image : SphereSetup) (x : Standing) → Comes v image x → x.done ≡ [] → now_in_strata v image x ≡ (let y = stratum_from v image x in now_by (Some x) (canonical v) y.progress y.used y.threads)
+pub now-at-start : (v : StrataParts) (image : SphereSetup) (x : Standing) → Comes v image x → x.done ≡ [] → now_in_strata v image x ≡ (let y = stratum_from v image x in now_by (Some x) (canonical v) y.progress y.used y.threads)
 now-at-start v image x c none =
     ap (λ (y : Played). now_by (Some x) (canonical v) y.progress y.used y.threads)
     (none-in (canonical v) (stratum_from v image x) x.done c.looked (λ j. ap (λ (ds : List ℕ). count_at ds j) none))

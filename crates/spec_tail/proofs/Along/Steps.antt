@@ -77,7 +77,7 @@ pub record IsFit (rest : LogParts) (begun : ℕ → ℕ) (w : Played) : Type 0 w
 
 -- ---- threads
 
-set-counted : (begun : ℕ → ℕ) (j : ℕ) (ts : List Parts) (k : ℕ) (t : Parts) → slice_set (counted_from begun j ts) k (recounted (begun (j + k)) t) ≡ counted_from begun j (slice_set ts k t)
+pub set-counted : (begun : ℕ → ℕ) (j : ℕ) (ts : List Parts) (k : ℕ) (t : Parts) → slice_set (counted_from begun j ts) k (recounted (begun (j + k)) t) ≡ counted_from begun j (slice_set ts k t)
 set-counted begun j [] k t = refl
 set-counted begun j (u ∷ ts) zero t =
     let h : j + 0 ≡ j = omega arith in
@@ -96,24 +96,24 @@ new-counted begun j (t ∷ ts) none =
     ap (λ (u : Parts). u ∷ counted_from begun (suc j) ts) (recounted-none (begun j) t (none j (omega arith)))
     ∙ ap (λ (us : List Parts). t ∷ us) (new-counted begun (suc j) ts (λ k l. none k (omega (arith, l))))
 
-append-counted : (begun : ℕ → ℕ) (j : ℕ) (ts us : List Parts) → ((k : ℕ) → j + length ts ≤ k → begun k ≡ 0) → counted_from begun j (ts ++ us) ≡ counted_from begun j ts ++ us
+pub append-counted : (begun : ℕ → ℕ) (j : ℕ) (ts us : List Parts) → ((k : ℕ) → j + length ts ≤ k → begun k ≡ 0) → counted_from begun j (ts ++ us) ≡ counted_from begun j ts ++ us
 append-counted begun j [] us none = new-counted begun j us (λ k l. none k (omega (arith, l)))
 append-counted begun j (t ∷ ts) us none =
     ap (λ (xs : List Parts). recounted (begun j) t ∷ xs) (append-counted begun (suc j) ts us (λ k l. none k (omega (arith, l))))
 
 -- ---- one commit
 
-ltb-shift : (b i n : ℕ) → nat_lt (b + i) (b + n) ≡ nat_lt i n
+pub ltb-shift : (b i n : ℕ) → nat_lt (b + i) (b + n) ≡ nat_lt i n
 ltb-shift b i n =
     elim (cases_lt i n) [
       | inl less ↦ lt-ltb (b + i) (b + n) (omega (arith, less)) ∙ sym (lt-ltb i n less)
       | inr most ↦ le-ltb (b + i) (b + n) (omega (arith, most)) ∙ sym (le-ltb i n most)
     ]
 
-position-lifted : (base : ℕ) (p : Progress) → position (progress_lifted base p) ≡ base + position p
+pub position-lifted : (base : ℕ) (p : Progress) → position (progress_lifted base p) ≡ base + position p
 position-lifted base p = omega arith
 
-end-lifted : (base i : ℕ) (left : Bool) → at_end (base + i) left ≡ turn_from base (at_end i left)
+pub end-lifted : (base i : ℕ) (left : Bool) → at_end (base + i) left ≡ turn_from base (at_end i left)
 end-lifted base i true = refl
 end-lifted base i false = refl
 
@@ -122,13 +122,13 @@ thread-turn-lifted base i k b None = refl
 thread-turn-lifted base i k b (Some t) =
     either (turn_from base) (is_live t) (Turn k) (Ended (End.Diverged i Why.NoThread)) (Turn k) (Ended (End.Diverged (base + i) Why.NoThread)) refl refl
 
-turn-lifted : (base i : ℕ) (begun : ℕ → ℕ) (ts : List Parts) (o : Option Actor) → turn_of (base + i) (counted_from begun 0 ts) o ≡ turn_from base (turn_of i ts o)
+pub turn-lifted : (base i : ℕ) (begun : ℕ → ℕ) (ts : List Parts) (o : Option Actor) → turn_of (base + i) (counted_from begun 0 ts) o ≡ turn_from base (turn_of i ts o)
 turn-lifted base i begun ts None = refl
 turn-lifted base i begun ts (Some Actor.Dma) = refl
 turn-lifted base i begun ts (Some (Actor.Thread k)) =
     ap (turn_of_thread (base + i) k) (get-counted begun 0 ts k) ∙ thread-turn-lifted base i k (begun (0 + k)) (slice_get ts k)
 
-abbrev effect_recounted : (before : ℕ) → Effect → Effect
+abbrev pub effect_recounted : (before : ℕ) → Effect → Effect
 effect_recounted b e = record e { thread = recounted b e.thread }
 
 module _ (log rest : LogParts) (base : ℕ) (begun : ℕ → ℕ) (before : Used) (alike : IsAlike log rest base begun before) where

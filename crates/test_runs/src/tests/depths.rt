@@ -11,45 +11,22 @@ fn depths_come_out_byte_for_byte(rt: HostRuntime) -> Result<(), Fail> {
 
 const CASES: &[Case] = &[TWO_CHUNKS, TWO_CHUNKS_REPLAYED, ONE_CHUNK, THREE_CHUNKS];
 
-const SCRIPT: &[u8] = b"step 0\ncut 0\nstep 0\nstep 0\nask 0\nask 0\nstep 0\nask 0\n";
+const SCRIPT: &[u8] = b"lines: step 0, cut 0, step 0 x2, ask 0 x2, step 0, ask 0";
 
 // Of three commits: two chunks of one instruction, and the exit.
 const LOG: &[u8] =
     b"DLRN\x01\0\0\0d\0\0\0\x03\0\0\0\x03\0\0\0\0\0\x03\0\0\0\x01\0\x01\0\0\0\0\0\0\0\0\0\0\0\0\0\0\0";
 
-const ACCOUNT: &[u8] = b"c 0 0 1\n\
-      c 1 0 1\n\
-      c 2 0 0\n\
-      t 0 0000000C ended:7 00000000 0 00000000 00000000 00000000 00000000 00000000 00000000 00000000 00000000 \
-      00000000 00000007 00000000 00000000 00000000 00000000 00000000 00000000 00000000 00000000 00000000 \
-      00000000 00000000 00000000 00000000 00000000 00000000 00000000 00000000 00000000 00000000 00000000 \
-      00000000\n\
-      m 00000000 9308000013057000730000000000000000000000000000000000000000000000\n\
-      end complete 3\n";
+const ACCOUNT: &[u8] =
+    b"account: c 0 0 1, c 1 0 1, c 2 0 0, t 0 0000000C ended:7 00000000 0 x10=7, \
+  m 00000000 930800001305700073, end complete 3";
 
 // The second chunk begins while the first waits to be granted.
 const TWO_CHUNKS: Case = Case {
     words: RUN,
     read: &[
         ("a.elf", IMAGE),
-        (
-            "plan.toml",
-            b"cores = 1\n\
-              chunk = 100\n\
-              buffer = 16\n\
-              window = 2\n\
-              depth = 2\n\
-              signature = 64\n\
-              script = \"s.txt\"\n\
-              report = \"r.txt\"\n\
-              [[sphere]]\n\
-              image = \"a.elf\"\n\
-              memory = 4096\n\
-              role = \"record\"\n\
-              mode = \"order-size\"\n\
-              log = \"a.log\"\n\
-              account = \"a.txt\"\n",
-        ),
+        ("plan.toml", b"plan: depth = 2; record"),
         ("s.txt", SCRIPT),
     ],
     status: Status::Done,
@@ -59,15 +36,8 @@ const TWO_CHUNKS: Case = Case {
         ("a.txt", ACCOUNT),
         (
             "r.txt",
-            b"g 4 0 0 chunk 1\n\
-              g 5 0 0 chunk 1\n\
-              g 7 0 0 serial 0\n\
-              r Ran 2\n\
-              r Closed 3\n\
-              r Granted 3\n\
-              events 8\n\
-              commits 3\n\
-              s 0 record 3\n",
+            b"lines: g 4 0 0 chunk 1, g 5 0 0 chunk 1, g 7 0 0 serial 0, r Ran 2, r Closed 3, r Granted 3, events 8, \
+              commits 3, s 0 record 3",
         ),
     ],
 };
@@ -79,25 +49,9 @@ const TWO_CHUNKS_REPLAYED: Case = Case {
         ("a.elf", IMAGE),
         (
             "plan.toml",
-            b"cores = 8\n\
-              chunk = 100\n\
-              buffer = 16\n\
-              window = 2\n\
-              depth = 2\n\
-              signature = 64\n\
-              script = \"s.txt\"\n\
-              report = \"r.txt\"\n\
-              [[sphere]]\n\
-              image = \"a.elf\"\n\
-              memory = 4096\n\
-              role = \"replay\"\n\
-              log = \"a.log\"\n\
-              account = \"a.txt\"\n",
+            b"plan: cores = 8, depth = 2; replay, account = \"a.txt\"",
         ),
-        (
-            "s.txt",
-            b"step 0\nstep 0\nstep 0\nask 0\nask 0\nstep 0\nask 0\n",
-        ),
+        ("s.txt", b"lines: step 0 x3, ask 0 x2, step 0, ask 0"),
         ("a.log", LOG),
     ],
     status: Status::Done,
@@ -106,15 +60,8 @@ const TWO_CHUNKS_REPLAYED: Case = Case {
         ("a.txt", ACCOUNT),
         (
             "r.txt",
-            b"g 3 0 0 chunk 1\n\
-              g 4 0 0 chunk 1\n\
-              g 6 0 0 serial 0\n\
-              r Closed 3\n\
-              r Waiting 1\n\
-              r Granted 3\n\
-              events 7\n\
-              commits 3\n\
-              s 0 complete 3\n",
+            b"lines: g 3 0 0 chunk 1, g 4 0 0 chunk 1, g 6 0 0 serial 0, r Closed 3, r Waiting 1, r Granted 3, \
+              events 7, commits 3, s 0 complete 3",
         ),
     ],
 };
@@ -124,24 +71,7 @@ const ONE_CHUNK: Case = Case {
     words: RUN,
     read: &[
         ("a.elf", IMAGE),
-        (
-            "plan.toml",
-            b"cores = 1\n\
-              chunk = 100\n\
-              buffer = 16\n\
-              window = 2\n\
-              depth = 1\n\
-              signature = 64\n\
-              script = \"s.txt\"\n\
-              report = \"r.txt\"\n\
-              [[sphere]]\n\
-              image = \"a.elf\"\n\
-              memory = 4096\n\
-              role = \"record\"\n\
-              mode = \"order-size\"\n\
-              log = \"a.log\"\n\
-              account = \"a.txt\"\n",
-        ),
+        ("plan.toml", b"plan: depth = 1; record"),
         ("s.txt", SCRIPT),
     ],
     status: Status::Done,
@@ -153,25 +83,12 @@ const ONE_CHUNK: Case = Case {
         ),
         (
             "a.txt",
-            b"c 0 0 1\n\
-              t 0 00000004 live 00000000 0 00000000 00000000 00000000 00000000 00000000 00000000 00000000 00000000 \
-              00000000 00000000 00000000 00000000 00000000 00000000 00000000 00000000 00000000 00000000 00000000 \
-              00000000 00000000 00000000 00000000 00000000 00000000 00000000 00000000 00000000 00000000 00000000 \
-              00000000\n\
-              m 00000000 9308000013057000730000000000000000000000000000000000000000000000\n\
-              end complete 1\n",
+            b"account: c 0 0 1, t 0 00000004 live 00000000 0, m 00000000 930800001305700073, end complete 1",
         ),
         (
             "r.txt",
-            b"g 4 0 0 chunk 1\n\
-              r Ran 2\n\
-              r Closed 1\n\
-              r Waiting 2\n\
-              r Granted 1\n\
-              r NotClosed 2\n\
-              events 8\n\
-              commits 1\n\
-              s 0 record 1\n",
+            b"lines: g 4 0 0 chunk 1, r Ran 2, r Closed 1, r Waiting 2, r Granted 1, r NotClosed 2, events 8, \
+              commits 1, s 0 record 1",
         ),
     ],
 };
@@ -181,24 +98,7 @@ const THREE_CHUNKS: Case = Case {
     words: RUN,
     read: &[
         ("a.elf", IMAGE),
-        (
-            "plan.toml",
-            b"cores = 1\n\
-              chunk = 100\n\
-              buffer = 16\n\
-              window = 2\n\
-              depth = 3\n\
-              signature = 64\n\
-              script = \"s.txt\"\n\
-              report = \"r.txt\"\n\
-              [[sphere]]\n\
-              image = \"a.elf\"\n\
-              memory = 4096\n\
-              role = \"record\"\n\
-              mode = \"order-size\"\n\
-              log = \"a.log\"\n\
-              account = \"a.txt\"\n",
-        ),
+        ("plan.toml", b"plan: depth = 3; record"),
         ("s.txt", SCRIPT),
     ],
     status: Status::Plan,

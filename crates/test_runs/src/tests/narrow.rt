@@ -59,6 +59,5 @@ fn takes(
     let mut out = Narrow::new(alloc, puts)?;
     assert!(rt; answer(alloc, RUN, &mut files, &mut out) == status);
     assert!(rt; out.taken() == said);
-    hold_all(rt, alloc, &mut files, RECORDED);
-    Ok(())
+    hold_all(rt, alloc, &mut files, RECORDED)
 }

@@ -1,7 +1,7 @@
-//! A log that is written and read in two pieces, in memory and over real files; and calls that fail while the commands that
-//! don't run a plan read and write.
-use super::answer;
-use dl_files::{Files, GoodFiles, MemFiles, MemSink, RealFiles};
+//! A script that is read in two pieces and a log that is written and read in two, in memory and over real files; and calls that
+//! fail while they are read and written.
+use super::{answer, fails_at};
+use dl_files::{Files, GoodFiles, MemSink, RealFiles};
 use spec_program::status::Status;
 use std::alloc::Global;
 use std::fs;
@@ -32,10 +32,13 @@ const COMMITS: usize = 2000;
 
 const RUN: &[&str] = &["run", "loop.toml"];
 
+const SUMMARY: &[u8] = b"events 6000\ncommits 2000\ns 0 record 2000\n";
+
 const WALK: &[&str] = &["walk", "loop.elf", "4096", "loop.log"];
 
 const INSPECT: &[&str] = &["inspect", "loop.log"];
 
+// 38,000 bytes.
 fn script(alloc: Global) -> Result<Vec<u8>, Fail> {
     let mut lines = Vec::new(alloc);
     for _ in 0..COMMITS {
@@ -61,11 +64,15 @@ fn long_log(alloc: Global) -> Result<Vec<u8>, Fail> {
 #[test]
 fn a_log_of_two_pieces_comes_round_in_memory(rt: HostRuntime) -> Result<(), Fail> {
     let alloc = rt.alloc();
+    comes_round(&rt, alloc, &mut planned(alloc)?)
+}
+
+fn planned(alloc: Global) -> Result<GoodFiles, Fail> {
     let mut files = GoodFiles::new(alloc);
     files.write("loop.toml", PLAN)?;
     files.write("loop.txt", &script(alloc)?)?;
     files.write("loop.elf", LOOP)?;
-    comes_round(&rt, alloc, &mut files)
+    Ok(files)
 }
 
 #[test]
@@ -80,13 +87,7 @@ fn a_log_of_two_pieces_comes_round_over_real_files(rt: HostRuntime) -> Result<()
 
 // The log that is recorded has the worked bytes, and its walk gives the account that was recorded.
 fn comes_round<F: Files>(rt: &impl Abort, alloc: Global, files: &mut F) -> Result<(), Fail> {
-    says(
-        rt,
-        alloc,
-        RUN,
-        files,
-        b"events 6000\ncommits 2000\ns 0 record 2000\n",
-    )?;
+    says(rt, alloc, RUN, files, SUMMARY)?;
     let recorded = files.read(alloc, "loop.log")?;
     assert!(rt; recorded.as_slice() == long_log(alloc)?.as_slice());
     let account = files.read(alloc, "account.txt")?;
@@ -212,16 +213,67 @@ const FAILING: &[Failing] = &[
 #[test]
 fn a_call_that_fails_ends_the_other_commands(rt: HostRuntime) -> Result<(), Fail> {
     for case in FAILING {
-        ends(&rt, rt.alloc(), case)?;
+        let files = read_files(rt.alloc())?;
+        fails_at(
+            &rt,
+            rt.alloc(),
+            case.words,
+            files,
+            case.call,
+            case.status,
+            case.said,
+        )?;
     }
     Ok(())
 }
 
-fn ends(rt: &impl Abort, alloc: Global, case: &Failing) -> Result<(), Fail> {
-    let mut files = MemFiles::new(alloc, read_files(alloc)?, &[case.call])?;
-    let mut out = MemSink::new(alloc, &[])?;
-    assert!(rt; answer(alloc, case.words, &mut files, &mut out) == case.status);
-    assert!(rt; out.taken() == case.said);
+// The names to which the calls of the run go: its script is read by two and its log is written by three, the first of which makes
+// the file.
+const RUN_NAMES: &[&str] = &[
+    "loop.toml",
+    "loop.txt",
+    "loop.txt",
+    "loop.elf",
+    "loop.log",
+    "loop.log",
+    "loop.log",
+    "account.txt",
+];
+
+#[test]
+fn each_call_that_fails_ends_a_run_of_two_pieces(rt: HostRuntime) -> Result<(), Fail> {
+    let alloc = rt.alloc();
+    for (call, name) in RUN_NAMES.iter().enumerate() {
+        let line = format!(in alloc; "fault {name}\n")?;
+        let files = planned(alloc)?;
+        fails_at(
+            &rt,
+            alloc,
+            RUN,
+            files,
+            call as u64,
+            Status::Fault,
+            line.as_bytes(),
+        )?;
+    }
+    Ok(())
+}
+
+// So the next call that anyone makes fails.
+#[test]
+fn no_call_is_made_past_the_last_of_a_run_of_two_pieces(rt: HostRuntime) -> Result<(), Fail> {
+    let alloc = rt.alloc();
+    let past = RUN_NAMES.len() as u64;
+    let mut files = fails_at(
+        &rt,
+        alloc,
+        RUN,
+        planned(alloc)?,
+        past,
+        Status::Done,
+        SUMMARY,
+    )?;
+    assert!(rt; files.create("past the last").is_err());
     Ok(())
 }
 

@@ -65,7 +65,7 @@ fn three_instructions_are_recorded(rt: HostRuntime) -> Result<(), Fail> {
     let mut out = MemSink::new(alloc, &[])?;
     assert!(rt; answer(alloc, RUN, &mut files, &mut out) == Status::Done);
     assert!(rt; out.taken() == SUMMARY);
-    hold_all(&rt, alloc, &mut files, RECORDED);
+    hold_all(&rt, alloc, &mut files, RECORDED)?;
     Ok(())
 }
 
@@ -78,7 +78,7 @@ fn an_empty_script_records_nothing(rt: HostRuntime) -> Result<(), Fail> {
     let mut out = GoodSink::new(alloc);
     assert!(rt; answer_in_memory(alloc, RUN, &mut files, &mut out) == Status::Done);
     assert!(rt; out.taken() == EMPTY_SUMMARY);
-    hold_all(&rt, alloc, &mut files, NOTHING_RECORDED);
+    hold_all(&rt, alloc, &mut files, NOTHING_RECORDED)?;
     Ok(())
 }
 

@@ -86,32 +86,12 @@ const LEFT: &[Case] = &[
 const SMALL_ANSWERS: Case = Case {
     words: RUN,
     read: &[
-        (
-            "a.elf",
-            b"\x7fELF\x01\x01\x01\0\0\0\0\0\0\0\0\0\x02\0\xf3\0\x01\0\0\0\0\0\0\04\0\0\0\0\0\0\0\0\0\0\04\0 \0\x01\0\
-              \0\0\0\0\0\0\x01\0\0\0T\0\0\0\0\0\0\0\0\0\0\0\x0c\0\0\0\x0c\0\0\0\x07\0\0\0\x04\0\0\0\x93\x08\0\0\x13\
-              \x05p\0s\0\0\0",
-        ),
-        (
-            "plan.toml",
-            b"cores = 1\n\
-              chunk = 100\n\
-              buffer = 16\n\
-              window = 2\n\
-              signature = 64\n\
-              script = \"s.txt\"\n\
-              report = \"r.txt\"\n\
-              [[sphere]]\n\
-              image = \"a.elf\"\n\
-              memory = 4096\n\
-              role = \"record\"\n\
-              mode = \"order-size\"\n\
-              log = \"a.log\"\n\
-              account = \"a.txt\"\n",
-        ),
+        ("a.elf", b"code: 00000893 00700513 00000073"),
+        ("plan.toml", b"plan: record"),
         (
             "s.txt",
-            b"ask 0\ncut 0\ndrain 0\ndeliver 0 0\nretire 1\nplace 0 0 0\nplace 0 0 3\nraise 0 0 5\ndma 0\nstep 0\ncut 0\nstep 0\nask 0\n",
+            b"lines: ask 0, cut 0, drain 0, deliver 0 0, retire 1, place 0 0 0, place 0 0 3, raise 0 0 5, dma 0, \
+              step 0, cut 0, step 0, ask 0",
         ),
     ],
     status: Status::Done,
@@ -123,31 +103,12 @@ const SMALL_ANSWERS: Case = Case {
         ),
         (
             "a.txt",
-            b"c 0 0 1\n\
-              t 0 00000004 live 00000000 0 00000000 00000000 00000000 00000000 00000000 00000000 00000000 00000000 \
-              00000000 00000000 00000000 00000000 00000000 00000000 00000000 00000000 00000000 00000000 00000000 \
-              00000000 00000000 00000000 00000000 00000000 00000000 00000000 00000000 00000000 00000000 00000000 \
-              00000000\n\
-              m 00000000 9308000013057000730000000000000000000000000000000000000000000000\n\
-              end complete 1\n",
+            b"account: c 0 0 1, t 0 00000004 live 00000000 0, m 00000000 930800001305700073, end complete 1",
         ),
         (
             "r.txt",
-            b"g 12 0 0 chunk 1\n\
-              r Ran 1\n\
-              r Closed 1\n\
-              r Waiting 1\n\
-              r NothingRun 1\n\
-              r Granted 1\n\
-              r NotClosed 1\n\
-              r NoCommit 3\n\
-              r Elsewhere 1\n\
-              r NoThread 1\n\
-              r NoHandler 1\n\
-              r NoDma 1\n\
-              events 13\n\
-              commits 1\n\
-              s 0 record 1\n",
+            b"lines: g 12 0 0 chunk 1, r Ran 1, r Closed 1, r Waiting 1, r NothingRun 1, r Granted 1, r NotClosed 1, \
+              r NoCommit 3, r Elsewhere 1, r NoThread 1, r NoHandler 1, r NoDma 1, events 13, commits 1, s 0 record 1",
         ),
     ],
 };
@@ -155,30 +116,9 @@ const SMALL_ANSWERS: Case = Case {
 const THREE_INSTRUCTIONS_ORDER_ONLY: Case = Case {
     words: RUN,
     read: &[
-        (
-            "a.elf",
-            b"\x7fELF\x01\x01\x01\0\0\0\0\0\0\0\0\0\x02\0\xf3\0\x01\0\0\0\0\0\0\04\0\0\0\0\0\0\0\0\0\0\04\0 \0\x01\0\
-              \0\0\0\0\0\0\x01\0\0\0T\0\0\0\0\0\0\0\0\0\0\0\x0c\0\0\0\x0c\0\0\0\x07\0\0\0\x04\0\0\0\x93\x08\0\0\x13\
-              \x05p\0s\0\0\0",
-        ),
-        (
-            "plan.toml",
-            b"cores = 1\n\
-              chunk = 100\n\
-              buffer = 16\n\
-              window = 2\n\
-              signature = 64\n\
-              script = \"s.txt\"\n\
-              report = \"r.txt\"\n\
-              [[sphere]]\n\
-              image = \"a.elf\"\n\
-              memory = 4096\n\
-              role = \"record\"\n\
-              mode = \"order-only\"\n\
-              log = \"a.log\"\n\
-              account = \"a.txt\"\n",
-        ),
-        ("s.txt", b"step 0\nstep 0\nstep 0\nask 0\nstep 0\nask 0\n"),
+        ("a.elf", b"code: 00000893 00700513 00000073"),
+        ("plan.toml", b"plan: record, mode = \"order-only\""),
+        ("s.txt", b"lines: step 0 x3, ask 0, step 0, ask 0"),
     ],
     status: Status::Done,
     said: b"events 6\ncommits 2\ns 0 record 2\n",
@@ -189,14 +129,8 @@ const THREE_INSTRUCTIONS_ORDER_ONLY: Case = Case {
         ),
         (
             "a.txt",
-            b"c 0 0 2\n\
-              c 1 0 0\n\
-              t 0 0000000C ended:7 00000000 0 00000000 00000000 00000000 00000000 00000000 00000000 00000000 \
-              00000000 00000000 00000007 00000000 00000000 00000000 00000000 00000000 00000000 00000000 00000000 \
-              00000000 00000000 00000000 00000000 00000000 00000000 00000000 00000000 00000000 00000000 00000000 \
-              00000000 00000000\n\
-              m 00000000 9308000013057000730000000000000000000000000000000000000000000000\n\
-              end complete 2\n",
+            b"account: c 0 0 2, c 1 0 0, t 0 0000000C ended:7 00000000 0 x10=7, m 00000000 930800001305700073, \
+              end complete 2",
         ),
         (
             "r.txt",
@@ -208,30 +142,9 @@ const THREE_INSTRUCTIONS_ORDER_ONLY: Case = Case {
 const THREE_INSTRUCTIONS_PICOLOG: Case = Case {
     words: RUN,
     read: &[
-        (
-            "a.elf",
-            b"\x7fELF\x01\x01\x01\0\0\0\0\0\0\0\0\0\x02\0\xf3\0\x01\0\0\0\0\0\0\04\0\0\0\0\0\0\0\0\0\0\04\0 \0\x01\0\
-              \0\0\0\0\0\0\x01\0\0\0T\0\0\0\0\0\0\0\0\0\0\0\x0c\0\0\0\x0c\0\0\0\x07\0\0\0\x04\0\0\0\x93\x08\0\0\x13\
-              \x05p\0s\0\0\0",
-        ),
-        (
-            "plan.toml",
-            b"cores = 1\n\
-              chunk = 100\n\
-              buffer = 16\n\
-              window = 2\n\
-              signature = 64\n\
-              script = \"s.txt\"\n\
-              report = \"r.txt\"\n\
-              [[sphere]]\n\
-              image = \"a.elf\"\n\
-              memory = 4096\n\
-              role = \"record\"\n\
-              mode = \"picolog\"\n\
-              log = \"a.log\"\n\
-              account = \"a.txt\"\n",
-        ),
-        ("s.txt", b"step 0\nstep 0\nstep 0\nask 0\nstep 0\nask 0\n"),
+        ("a.elf", b"code: 00000893 00700513 00000073"),
+        ("plan.toml", b"plan: record, mode = \"picolog\""),
+        ("s.txt", b"lines: step 0 x3, ask 0, step 0, ask 0"),
     ],
     status: Status::Done,
     said: b"events 6\ncommits 2\ns 0 record 2\n",
@@ -242,14 +155,8 @@ const THREE_INSTRUCTIONS_PICOLOG: Case = Case {
         ),
         (
             "a.txt",
-            b"c 0 0 2\n\
-              c 1 0 0\n\
-              t 0 0000000C ended:7 00000000 0 00000000 00000000 00000000 00000000 00000000 00000000 00000000 \
-              00000000 00000000 00000007 00000000 00000000 00000000 00000000 00000000 00000000 00000000 00000000 \
-              00000000 00000000 00000000 00000000 00000000 00000000 00000000 00000000 00000000 00000000 00000000 \
-              00000000 00000000\n\
-              m 00000000 9308000013057000730000000000000000000000000000000000000000000000\n\
-              end complete 2\n",
+            b"account: c 0 0 2, c 1 0 0, t 0 0000000C ended:7 00000000 0 x10=7, m 00000000 930800001305700073, \
+              end complete 2",
         ),
         (
             "r.txt",
@@ -261,45 +168,20 @@ const THREE_INSTRUCTIONS_PICOLOG: Case = Case {
 const EMPTY_LOG_REPLAYED: Case = Case {
     words: RUN,
     read: &[
-        (
-            "a.elf",
-            b"\x7fELF\x01\x01\x01\0\0\0\0\0\0\0\0\0\x02\0\xf3\0\x01\0\0\0\0\0\0\04\0\0\0\0\0\0\0\0\0\0\04\0 \0\x01\0\
-              \0\0\0\0\0\0\x01\0\0\0T\0\0\0\0\0\0\0\0\0\0\0\x0c\0\0\0\x0c\0\0\0\x07\0\0\0\x04\0\0\0\x93\x08\0\0\x13\
-              \x05p\0s\0\0\0",
-        ),
+        ("a.elf", b"code: 00000893 00700513 00000073"),
         (
             "a.log",
             b"DLRN\x01\0\0\0d\0\0\0\0\0\0\0\0\0\0\0\0\0\0\0\0\0\0\0\0\0\0\0\0\0\0\0",
         ),
-        (
-            "plan.toml",
-            b"cores = 1\n\
-              chunk = 100\n\
-              buffer = 16\n\
-              window = 2\n\
-              signature = 64\n\
-              script = \"s.txt\"\n\
-              report = \"r.txt\"\n\
-              [[sphere]]\n\
-              image = \"a.elf\"\n\
-              memory = 4096\n\
-              role = \"replay\"\n\
-              log = \"a.log\"\n\
-              account = \"b.txt\"\n",
-        ),
-        ("s.txt", b"step 0\nplace 0 0 0\nraise 0 0 1\ndma 0\n"),
+        ("plan.toml", b"plan: replay"),
+        ("s.txt", b"lines: step 0, place 0 0 0, raise 0 0 1, dma 0"),
     ],
     status: Status::Done,
     said: b"events 4\ncommits 0\ns 0 complete 0\n",
     written: &[
         (
             "b.txt",
-            b"t 0 00000000 live 00000000 0 00000000 00000000 00000000 00000000 00000000 00000000 00000000 00000000 \
-              00000000 00000000 00000000 00000000 00000000 00000000 00000000 00000000 00000000 00000000 00000000 \
-              00000000 00000000 00000000 00000000 00000000 00000000 00000000 00000000 00000000 00000000 00000000 \
-              00000000\n\
-              m 00000000 9308000013057000730000000000000000000000000000000000000000000000\n\
-              end complete 0\n",
+            b"account: t 0 00000000 live 00000000 0, m 00000000 930800001305700073, end complete 0",
         ),
         (
             "r.txt",
@@ -313,33 +195,16 @@ const DEVICE_WORDS: Case = Case {
     read: &[
         (
             "a.elf",
-            b"\x7fELF\x01\x01\x01\0\0\0\0\0\0\0\0\0\x02\0\xf3\0\x01\0\0\0\0\0\0\04\0\0\0\0\0\0\0\0\0\0\04\0 \0\x01\0\
-              \0\0\0\0\0\0\x01\0\0\0T\0\0\0\0\0\0\0\0\0\0\0\x14\0\0\0\x14\0\0\0\x07\0\0\0\x04\0\0\0\xb7\x02\0\xf0\
-              \x03\xa3\x02\0\x83\xa3B\0#\xa4r\0\x03\x84\x02\0",
+            b"code: F00002B7 0002A303 0042A383 0072A423 00028403",
         ),
         ("in", b"A"),
         (
             "plan.toml",
-            b"cores = 1\n\
-              chunk = 100\n\
-              buffer = 16\n\
-              window = 2\n\
-              signature = 64\n\
-              script = \"s.txt\"\n\
-              report = \"r.txt\"\n\
-              input = \"in\"\n\
-              console = \"con\"\n\
-              [[sphere]]\n\
-              image = \"a.elf\"\n\
-              memory = 4096\n\
-              role = \"record\"\n\
-              mode = \"order-size\"\n\
-              log = \"a.log\"\n\
-              account = \"a.txt\"\n",
+            b"plan: input = \"in\", console = \"con\"; record",
         ),
         (
             "s.txt",
-            b"step 0\nstep 0\nask 0\nstep 0\nask 0\nstep 0\nask 0\nstep 0\nask 0\nstep 0\nask 0\n",
+            b"lines: step 0 x2, ask 0, step 0, ask 0, step 0, ask 0, step 0, ask 0, step 0, ask 0",
         ),
     ],
     status: Status::Done,
@@ -351,35 +216,15 @@ const DEVICE_WORDS: Case = Case {
         ),
         (
             "a.txt",
-            b"c 0 0 1\n\
-              c 1 0 0\n\
-              l F0000000 00000004\n\
-              c 2 0 0\n\
-              l F0000004 00000041\n\
-              c 3 0 0\n\
-              o 8 41\n\
-              c 4 0 0\n\
-              t 0 00000010 fault:5 00000000 0 00000000 00000000 00000000 00000000 F0000000 00000004 00000041 \
-              00000000 00000000 00000000 00000000 00000000 00000000 00000000 00000000 00000000 00000000 00000000 \
-              00000000 00000000 00000000 00000000 00000000 00000000 00000000 00000000 00000000 00000000 00000000 \
-              00000000 00000000\n\
-              m 00000000 B70200F003A3020083A3420023A4720003840200000000000000000000000000\n\
-              end complete 5\n",
+            b"account: c 0 0 1, c 1 0 0, l F0000000 00000004, c 2 0 0, l F0000004 00000041, c 3 0 0, o 8 41, c 4 0 0, \
+              t 0 00000010 fault:5 00000000 0 x5=F0000000 x6=4 x7=41, \
+              m 00000000 B70200F003A3020083A3420023A47200038402, end complete 5",
         ),
         ("con", b"A"),
         (
             "r.txt",
-            b"g 2 0 0 chunk 1\n\
-              g 4 0 0 serial 0\n\
-              g 6 0 0 serial 0\n\
-              g 8 0 0 serial 0\n\
-              g 10 0 0 serial 0\n\
-              r Ran 1\n\
-              r Closed 5\n\
-              r Granted 5\n\
-              events 11\n\
-              commits 5\n\
-              s 0 record 5\n",
+            b"lines: g 2 0 0 chunk 1, g 4 0 0 serial 0, g 6 0 0 serial 0, g 8 0 0 serial 0, g 10 0 0 serial 0, \
+              r Ran 1, r Closed 5, r Granted 5, events 11, commits 5, s 0 record 5",
         ),
     ],
 };
@@ -389,30 +234,13 @@ const DEVICE_WORDS_REPLAYED: Case = Case {
     read: &[
         (
             "a.elf",
-            b"\x7fELF\x01\x01\x01\0\0\0\0\0\0\0\0\0\x02\0\xf3\0\x01\0\0\0\0\0\0\04\0\0\0\0\0\0\0\0\0\0\04\0 \0\x01\0\
-              \0\0\0\0\0\0\x01\0\0\0T\0\0\0\0\0\0\0\0\0\0\0\x14\0\0\0\x14\0\0\0\x07\0\0\0\x04\0\0\0\xb7\x02\0\xf0\
-              \x03\xa3\x02\0\x83\xa3B\0#\xa4r\0\x03\x84\x02\0",
+            b"code: F00002B7 0002A303 0042A383 0072A423 00028403",
         ),
         (
             "a.log",
             b"DLRN\x01\0\0\0d\0\0\0\x05\0\0\0\x05\0\0\0\0\0\0\x05\0\0\0\x01\0\0\0\0\0\0\0\0\0\0\0\0\0\x02\0\0\0\x10\x04\0\0\0\0\0\x11A\0\0\0\0\0\0\0\0\0",
         ),
-        (
-            "plan.toml",
-            b"cores = 1\n\
-              chunk = 100\n\
-              buffer = 16\n\
-              window = 2\n\
-              signature = 64\n\
-              script = \"s.txt\"\n\
-              report = \"r.txt\"\n\
-              [[sphere]]\n\
-              image = \"a.elf\"\n\
-              memory = 4096\n\
-              role = \"replay\"\n\
-              log = \"a.log\"\n\
-              account = \"b.txt\"\n",
-        ),
+        ("plan.toml", b"plan: replay"),
         ("s.txt", b""),
     ],
     status: Status::Done,
@@ -420,33 +248,14 @@ const DEVICE_WORDS_REPLAYED: Case = Case {
     written: &[
         (
             "b.txt",
-            b"c 0 0 1\n\
-              c 1 0 0\n\
-              l F0000000 00000004\n\
-              c 2 0 0\n\
-              l F0000004 00000041\n\
-              c 3 0 0\n\
-              o 8 41\n\
-              c 4 0 0\n\
-              t 0 00000010 fault:5 00000000 0 00000000 00000000 00000000 00000000 F0000000 00000004 00000041 \
-              00000000 00000000 00000000 00000000 00000000 00000000 00000000 00000000 00000000 00000000 00000000 \
-              00000000 00000000 00000000 00000000 00000000 00000000 00000000 00000000 00000000 00000000 00000000 \
-              00000000 00000000\n\
-              m 00000000 B70200F003A3020083A3420023A4720003840200000000000000000000000000\n\
-              end complete 5\n",
+            b"account: c 0 0 1, c 1 0 0, l F0000000 00000004, c 2 0 0, l F0000004 00000041, c 3 0 0, o 8 41, c 4 0 0, \
+              t 0 00000010 fault:5 00000000 0 x5=F0000000 x6=4 x7=41, \
+              m 00000000 B70200F003A3020083A3420023A47200038402, end complete 5",
         ),
         (
             "r.txt",
-            b"g 1 0 0 chunk 1\n\
-              g 3 0 0 serial 0\n\
-              g 5 0 0 serial 0\n\
-              g 7 0 0 serial 0\n\
-              g 9 0 0 serial 0\n\
-              r Closed 5\n\
-              r Granted 5\n\
-              events 10\n\
-              commits 5\n\
-              s 0 complete 5\n",
+            b"lines: g 1 0 0 chunk 1, g 3 0 0 serial 0, g 5 0 0 serial 0, g 7 0 0 serial 0, g 9 0 0 serial 0, \
+              r Closed 5, r Granted 5, events 10, commits 5, s 0 complete 5",
         ),
     ],
 };
@@ -456,85 +265,14 @@ const DIVISION_EDGES: Case = Case {
     read: &[
         (
             "a.elf",
-            b"\x7fELF\x01\x01\x01\0\0\0\0\0\0\0\0\0\x02\0\xf3\0\x01\0\0\0\0\0\0\04\0\0\0\0\0\0\0\0\0\0\04\0 \0\x01\0\
-              \0\0\0\0\0\0\x01\0\0\0T\0\0\0\0\0\0\0\0\0\0\0\xbc\0\0\0\xbc\0\0\0\x07\0\0\0\x04\0\0\0\xb7\x02\0\x80\
-              \x93\x82\x02\07\x03\0\0\x13\x03\xf3\xff\xb3\xc5b\x02\xb7\x02\0\x80\x93\x82\x02\07\x03\0\0\x13\x03\xf3\
-              \xff3\xe6b\x02\xb7\x02\0\0\x93\x82r\07\x03\0\0\x13\x03\x03\0\xb3\xc6b\x02\xb7\x02\0\0\x93\x82r\07\x03\
-              \0\0\x13\x03\x03\03\xd7b\x02\xb7\x02\0\0\x93\x82r\07\x03\0\0\x13\x03\x03\0\xb3\xe7b\x02\xb7\x02\0\0\
-              \x93\x82r\07\x03\0\0\x13\x03\x03\03\xf8b\x02\xb7\x02\0\x80\x93\x82\x02\07\x03\0\0\x13\x03\xf3\xff\xb3\
-              \xa8b\x02\xb7\x02\0\0\x93\x82\xf2\xff7\x03\0\0\x13\x03\xf3\xff3\xa9b\x02\xb7\x02\0\0\x93\x82\xf2\xff7\
-              \x03\0\0\x13\x03\xf3\xff\xb3\xb9b\x02\x93\x08\0\0s\0\0\0",
+            b"code: 800002B7 00028293 00000337 FFF30313 0262C5B3 800002B7 00028293 00000337 FFF30313 0262E633 \
+              000002B7 00728293 00000337 00030313 0262C6B3 000002B7 00728293 00000337 00030313 0262D733 000002B7 \
+              00728293 00000337 00030313 0262E7B3 000002B7 00728293 00000337 00030313 0262F833 800002B7 00028293 \
+              00000337 FFF30313 0262A8B3 000002B7 FFF28293 00000337 FFF30313 0262A933 000002B7 FFF28293 00000337 \
+              FFF30313 0262B9B3 00000893 00000073",
         ),
-        (
-            "plan.toml",
-            b"cores = 1\n\
-              chunk = 100\n\
-              buffer = 16\n\
-              window = 2\n\
-              signature = 64\n\
-              script = \"s.txt\"\n\
-              report = \"r.txt\"\n\
-              [[sphere]]\n\
-              image = \"a.elf\"\n\
-              memory = 4096\n\
-              role = \"record\"\n\
-              mode = \"order-size\"\n\
-              log = \"a.log\"\n\
-              account = \"a.txt\"\n",
-        ),
-        (
-            "s.txt",
-            b"step 0\n\
-              step 0\n\
-              step 0\n\
-              step 0\n\
-              step 0\n\
-              step 0\n\
-              step 0\n\
-              step 0\n\
-              step 0\n\
-              step 0\n\
-              step 0\n\
-              step 0\n\
-              step 0\n\
-              step 0\n\
-              step 0\n\
-              step 0\n\
-              step 0\n\
-              step 0\n\
-              step 0\n\
-              step 0\n\
-              step 0\n\
-              step 0\n\
-              step 0\n\
-              step 0\n\
-              step 0\n\
-              step 0\n\
-              step 0\n\
-              step 0\n\
-              step 0\n\
-              step 0\n\
-              step 0\n\
-              step 0\n\
-              step 0\n\
-              step 0\n\
-              step 0\n\
-              step 0\n\
-              step 0\n\
-              step 0\n\
-              step 0\n\
-              step 0\n\
-              step 0\n\
-              step 0\n\
-              step 0\n\
-              step 0\n\
-              step 0\n\
-              step 0\n\
-              step 0\n\
-              ask 0\n\
-              step 0\n\
-              ask 0\n",
-        ),
+        ("plan.toml", b"plan: record"),
+        ("s.txt", b"lines: step 0 x47, ask 0, step 0, ask 0"),
     ],
     status: Status::Done,
     said: b"events 50\ncommits 2\ns 0 record 2\n",
@@ -545,19 +283,14 @@ const DIVISION_EDGES: Case = Case {
         ),
         (
             "a.txt",
-            b"c 0 0 46\n\
-              c 1 0 0\n\
-              t 0 000000BC ended:0 00000000 0 00000000 00000000 00000000 00000000 FFFFFFFF FFFFFFFF 00000000 \
-              00000000 00000000 00000000 80000000 00000000 FFFFFFFF FFFFFFFF 00000007 00000007 00000000 FFFFFFFF \
-              FFFFFFFE 00000000 00000000 00000000 00000000 00000000 00000000 00000000 00000000 00000000 00000000 \
-              00000000 00000000\n\
-              m 00000000 B702008093820200370300001303F3FFB3C56202B70200809382020037030000\n\
-              m 00000020 1303F3FF33E66202B7020000938272003703000013030300B3C66202B7020000\n\
-              m 00000040 93827200370300001303030033D76202B7020000938272003703000013030300\n\
-              m 00000060 B3E76202B702000093827200370300001303030033F86202B702008093820200\n\
-              m 00000080 370300001303F3FFB3A86202B70200009382F2FF370300001303F3FF33A96202\n\
-              m 000000A0 B70200009382F2FF370300001303F3FFB3B96202930800007300000000000000\n\
-              end complete 2\n",
+            b"account: c 0 0 46, c 1 0 0, t 0 000000BC ended:0 00000000 0 x5=FFFFFFFF x6=FFFFFFFF x11=80000000 \
+              x13=FFFFFFFF x14=FFFFFFFF x15=7 x16=7 x18=FFFFFFFF x19=FFFFFFFE, \
+              m 00000000 B702008093820200370300001303F3FFB3C56202B7020080938202003703, \
+              m 00000020 1303F3FF33E66202B7020000938272003703000013030300B3C66202B702, \
+              m 00000040 93827200370300001303030033D76202B70200009382720037030000130303, \
+              m 00000060 B3E76202B702000093827200370300001303030033F86202B7020080938202, \
+              m 00000080 370300001303F3FFB3A86202B70200009382F2FF370300001303F3FF33A96202, \
+              m 000000A0 B70200009382F2FF370300001303F3FFB3B962029308000073, end complete 2",
         ),
         (
             "r.txt",
@@ -569,30 +302,9 @@ const DIVISION_EDGES: Case = Case {
 const JUMP_TO_SIX: Case = Case {
     words: RUN,
     read: &[
-        (
-            "a.elf",
-            b"\x7fELF\x01\x01\x01\0\0\0\0\0\0\0\0\0\x02\0\xf3\0\x01\0\0\0\0\0\0\04\0\0\0\0\0\0\0\0\0\0\04\0 \0\x01\0\
-              \0\0\0\0\0\0\x01\0\0\0T\0\0\0\0\0\0\0\0\0\0\0\x08\0\0\0\x08\0\0\0\x07\0\0\0\x04\0\0\0\x93\x02`\0\xe7\
-              \x80\x02\0",
-        ),
-        (
-            "plan.toml",
-            b"cores = 1\n\
-              chunk = 100\n\
-              buffer = 16\n\
-              window = 2\n\
-              signature = 64\n\
-              script = \"s.txt\"\n\
-              report = \"r.txt\"\n\
-              [[sphere]]\n\
-              image = \"a.elf\"\n\
-              memory = 4096\n\
-              role = \"record\"\n\
-              mode = \"order-size\"\n\
-              log = \"a.log\"\n\
-              account = \"a.txt\"\n",
-        ),
-        ("s.txt", b"step 0\nstep 0\nask 0\nstep 0\nask 0\n"),
+        ("a.elf", b"code: 00600293 000280E7"),
+        ("plan.toml", b"plan: record"),
+        ("s.txt", b"lines: step 0 x2, ask 0, step 0, ask 0"),
     ],
     status: Status::Done,
     said: b"events 5\ncommits 2\ns 0 record 2\n",
@@ -603,14 +315,8 @@ const JUMP_TO_SIX: Case = Case {
         ),
         (
             "a.txt",
-            b"c 0 0 1\n\
-              c 1 0 0\n\
-              t 0 00000004 fault:0 00000000 0 00000000 00000000 00000000 00000000 00000006 00000000 00000000 \
-              00000000 00000000 00000000 00000000 00000000 00000000 00000000 00000000 00000000 00000000 00000000 \
-              00000000 00000000 00000000 00000000 00000000 00000000 00000000 00000000 00000000 00000000 00000000 \
-              00000000 00000000\n\
-              m 00000000 93026000E7800200000000000000000000000000000000000000000000000000\n\
-              end complete 2\n",
+            b"account: c 0 0 1, c 1 0 0, t 0 00000004 fault:0 00000000 0 x5=6, m 00000000 93026000E78002, \
+              end complete 2",
         ),
         (
             "r.txt",
@@ -624,59 +330,14 @@ const SPAWN_AND_RACE: Case = Case {
     read: &[
         (
             "a.elf",
-            b"\x7fELF\x01\x01\x01\0\0\0\0\0\0\0\0\0\x02\0\xf3\0\x01\0\0\0\0\0\0\04\0\0\0\0\0\0\0\0\0\0\04\0 \0\x01\0\
-              \0\0\0\0\0\0\x01\0\0\0T\0\0\0\0\0\0\0\0\0\0\00\0\0\00\0\0\0\x07\0\0\0\x04\0\0\0\x93\x08\x10\0\x13\x05\
-              \0\x02\x13\x06\0\0s\0\0\0\x83\"\0\x10\x93\x08\0\0s\0\0\0\x13\0\0\0\x13\x03\x90\0# `\x10\x93\x08\0\0s\0\
-              \0\0",
+            b"code: 00100893 02000513 00000613 00000073 10002283 00000893 00000073 00000013 00900313 10602023 \
+              00000893 00000073",
         ),
-        (
-            "plan.toml",
-            b"cores = 2\n\
-              chunk = 100\n\
-              buffer = 16\n\
-              window = 2\n\
-              signature = 64\n\
-              script = \"s.txt\"\n\
-              report = \"r.txt\"\n\
-              [[sphere]]\n\
-              image = \"a.elf\"\n\
-              memory = 4096\n\
-              role = \"record\"\n\
-              mode = \"order-size\"\n\
-              log = \"a.log\"\n\
-              account = \"a.txt\"\n",
-        ),
+        ("plan.toml", b"plan: cores = 2; record"),
         (
             "s.txt",
-            b"step 0\n\
-              step 0\n\
-              step 0\n\
-              step 0\n\
-              ask 0\n\
-              step 0\n\
-              ask 0\n\
-              place 1 0 1\n\
-              step 1\n\
-              step 1\n\
-              step 1\n\
-              step 1\n\
-              ask 1\n\
-              step 0\n\
-              step 0\n\
-              step 0\n\
-              ask 0\n\
-              deliver 0 0\n\
-              step 0\n\
-              drain 0\n\
-              retire 0\n\
-              step 0\n\
-              step 0\n\
-              step 0\n\
-              ask 0\n\
-              step 0\n\
-              ask 0\n\
-              step 1\n\
-              ask 1\n",
+            b"lines: step 0 x4, ask 0, step 0, ask 0, place 1 0 1, step 1 x4, ask 1, step 0 x3, ask 0, deliver 0 0, \
+              step 0, drain 0, retire 0, step 0 x3, ask 0, step 0, ask 0, step 1, ask 1",
         ),
     ],
     status: Status::Done,
@@ -688,46 +349,16 @@ const SPAWN_AND_RACE: Case = Case {
         ),
         (
             "a.txt",
-            b"c 0 0 3\n\
-              c 1 0 0\n\
-              c 2 1 3\n\
-              c 3 0 2\n\
-              l 00000100 00000009\n\
-              c 4 0 0\n\
-              c 5 1 0\n\
-              t 0 0000001C ended:1 00000000 0 00000000 00000000 00000000 00000000 00000009 00000000 00000000 \
-              00000000 00000000 00000001 00000000 00000000 00000000 00000000 00000000 00000000 00000000 00000000 \
-              00000000 00000000 00000000 00000000 00000000 00000000 00000000 00000000 00000000 00000000 00000000 \
-              00000000 00000000\n\
-              t 1 00000030 ended:0 00000000 0 00000000 00000000 00000000 00000000 00000000 00000009 00000000 \
-              00000000 00000000 00000000 00000000 00000000 00000000 00000000 00000000 00000000 00000000 00000000 \
-              00000000 00000000 00000000 00000000 00000000 00000000 00000000 00000000 00000000 00000000 00000000 \
-              00000000 00000000\n\
-              m 00000000 9308100013050002130600007300000083220010930800007300000013000000\n\
-              m 00000020 1303900023206010930800007300000000000000000000000000000000000000\n\
-              m 00000100 0900000000000000000000000000000000000000000000000000000000000000\n\
-              end complete 6\n",
+            b"account: c 0 0 3, c 1 0 0, c 2 1 3, c 3 0 2, l 00000100 00000009, c 4 0 0, c 5 1 0, \
+              t 0 0000001C ended:1 00000000 0 x5=9 x10=1, t 1 00000030 ended:0 00000000 0 x6=9, \
+              m 00000000 9308100013050002130600007300000083220010930800007300000013, \
+              m 00000020 13039000232060109308000073, m 00000100 09, end complete 6",
         ),
         (
             "r.txt",
-            b"g 4 0 0 chunk 3\n\
-              g 6 0 0 serial 0\n\
-              g 12 0 1 chunk 3\n\
-              g 24 0 0 chunk 2\n\
-              g 26 0 0 serial 0\n\
-              g 28 0 1 serial 0\n\
-              r Ran 10\n\
-              r Closed 7\n\
-              r Bounced 1\n\
-              r Granted 6\n\
-              r Denied 1\n\
-              r Drained 1\n\
-              r Squashed 1\n\
-              r Retired 1\n\
-              r Placed 1\n\
-              events 29\n\
-              commits 6\n\
-              s 0 record 6\n",
+            b"lines: g 4 0 0 chunk 3, g 6 0 0 serial 0, g 12 0 1 chunk 3, g 24 0 0 chunk 2, g 26 0 0 serial 0, \
+              g 28 0 1 serial 0, r Ran 10, r Closed 7, r Bounced 1, r Granted 6, r Denied 1, r Drained 1, \
+              r Squashed 1, r Retired 1, r Placed 1, events 29, commits 6, s 0 record 6",
         ),
     ],
 };
@@ -737,31 +368,14 @@ const SPAWN_AND_RACE_REPLAYED: Case = Case {
     read: &[
         (
             "a.elf",
-            b"\x7fELF\x01\x01\x01\0\0\0\0\0\0\0\0\0\x02\0\xf3\0\x01\0\0\0\0\0\0\04\0\0\0\0\0\0\0\0\0\0\04\0 \0\x01\0\
-              \0\0\0\0\0\0\x01\0\0\0T\0\0\0\0\0\0\0\0\0\0\00\0\0\00\0\0\0\x07\0\0\0\x04\0\0\0\x93\x08\x10\0\x13\x05\
-              \0\x02\x13\x06\0\0s\0\0\0\x83\"\0\x10\x93\x08\0\0s\0\0\0\x13\0\0\0\x13\x03\x90\0# `\x10\x93\x08\0\0s\0\
-              \0\0",
+            b"code: 00100893 02000513 00000613 00000073 10002283 00000893 00000073 00000013 00900313 10602023 \
+              00000893 00000073",
         ),
         (
             "a.log",
             b"DLRN\x01\0\0\0d\0\0\0\x06\0\0\0\x06\0\0\0\0\x01\x10\x06\0\0\0\x03\0\0\0\x03\0\x02\0\0\0\0\0\0\0\0\0\0\0\0\0\0\0\0\0",
         ),
-        (
-            "plan.toml",
-            b"cores = 1\n\
-              chunk = 100\n\
-              buffer = 16\n\
-              window = 2\n\
-              signature = 64\n\
-              script = \"s.txt\"\n\
-              report = \"r.txt\"\n\
-              [[sphere]]\n\
-              image = \"a.elf\"\n\
-              memory = 4096\n\
-              role = \"replay\"\n\
-              log = \"a.log\"\n\
-              account = \"b.txt\"\n",
-        ),
+        ("plan.toml", b"plan: replay"),
         ("s.txt", b""),
     ],
     status: Status::Done,
@@ -769,43 +383,16 @@ const SPAWN_AND_RACE_REPLAYED: Case = Case {
     written: &[
         (
             "b.txt",
-            b"c 0 0 3\n\
-              c 1 0 0\n\
-              c 2 1 3\n\
-              c 3 0 2\n\
-              l 00000100 00000009\n\
-              c 4 0 0\n\
-              c 5 1 0\n\
-              t 0 0000001C ended:1 00000000 0 00000000 00000000 00000000 00000000 00000009 00000000 00000000 \
-              00000000 00000000 00000001 00000000 00000000 00000000 00000000 00000000 00000000 00000000 00000000 \
-              00000000 00000000 00000000 00000000 00000000 00000000 00000000 00000000 00000000 00000000 00000000 \
-              00000000 00000000\n\
-              t 1 00000030 ended:0 00000000 0 00000000 00000000 00000000 00000000 00000000 00000009 00000000 \
-              00000000 00000000 00000000 00000000 00000000 00000000 00000000 00000000 00000000 00000000 00000000 \
-              00000000 00000000 00000000 00000000 00000000 00000000 00000000 00000000 00000000 00000000 00000000 \
-              00000000 00000000\n\
-              m 00000000 9308100013050002130600007300000083220010930800007300000013000000\n\
-              m 00000020 1303900023206010930800007300000000000000000000000000000000000000\n\
-              m 00000100 0900000000000000000000000000000000000000000000000000000000000000\n\
-              end complete 6\n",
+            b"account: c 0 0 3, c 1 0 0, c 2 1 3, c 3 0 2, l 00000100 00000009, c 4 0 0, c 5 1 0, \
+              t 0 0000001C ended:1 00000000 0 x5=9 x10=1, t 1 00000030 ended:0 00000000 0 x6=9, \
+              m 00000000 9308100013050002130600007300000083220010930800007300000013, \
+              m 00000020 13039000232060109308000073, m 00000100 09, end complete 6",
         ),
         (
             "r.txt",
-            b"g 3 0 0 chunk 3\n\
-              g 5 0 0 serial 0\n\
-              g 10 0 1 chunk 3\n\
-              g 16 0 0 chunk 2\n\
-              g 18 0 0 serial 0\n\
-              g 21 0 1 serial 0\n\
-              r Ran 5\n\
-              r Closed 6\n\
-              r Granted 6\n\
-              r Drained 1\n\
-              r Retired 1\n\
-              r Placed 3\n\
-              events 22\n\
-              commits 6\n\
-              s 0 complete 6\n",
+            b"lines: g 3 0 0 chunk 3, g 5 0 0 serial 0, g 10 0 1 chunk 3, g 16 0 0 chunk 2, g 18 0 0 serial 0, \
+              g 21 0 1 serial 0, r Ran 5, r Closed 6, r Granted 6, r Drained 1, r Retired 1, r Placed 3, events 22, \
+              commits 6, s 0 complete 6",
         ),
     ],
 };
@@ -815,58 +402,14 @@ const FALSE_HIT: Case = Case {
     read: &[
         (
             "a.elf",
-            b"\x7fELF\x01\x01\x01\0\0\0\0\0\0\0\0\0\x02\0\xf3\0\x01\0\0\0\0\0\0\04\0\0\0\0\0\0\0\0\0\0\04\0 \0\x01\0\
-              \0\0\0\0\0\0\x01\0\0\0T\0\0\0\0\0\0\0\0\0\0\00\0\0\00\0\0\0\x07\0\0\0\x04\0\0\0\x93\x08\x10\0\x13\x05\
-              \0\x02\x13\x06\0\0s\0\0\0\x83\"\0\x10\x93\x08\0\0s\0\0\0\x13\0\0\07#\0\0# cP\x93\x08\0\0s\0\0\0",
+            b"code: 00100893 02000513 00000613 00000073 10002283 00000893 00000073 00000013 00002337 50632023 \
+              00000893 00000073",
         ),
-        (
-            "plan.toml",
-            b"cores = 2\n\
-              chunk = 100\n\
-              buffer = 16\n\
-              window = 2\n\
-              signature = 64\n\
-              script = \"s.txt\"\n\
-              report = \"r.txt\"\n\
-              [[sphere]]\n\
-              image = \"a.elf\"\n\
-              memory = 12288\n\
-              role = \"record\"\n\
-              mode = \"order-size\"\n\
-              log = \"a.log\"\n\
-              account = \"a.txt\"\n",
-        ),
+        ("plan.toml", b"plan: cores = 2; record, memory = 12288"),
         (
             "s.txt",
-            b"step 0\n\
-              step 0\n\
-              step 0\n\
-              step 0\n\
-              ask 0\n\
-              step 0\n\
-              ask 0\n\
-              place 1 0 1\n\
-              step 1\n\
-              step 1\n\
-              step 1\n\
-              step 1\n\
-              ask 1\n\
-              step 0\n\
-              step 0\n\
-              step 0\n\
-              ask 0\n\
-              deliver 0 0\n\
-              step 0\n\
-              drain 0\n\
-              retire 0\n\
-              step 0\n\
-              step 0\n\
-              step 0\n\
-              ask 0\n\
-              step 0\n\
-              ask 0\n\
-              step 1\n\
-              ask 1\n",
+            b"lines: step 0 x4, ask 0, step 0, ask 0, place 1 0 1, step 1 x4, ask 1, step 0 x3, ask 0, deliver 0 0, \
+              step 0, drain 0, retire 0, step 0 x3, ask 0, step 0, ask 0, step 1, ask 1",
         ),
     ],
     status: Status::Done,
@@ -878,46 +421,16 @@ const FALSE_HIT: Case = Case {
         ),
         (
             "a.txt",
-            b"c 0 0 3\n\
-              c 1 0 0\n\
-              c 2 1 3\n\
-              c 3 0 2\n\
-              l 00000100 00000000\n\
-              c 4 0 0\n\
-              c 5 1 0\n\
-              t 0 0000001C ended:1 00000000 0 00000000 00000000 00000000 00000000 00000000 00000000 00000000 \
-              00000000 00000000 00000001 00000000 00000000 00000000 00000000 00000000 00000000 00000000 00000000 \
-              00000000 00000000 00000000 00000000 00000000 00000000 00000000 00000000 00000000 00000000 00000000 \
-              00000000 00000000\n\
-              t 1 00000030 ended:0 00000000 0 00000000 00000000 00000000 00000000 00000000 00002000 00000000 \
-              00000000 00000000 00000000 00000000 00000000 00000000 00000000 00000000 00000000 00000000 00000000 \
-              00000000 00000000 00000000 00000000 00000000 00000000 00000000 00000000 00000000 00000000 00000000 \
-              00000000 00000000\n\
-              m 00000000 9308100013050002130600007300000083220010930800007300000013000000\n\
-              m 00000020 3723000023206350930800007300000000000000000000000000000000000000\n\
-              m 00002500 0020000000000000000000000000000000000000000000000000000000000000\n\
-              end complete 6\n",
+            b"account: c 0 0 3, c 1 0 0, c 2 1 3, c 3 0 2, l 00000100 00000000, c 4 0 0, c 5 1 0, \
+              t 0 0000001C ended:1 00000000 0 x10=1, t 1 00000030 ended:0 00000000 0 x6=2000, \
+              m 00000000 9308100013050002130600007300000083220010930800007300000013, \
+              m 00000020 37230000232063509308000073, m 00002500 0020, end complete 6",
         ),
         (
             "r.txt",
-            b"g 4 0 0 chunk 3\n\
-              g 6 0 0 serial 0\n\
-              g 12 0 1 chunk 3\n\
-              g 24 0 0 chunk 2\n\
-              g 26 0 0 serial 0\n\
-              g 28 0 1 serial 0\n\
-              r Ran 10\n\
-              r Closed 7\n\
-              r Bounced 1\n\
-              r Granted 6\n\
-              r Denied 1\n\
-              r Drained 1\n\
-              r Squashed 1\n\
-              r Retired 1\n\
-              r Placed 1\n\
-              events 29\n\
-              commits 6\n\
-              s 0 record 6\n",
+            b"lines: g 4 0 0 chunk 3, g 6 0 0 serial 0, g 12 0 1 chunk 3, g 24 0 0 chunk 2, g 26 0 0 serial 0, \
+              g 28 0 1 serial 0, r Ran 10, r Closed 7, r Bounced 1, r Granted 6, r Denied 1, r Drained 1, \
+              r Squashed 1, r Retired 1, r Placed 1, events 29, commits 6, s 0 record 6",
         ),
     ],
 };
@@ -927,30 +440,15 @@ const RESERVATION_LOST: Case = Case {
     read: &[
         (
             "a.elf",
-            b"\x7fELF\x01\x01\x01\0\0\0\0\0\0\0\0\0\x02\0\xf3\0\x01\0\0\0\0\0\0\04\0\0\0\0\0\0\0\0\0\0\04\0 \0\x01\0\
-              \0\0\0\0\0\0\x01\0\0\0T\0\0\0\0\0\0\0\0\0\0\0\x18\0\0\0\x18\0\0\0\x07\0\0\0\x04\0\0\0\x93\x02@\x10# P\
-              \x10/\xa3\x02\x10\xaf\xa3R\x18\x93\x08\0\0s\0\0\0",
+            b"code: 10400293 10502023 1002A32F 1852A3AF 00000893 00000073",
         ),
         (
             "plan.toml",
-            b"cores = 1\n\
-              chunk = 100\n\
-              buffer = 1\n\
-              window = 2\n\
-              signature = 64\n\
-              script = \"s.txt\"\n\
-              report = \"r.txt\"\n\
-              [[sphere]]\n\
-              image = \"a.elf\"\n\
-              memory = 4096\n\
-              role = \"record\"\n\
-              mode = \"order-only\"\n\
-              log = \"a.log\"\n\
-              account = \"a.txt\"\n",
+            b"plan: buffer = 1; record, mode = \"order-only\"",
         ),
         (
             "s.txt",
-            b"step 0\nstep 0\nstep 0\nstep 0\nask 0\nstep 0\nstep 0\nstep 0\nask 0\nstep 0\nask 0\ndrain 0\nretire 0\nask 0\n",
+            b"lines: step 0 x4, ask 0, step 0 x3, ask 0, step 0, ask 0, drain 0, retire 0, ask 0",
         ),
     ],
     status: Status::Done,
@@ -962,32 +460,13 @@ const RESERVATION_LOST: Case = Case {
         ),
         (
             "a.txt",
-            b"c 0 0 3\n\
-              l 00000104 00000000\n\
-              c 1 0 2\n\
-              c 2 0 0\n\
-              t 0 00000018 ended:0 00000000 0 00000000 00000000 00000000 00000000 00000104 00000000 00000001 \
-              00000000 00000000 00000000 00000000 00000000 00000000 00000000 00000000 00000000 00000000 00000000 \
-              00000000 00000000 00000000 00000000 00000000 00000000 00000000 00000000 00000000 00000000 00000000 \
-              00000000 00000000\n\
-              m 00000000 93024010232050102FA30210AFA3521893080000730000000000000000000000\n\
-              m 00000100 0401000000000000000000000000000000000000000000000000000000000000\n\
-              end complete 3\n",
+            b"account: c 0 0 3, l 00000104 00000000, c 1 0 2, c 2 0 0, t 0 00000018 ended:0 00000000 0 x5=104 x7=1, \
+              m 00000000 93024010232050102FA30210AFA352189308000073, m 00000100 0401, end complete 3",
         ),
         (
             "r.txt",
-            b"g 4 0 0 chunk 3\n\
-              g 8 0 0 chunk 2\n\
-              g 13 0 0 serial 0\n\
-              r Ran 5\n\
-              r Closed 3\n\
-              r Granted 3\n\
-              r SphereBusy 1\n\
-              r Drained 1\n\
-              r Retired 1\n\
-              events 14\n\
-              commits 3\n\
-              s 0 record 3\n",
+            b"lines: g 4 0 0 chunk 3, g 8 0 0 chunk 2, g 13 0 0 serial 0, r Ran 5, r Closed 3, r Granted 3, \
+              r SphereBusy 1, r Drained 1, r Retired 1, events 14, commits 3, s 0 record 3",
         ),
     ],
 };
@@ -997,78 +476,18 @@ const HALVED_LIMIT: Case = Case {
     read: &[
         (
             "a.elf",
-            b"\x7fELF\x01\x01\x01\0\0\0\0\0\0\0\0\0\x02\0\xf3\0\x01\0\0\0\0\0\0\04\0\0\0\0\0\0\0\0\0\0\04\0 \0\x01\0\
-              \0\0\0\0\0\0\x01\0\0\0T\0\0\0\0\0\0\0\0\0\0\0(\0\0\0(\0\0\0\x07\0\0\0\x04\0\0\0\x93\x08\x10\0\x13\x05\
-              \0\x02\x13\x06\0\0s\0\0\0\x83\"\0\x10o\xf0\xdf\xff\x13\0\0\0\x13\0\0\0# \xa0\x10o\xf0\xdf\xff",
+            b"code: 00100893 02000513 00000613 00000073 10002283 FFDFF06F 00000013 00000013 10A02023 FFDFF06F",
         ),
         (
             "plan.toml",
-            b"cores = 2\n\
-              chunk = 16\n\
-              buffer = 16\n\
-              window = 2\n\
-              signature = 64\n\
-              script = \"s.txt\"\n\
-              report = \"r.txt\"\n\
-              [[sphere]]\n\
-              image = \"a.elf\"\n\
-              memory = 4096\n\
-              role = \"record\"\n\
-              mode = \"order-only\"\n\
-              log = \"a.log\"\n\
-              account = \"a.txt\"\n",
+            b"plan: cores = 2, chunk = 16; record, mode = \"order-only\"",
         ),
         (
             "s.txt",
-            b"step 0\n\
-              step 0\n\
-              step 0\n\
-              step 0\n\
-              ask 0\n\
-              step 0\n\
-              ask 0\n\
-              place 1 0 1\n\
-              step 0\n\
-              step 1\n\
-              step 1\n\
-              cut 1\n\
-              ask 1\n\
-              deliver 0 0\n\
-              drain 0\n\
-              retire 0\n\
-              step 0\n\
-              step 1\n\
-              step 1\n\
-              cut 1\n\
-              ask 1\n\
-              deliver 0 0\n\
-              drain 0\n\
-              retire 0\n\
-              step 0\n\
-              step 1\n\
-              step 1\n\
-              cut 1\n\
-              ask 1\n\
-              deliver 0 0\n\
-              drain 0\n\
-              retire 0\n\
-              step 0\n\
-              step 1\n\
-              step 1\n\
-              cut 1\n\
-              ask 1\n\
-              deliver 0 0\n\
-              drain 0\n\
-              retire 0\n\
-              step 0\n\
-              step 0\n\
-              step 0\n\
-              step 0\n\
-              step 0\n\
-              step 0\n\
-              step 0\n\
-              step 0\n\
-              ask 0\n",
+            b"lines: step 0 x4, ask 0, step 0, ask 0, place 1 0 1, step 0, step 1 x2, cut 1, ask 1, deliver 0 0, \
+              drain 0, retire 0, step 0, step 1 x2, cut 1, ask 1, deliver 0 0, drain 0, retire 0, step 0, step 1 x2, \
+              cut 1, ask 1, deliver 0 0, drain 0, retire 0, step 0, step 1 x2, cut 1, ask 1, deliver 0 0, drain 0, \
+              retire 0, step 0 x8, ask 0",
         ),
     ],
     status: Status::Done,
@@ -1081,48 +500,17 @@ const HALVED_LIMIT: Case = Case {
         ),
         (
             "a.txt",
-            b"c 0 0 3\n\
-              c 1 0 0\n\
-              c 2 1 2\n\
-              c 3 1 2\n\
-              c 4 1 2\n\
-              c 5 1 2\n\
-              c 6 0 8\n\
-              l 00000100 00000000\n\
-              l 00000100 00000000\n\
-              l 00000100 00000000\n\
-              l 00000100 00000000\n\
-              t 0 00000010 live 00000000 0 00000000 00000000 00000000 00000000 00000000 00000000 00000000 00000000 \
-              00000000 00000001 00000000 00000000 00000000 00000000 00000000 00000000 00000001 00000000 00000000 \
-              00000000 00000000 00000000 00000000 00000000 00000000 00000000 00000000 00000000 00000000 00000000 \
-              00000000\n\
-              t 1 00000020 live 00000000 0 00000000 00000000 00000000 00000000 00000000 00000000 00000000 00000000 \
-              00000000 00000000 00000000 00000000 00000000 00000000 00000000 00000000 00000000 00000000 00000000 \
-              00000000 00000000 00000000 00000000 00000000 00000000 00000000 00000000 00000000 00000000 00000000 \
-              00000000\n\
-              m 00000000 93081000130500021306000073000000832200106FF0DFFF1300000013000000\n\
-              m 00000020 2320A0106FF0DFFF000000000000000000000000000000000000000000000000\n\
-              end complete 7\n",
+            b"account: c 0 0 3, c 1 0 0, c 2 1 2, c 3 1 2, c 4 1 2, c 5 1 2, c 6 0 8, l 00000100 00000000, \
+              l 00000100 00000000, l 00000100 00000000, l 00000100 00000000, \
+              t 0 00000010 live 00000000 0 x10=1 x17=1, t 1 00000020 live 00000000 0, \
+              m 00000000 93081000130500021306000073000000832200106FF0DFFF1300000013, m 00000020 2320A0106FF0DFFF, \
+              end complete 7",
         ),
         (
             "r.txt",
-            b"g 4 0 0 chunk 3\n\
-              g 6 0 0 serial 0\n\
-              g 12 0 1 chunk 2\n\
-              g 20 0 1 chunk 2\n\
-              g 28 0 1 chunk 2\n\
-              g 36 0 1 chunk 2\n\
-              g 48 0 0 chunk 8\n\
-              r Ran 22\n\
-              r Closed 7\n\
-              r Granted 7\n\
-              r Drained 4\n\
-              r Squashed 4\n\
-              r Retired 4\n\
-              r Placed 1\n\
-              events 49\n\
-              commits 7\n\
-              s 0 record 7\n",
+            b"lines: g 4 0 0 chunk 3, g 6 0 0 serial 0, g 12 0 1 chunk 2, g 20 0 1 chunk 2, g 28 0 1 chunk 2, \
+              g 36 0 1 chunk 2, g 48 0 0 chunk 8, r Ran 22, r Closed 7, r Granted 7, r Drained 4, r Squashed 4, \
+              r Retired 4, r Placed 1, events 49, commits 7, s 0 record 7",
         ),
     ],
 };
@@ -1132,59 +520,14 @@ const TURNS: Case = Case {
     read: &[
         (
             "a.elf",
-            b"\x7fELF\x01\x01\x01\0\0\0\0\0\0\0\0\0\x02\0\xf3\0\x01\0\0\0\0\0\0\04\0\0\0\0\0\0\0\0\0\0\04\0 \0\x01\0\
-              \0\0\0\0\0\0\x01\0\0\0T\0\0\0\0\0\0\0\0\0\0\00\0\0\00\0\0\0\x07\0\0\0\x04\0\0\0\x93\x08\x10\0\x13\x05\
-              \0\x02\x13\x06\0\0s\0\0\0\x83\"\0\x10\x93\x08\0\0s\0\0\0\x13\0\0\0\x13\x03\x90\0# `\x10\x93\x08\0\0s\0\
-              \0\0",
+            b"code: 00100893 02000513 00000613 00000073 10002283 00000893 00000073 00000013 00900313 10602023 \
+              00000893 00000073",
         ),
-        (
-            "plan.toml",
-            b"cores = 2\n\
-              chunk = 100\n\
-              buffer = 16\n\
-              window = 2\n\
-              signature = 64\n\
-              script = \"s.txt\"\n\
-              report = \"r.txt\"\n\
-              [[sphere]]\n\
-              image = \"a.elf\"\n\
-              memory = 4096\n\
-              role = \"record\"\n\
-              mode = \"picolog\"\n\
-              log = \"a.log\"\n\
-              account = \"a.txt\"\n",
-        ),
+        ("plan.toml", b"plan: cores = 2; record, mode = \"picolog\""),
         (
             "s.txt",
-            b"step 0\n\
-              step 0\n\
-              step 0\n\
-              step 0\n\
-              ask 0\n\
-              step 0\n\
-              ask 0\n\
-              place 1 0 1\n\
-              step 1\n\
-              step 1\n\
-              step 1\n\
-              step 1\n\
-              ask 1\n\
-              step 0\n\
-              step 0\n\
-              step 0\n\
-              ask 0\n\
-              deliver 0 0\n\
-              step 0\n\
-              drain 0\n\
-              retire 0\n\
-              step 0\n\
-              step 0\n\
-              step 0\n\
-              ask 0\n\
-              step 0\n\
-              ask 0\n\
-              step 1\n\
-              ask 1\n",
+            b"lines: step 0 x4, ask 0, step 0, ask 0, place 1 0 1, step 1 x4, ask 1, step 0 x3, ask 0, deliver 0 0, \
+              step 0, drain 0, retire 0, step 0 x3, ask 0, step 0, ask 0, step 1, ask 1",
         ),
     ],
     status: Status::Done,
@@ -1196,45 +539,16 @@ const TURNS: Case = Case {
         ),
         (
             "a.txt",
-            b"c 0 0 3\n\
-              c 1 0 0\n\
-              c 2 1 3\n\
-              c 3 0 2\n\
-              l 00000100 00000009\n\
-              c 4 1 0\n\
-              t 0 00000018 live 00000000 0 00000000 00000000 00000000 00000000 00000009 00000000 00000000 00000000 \
-              00000000 00000001 00000000 00000000 00000000 00000000 00000000 00000000 00000000 00000000 00000000 \
-              00000000 00000000 00000000 00000000 00000000 00000000 00000000 00000000 00000000 00000000 00000000 \
-              00000000\n\
-              t 1 00000030 ended:0 00000000 0 00000000 00000000 00000000 00000000 00000000 00000009 00000000 \
-              00000000 00000000 00000000 00000000 00000000 00000000 00000000 00000000 00000000 00000000 00000000 \
-              00000000 00000000 00000000 00000000 00000000 00000000 00000000 00000000 00000000 00000000 00000000 \
-              00000000 00000000\n\
-              m 00000000 9308100013050002130600007300000083220010930800007300000013000000\n\
-              m 00000020 1303900023206010930800007300000000000000000000000000000000000000\n\
-              m 00000100 0900000000000000000000000000000000000000000000000000000000000000\n\
-              end complete 5\n",
+            b"account: c 0 0 3, c 1 0 0, c 2 1 3, c 3 0 2, l 00000100 00000009, c 4 1 0, \
+              t 0 00000018 live 00000000 0 x5=9 x10=1, t 1 00000030 ended:0 00000000 0 x6=9, \
+              m 00000000 9308100013050002130600007300000083220010930800007300000013, \
+              m 00000020 13039000232060109308000073, m 00000100 09, end complete 5",
         ),
         (
             "r.txt",
-            b"g 4 0 0 chunk 3\n\
-              g 6 0 0 serial 0\n\
-              g 12 0 1 chunk 3\n\
-              g 24 0 0 chunk 2\n\
-              g 28 0 1 serial 0\n\
-              r Ran 10\n\
-              r Closed 7\n\
-              r Bounced 1\n\
-              r Granted 5\n\
-              r NotTurn 1\n\
-              r Denied 1\n\
-              r Drained 1\n\
-              r Squashed 1\n\
-              r Retired 1\n\
-              r Placed 1\n\
-              events 29\n\
-              commits 5\n\
-              s 0 record 5\n",
+            b"lines: g 4 0 0 chunk 3, g 6 0 0 serial 0, g 12 0 1 chunk 3, g 24 0 0 chunk 2, g 28 0 1 serial 0, \
+              r Ran 10, r Closed 7, r Bounced 1, r Granted 5, r NotTurn 1, r Denied 1, r Drained 1, r Squashed 1, \
+              r Retired 1, r Placed 1, events 29, commits 5, s 0 record 5",
         ),
     ],
 };
@@ -1244,59 +558,17 @@ const TURNS_WINDOW_1: Case = Case {
     read: &[
         (
             "a.elf",
-            b"\x7fELF\x01\x01\x01\0\0\0\0\0\0\0\0\0\x02\0\xf3\0\x01\0\0\0\0\0\0\04\0\0\0\0\0\0\0\0\0\0\04\0 \0\x01\0\
-              \0\0\0\0\0\0\x01\0\0\0T\0\0\0\0\0\0\0\0\0\0\00\0\0\00\0\0\0\x07\0\0\0\x04\0\0\0\x93\x08\x10\0\x13\x05\
-              \0\x02\x13\x06\0\0s\0\0\0\x83\"\0\x10\x93\x08\0\0s\0\0\0\x13\0\0\0\x13\x03\x90\0# `\x10\x93\x08\0\0s\0\
-              \0\0",
+            b"code: 00100893 02000513 00000613 00000073 10002283 00000893 00000073 00000013 00900313 10602023 \
+              00000893 00000073",
         ),
         (
             "plan.toml",
-            b"cores = 2\n\
-              chunk = 100\n\
-              buffer = 16\n\
-              window = 1\n\
-              signature = 64\n\
-              script = \"s.txt\"\n\
-              report = \"r.txt\"\n\
-              [[sphere]]\n\
-              image = \"a.elf\"\n\
-              memory = 4096\n\
-              role = \"record\"\n\
-              mode = \"picolog\"\n\
-              log = \"a.log\"\n\
-              account = \"a.txt\"\n",
+            b"plan: cores = 2, window = 1; record, mode = \"picolog\"",
         ),
         (
             "s.txt",
-            b"step 0\n\
-              step 0\n\
-              step 0\n\
-              step 0\n\
-              ask 0\n\
-              step 0\n\
-              ask 0\n\
-              place 1 0 1\n\
-              step 1\n\
-              step 1\n\
-              step 1\n\
-              step 1\n\
-              ask 1\n\
-              step 0\n\
-              step 0\n\
-              step 0\n\
-              ask 0\n\
-              deliver 0 0\n\
-              step 0\n\
-              drain 0\n\
-              retire 0\n\
-              step 0\n\
-              step 0\n\
-              step 0\n\
-              ask 0\n\
-              step 0\n\
-              ask 0\n\
-              step 1\n\
-              ask 1\n",
+            b"lines: step 0 x4, ask 0, step 0, ask 0, place 1 0 1, step 1 x4, ask 1, step 0 x3, ask 0, deliver 0 0, \
+              step 0, drain 0, retire 0, step 0 x3, ask 0, step 0, ask 0, step 1, ask 1",
         ),
     ],
     status: Status::Done,
@@ -1308,45 +580,16 @@ const TURNS_WINDOW_1: Case = Case {
         ),
         (
             "a.txt",
-            b"c 0 0 3\n\
-              c 1 0 0\n\
-              c 2 1 3\n\
-              c 3 0 2\n\
-              l 00000100 00000009\n\
-              c 4 1 0\n\
-              t 0 00000018 live 00000000 0 00000000 00000000 00000000 00000000 00000009 00000000 00000000 00000000 \
-              00000000 00000001 00000000 00000000 00000000 00000000 00000000 00000000 00000000 00000000 00000000 \
-              00000000 00000000 00000000 00000000 00000000 00000000 00000000 00000000 00000000 00000000 00000000 \
-              00000000\n\
-              t 1 00000030 ended:0 00000000 0 00000000 00000000 00000000 00000000 00000000 00000009 00000000 \
-              00000000 00000000 00000000 00000000 00000000 00000000 00000000 00000000 00000000 00000000 00000000 \
-              00000000 00000000 00000000 00000000 00000000 00000000 00000000 00000000 00000000 00000000 00000000 \
-              00000000 00000000\n\
-              m 00000000 9308100013050002130600007300000083220010930800007300000013000000\n\
-              m 00000020 1303900023206010930800007300000000000000000000000000000000000000\n\
-              m 00000100 0900000000000000000000000000000000000000000000000000000000000000\n\
-              end complete 5\n",
+            b"account: c 0 0 3, c 1 0 0, c 2 1 3, c 3 0 2, l 00000100 00000009, c 4 1 0, \
+              t 0 00000018 live 00000000 0 x5=9 x10=1, t 1 00000030 ended:0 00000000 0 x6=9, \
+              m 00000000 9308100013050002130600007300000083220010930800007300000013, \
+              m 00000020 13039000232060109308000073, m 00000100 09, end complete 5",
         ),
         (
             "r.txt",
-            b"g 4 0 0 chunk 3\n\
-              g 6 0 0 serial 0\n\
-              g 12 0 1 chunk 3\n\
-              g 24 0 0 chunk 2\n\
-              g 28 0 1 serial 0\n\
-              r Ran 10\n\
-              r Closed 7\n\
-              r Bounced 1\n\
-              r Granted 5\n\
-              r NotTurn 1\n\
-              r WindowFull 1\n\
-              r Drained 1\n\
-              r Squashed 1\n\
-              r Retired 1\n\
-              r Placed 1\n\
-              events 29\n\
-              commits 5\n\
-              s 0 record 5\n",
+            b"lines: g 4 0 0 chunk 3, g 6 0 0 serial 0, g 12 0 1 chunk 3, g 24 0 0 chunk 2, g 28 0 1 serial 0, \
+              r Ran 10, r Closed 7, r Bounced 1, r Granted 5, r NotTurn 1, r WindowFull 1, r Drained 1, r Squashed 1, \
+              r Retired 1, r Placed 1, events 29, commits 5, s 0 record 5",
         ),
     ],
 };
@@ -1356,30 +599,12 @@ const BUSY_SPHERE: Case = Case {
     read: &[
         (
             "a.elf",
-            b"\x7fELF\x01\x01\x01\0\0\0\0\0\0\0\0\0\x02\0\xf3\0\x01\0\0\0\0\0\0\04\0\0\0\0\0\0\0\0\0\0\04\0 \0\x01\0\
-              \0\0\0\0\0\0\x01\0\0\0T\0\0\0\0\0\0\0\0\0\0\0\x18\0\0\0\x18\0\0\0\x07\0\0\0\x04\0\0\0\x93\x02@\x10# P\
-              \x10/\xa3\x02\x10\xaf\xa3R\x18\x93\x08\0\0s\0\0\0",
+            b"code: 10400293 10502023 1002A32F 1852A3AF 00000893 00000073",
         ),
-        (
-            "plan.toml",
-            b"cores = 1\n\
-              chunk = 100\n\
-              buffer = 1\n\
-              window = 2\n\
-              signature = 64\n\
-              script = \"s.txt\"\n\
-              report = \"r.txt\"\n\
-              [[sphere]]\n\
-              image = \"a.elf\"\n\
-              memory = 4096\n\
-              role = \"record\"\n\
-              mode = \"order-size\"\n\
-              log = \"a.log\"\n\
-              account = \"a.txt\"\n",
-        ),
+        ("plan.toml", b"plan: buffer = 1; record"),
         (
             "s.txt",
-            b"step 0\nstep 0\nstep 0\nstep 0\nask 0\nstep 0\nstep 0\nstep 0\nask 0\nstep 0\nask 0\ndrain 0\nretire 0\nask 0\n",
+            b"lines: step 0 x4, ask 0, step 0 x3, ask 0, step 0, ask 0, drain 0, retire 0, ask 0",
         ),
     ],
     status: Status::Done,
@@ -1391,32 +616,13 @@ const BUSY_SPHERE: Case = Case {
         ),
         (
             "a.txt",
-            b"c 0 0 3\n\
-              l 00000104 00000000\n\
-              c 1 0 2\n\
-              c 2 0 0\n\
-              t 0 00000018 ended:0 00000000 0 00000000 00000000 00000000 00000000 00000104 00000000 00000001 \
-              00000000 00000000 00000000 00000000 00000000 00000000 00000000 00000000 00000000 00000000 00000000 \
-              00000000 00000000 00000000 00000000 00000000 00000000 00000000 00000000 00000000 00000000 00000000 \
-              00000000 00000000\n\
-              m 00000000 93024010232050102FA30210AFA3521893080000730000000000000000000000\n\
-              m 00000100 0401000000000000000000000000000000000000000000000000000000000000\n\
-              end complete 3\n",
+            b"account: c 0 0 3, l 00000104 00000000, c 1 0 2, c 2 0 0, t 0 00000018 ended:0 00000000 0 x5=104 x7=1, \
+              m 00000000 93024010232050102FA30210AFA352189308000073, m 00000100 0401, end complete 3",
         ),
         (
             "r.txt",
-            b"g 4 0 0 chunk 3\n\
-              g 8 0 0 chunk 2\n\
-              g 13 0 0 serial 0\n\
-              r Ran 5\n\
-              r Closed 3\n\
-              r Granted 3\n\
-              r SphereBusy 1\n\
-              r Drained 1\n\
-              r Retired 1\n\
-              events 14\n\
-              commits 3\n\
-              s 0 record 3\n",
+            b"lines: g 4 0 0 chunk 3, g 8 0 0 chunk 2, g 13 0 0 serial 0, r Ran 5, r Closed 3, r Granted 3, \
+              r SphereBusy 1, r Drained 1, r Retired 1, events 14, commits 3, s 0 record 3",
         ),
     ],
 };
@@ -1426,56 +632,14 @@ const TWO_THREADS_ONE_CORE: Case = Case {
     read: &[
         (
             "a.elf",
-            b"\x7fELF\x01\x01\x01\0\0\0\0\0\0\0\0\0\x02\0\xf3\0\x01\0\0\0\0\0\0\04\0\0\0\0\0\0\0\0\0\0\04\0 \0\x01\0\
-              \0\0\0\0\0\0\x01\0\0\0T\0\0\0\0\0\0\0\0\0\0\00\0\0\00\0\0\0\x07\0\0\0\x04\0\0\0\x93\x08\x10\0\x13\x05\
-              \0\x02\x13\x06\0\0s\0\0\0\x83\"\0\x10\x93\x08\0\0s\0\0\0\x13\0\0\0\x13\x03\x90\0# `\x10\x93\x08\0\0s\0\
-              \0\0",
+            b"code: 00100893 02000513 00000613 00000073 10002283 00000893 00000073 00000013 00900313 10602023 \
+              00000893 00000073",
         ),
-        (
-            "plan.toml",
-            b"cores = 1\n\
-              chunk = 100\n\
-              buffer = 16\n\
-              window = 2\n\
-              signature = 64\n\
-              script = \"s.txt\"\n\
-              report = \"r.txt\"\n\
-              [[sphere]]\n\
-              image = \"a.elf\"\n\
-              memory = 4096\n\
-              role = \"record\"\n\
-              mode = \"order-size\"\n\
-              log = \"a.log\"\n\
-              account = \"a.txt\"\n",
-        ),
+        ("plan.toml", b"plan: record"),
         (
             "s.txt",
-            b"step 0\n\
-              step 0\n\
-              step 0\n\
-              step 0\n\
-              ask 0\n\
-              step 0\n\
-              ask 0\n\
-              place 0 0 1\n\
-              step 0\n\
-              step 0\n\
-              step 0\n\
-              step 0\n\
-              ask 0\n\
-              step 0\n\
-              ask 0\n\
-              drain 0\n\
-              retire 0\n\
-              ask 0\n\
-              step 0\n\
-              place 0 0 0\n\
-              step 0\n\
-              step 0\n\
-              step 0\n\
-              ask 0\n\
-              step 0\n\
-              ask 0\n",
+            b"lines: step 0 x4, ask 0, step 0, ask 0, place 0 0 1, step 0 x4, ask 0, step 0, ask 0, drain 0, \
+              retire 0, ask 0, step 0, place 0 0 0, step 0 x3, ask 0, step 0, ask 0",
         ),
     ],
     status: Status::Done,
@@ -1487,45 +651,16 @@ const TWO_THREADS_ONE_CORE: Case = Case {
         ),
         (
             "a.txt",
-            b"c 0 0 3\n\
-              c 1 0 0\n\
-              c 2 1 3\n\
-              c 3 1 0\n\
-              c 4 0 2\n\
-              l 00000100 00000009\n\
-              c 5 0 0\n\
-              t 0 0000001C ended:1 00000000 0 00000000 00000000 00000000 00000000 00000009 00000000 00000000 \
-              00000000 00000000 00000001 00000000 00000000 00000000 00000000 00000000 00000000 00000000 00000000 \
-              00000000 00000000 00000000 00000000 00000000 00000000 00000000 00000000 00000000 00000000 00000000 \
-              00000000 00000000\n\
-              t 1 00000030 ended:0 00000000 0 00000000 00000000 00000000 00000000 00000000 00000009 00000000 \
-              00000000 00000000 00000000 00000000 00000000 00000000 00000000 00000000 00000000 00000000 00000000 \
-              00000000 00000000 00000000 00000000 00000000 00000000 00000000 00000000 00000000 00000000 00000000 \
-              00000000 00000000\n\
-              m 00000000 9308100013050002130600007300000083220010930800007300000013000000\n\
-              m 00000020 1303900023206010930800007300000000000000000000000000000000000000\n\
-              m 00000100 0900000000000000000000000000000000000000000000000000000000000000\n\
-              end complete 6\n",
+            b"account: c 0 0 3, c 1 0 0, c 2 1 3, c 3 1 0, c 4 0 2, l 00000100 00000009, c 5 0 0, \
+              t 0 0000001C ended:1 00000000 0 x5=9 x10=1, t 1 00000030 ended:0 00000000 0 x6=9, \
+              m 00000000 9308100013050002130600007300000083220010930800007300000013, \
+              m 00000020 13039000232060109308000073, m 00000100 09, end complete 6",
         ),
         (
             "r.txt",
-            b"g 4 0 0 chunk 3\n\
-              g 6 0 0 serial 0\n\
-              g 12 0 1 chunk 3\n\
-              g 17 0 1 serial 0\n\
-              g 23 0 0 chunk 2\n\
-              g 25 0 0 serial 0\n\
-              r Ran 8\n\
-              r Closed 6\n\
-              r Idle 1\n\
-              r Granted 6\n\
-              r SphereBusy 1\n\
-              r Drained 1\n\
-              r Retired 1\n\
-              r Placed 2\n\
-              events 26\n\
-              commits 6\n\
-              s 0 record 6\n",
+            b"lines: g 4 0 0 chunk 3, g 6 0 0 serial 0, g 12 0 1 chunk 3, g 17 0 1 serial 0, g 23 0 0 chunk 2, \
+              g 25 0 0 serial 0, r Ran 8, r Closed 6, r Idle 1, r Granted 6, r SphereBusy 1, r Drained 1, \
+              r Retired 1, r Placed 2, events 26, commits 6, s 0 record 6",
         ),
     ],
 };
@@ -1535,30 +670,12 @@ const RESERVATION_KEPT: Case = Case {
     read: &[
         (
             "a.elf",
-            b"\x7fELF\x01\x01\x01\0\0\0\0\0\0\0\0\0\x02\0\xf3\0\x01\0\0\0\0\0\0\04\0\0\0\0\0\0\0\0\0\0\04\0 \0\x01\0\
-              \0\0\0\0\0\0\x01\0\0\0T\0\0\0\0\0\0\0\0\0\0\0\x18\0\0\0\x18\0\0\0\x07\0\0\0\x04\0\0\0\x93\x02@\x10# P\
-              \x10/\xa3\x02\x10\xaf\xa3R\x18\x93\x08\0\0s\0\0\0",
+            b"code: 10400293 10502023 1002A32F 1852A3AF 00000893 00000073",
         ),
-        (
-            "plan.toml",
-            b"cores = 1\n\
-              chunk = 100\n\
-              buffer = 16\n\
-              window = 2\n\
-              signature = 64\n\
-              script = \"s.txt\"\n\
-              report = \"r.txt\"\n\
-              [[sphere]]\n\
-              image = \"a.elf\"\n\
-              memory = 4096\n\
-              role = \"record\"\n\
-              mode = \"order-only\"\n\
-              log = \"a.log\"\n\
-              account = \"a.txt\"\n",
-        ),
+        ("plan.toml", b"plan: record, mode = \"order-only\""),
         (
             "s.txt",
-            b"step 0\nstep 0\nstep 0\nstep 0\nstep 0\nstep 0\nask 0\ndrain 0\ndrain 0\nretire 0\nstep 0\nask 0\n",
+            b"lines: step 0 x6, ask 0, drain 0 x2, retire 0, step 0, ask 0",
         ),
     ],
     status: Status::Done,
@@ -1570,16 +687,8 @@ const RESERVATION_KEPT: Case = Case {
         ),
         (
             "a.txt",
-            b"c 0 0 5\n\
-              l 00000104 00000000\n\
-              c 1 0 0\n\
-              t 0 00000018 ended:0 00000000 0 00000000 00000000 00000000 00000000 00000104 00000000 00000000 \
-              00000000 00000000 00000000 00000000 00000000 00000000 00000000 00000000 00000000 00000000 00000000 \
-              00000000 00000000 00000000 00000000 00000000 00000000 00000000 00000000 00000000 00000000 00000000 \
-              00000000 00000000\n\
-              m 00000000 93024010232050102FA30210AFA3521893080000730000000000000000000000\n\
-              m 00000100 0401000004010000000000000000000000000000000000000000000000000000\n\
-              end complete 2\n",
+            b"account: c 0 0 5, l 00000104 00000000, c 1 0 0, t 0 00000018 ended:0 00000000 0 x5=104, \
+              m 00000000 93024010232050102FA30210AFA352189308000073, m 00000100 040100000401, end complete 2",
         ),
         (
             "r.txt",
@@ -1593,33 +702,16 @@ const PIECES_BY_HAND: Case = Case {
     read: &[
         (
             "a.elf",
-            b"\x7fELF\x01\x01\x01\0\0\0\0\0\0\0\0\0\x02\0\xf3\0\x01\0\0\0\0\0\0\04\0\0\0\0\0\0\0\0\0\0\04\0 \0\x01\0\
-              \0\0\0\0\0\0\x01\0\0\0T\0\0\0\0\0\0\0\0\0\0\0\x18\0\0\0\x18\0\0\0\x07\0\0\0\x04\0\0\0\x93\x02@\x10# P\
-              \x10/\xa3\x02\x10\xaf\xa3R\x18\x93\x08\0\0s\0\0\0",
+            b"code: 10400293 10502023 1002A32F 1852A3AF 00000893 00000073",
         ),
         (
             "a.log",
             b"DLRN\x01\x01\0\0d\0\0\0\x02\0\0\0\x02\0\0\0\0\0\0\0\0\0\0\0\0\0\0\0\0\0\0\0\0",
         ),
-        (
-            "plan.toml",
-            b"cores = 1\n\
-              chunk = 100\n\
-              buffer = 1\n\
-              window = 2\n\
-              signature = 64\n\
-              script = \"s.txt\"\n\
-              report = \"r.txt\"\n\
-              [[sphere]]\n\
-              image = \"a.elf\"\n\
-              memory = 4096\n\
-              role = \"replay\"\n\
-              log = \"a.log\"\n\
-              account = \"b.txt\"\n",
-        ),
+        ("plan.toml", b"plan: buffer = 1; replay"),
         (
             "s.txt",
-            b"step 0\nstep 0\nstep 0\nstep 0\nask 0\ndrain 0\nretire 0\nstep 0\nstep 0\nstep 0\nask 0\ndrain 0\nretire 0\nstep 0\nask 0\n",
+            b"lines: step 0 x4, ask 0, drain 0, retire 0, step 0 x3, ask 0, drain 0, retire 0, step 0, ask 0",
         ),
     ],
     status: Status::Done,
@@ -1627,31 +719,13 @@ const PIECES_BY_HAND: Case = Case {
     written: &[
         (
             "b.txt",
-            b"c 0 0 5\n\
-              l 00000104 00000000\n\
-              c 1 0 0\n\
-              t 0 00000018 ended:0 00000000 0 00000000 00000000 00000000 00000000 00000104 00000000 00000000 \
-              00000000 00000000 00000000 00000000 00000000 00000000 00000000 00000000 00000000 00000000 00000000 \
-              00000000 00000000 00000000 00000000 00000000 00000000 00000000 00000000 00000000 00000000 00000000 \
-              00000000 00000000\n\
-              m 00000000 93024010232050102FA30210AFA3521893080000730000000000000000000000\n\
-              m 00000100 0401000004010000000000000000000000000000000000000000000000000000\n\
-              end complete 2\n",
+            b"account: c 0 0 5, l 00000104 00000000, c 1 0 0, t 0 00000018 ended:0 00000000 0 x5=104, \
+              m 00000000 93024010232050102FA30210AFA352189308000073, m 00000100 040100000401, end complete 2",
         ),
         (
             "r.txt",
-            b"g 4 0 0 piece 3\n\
-              g 10 0 0 chunk 2\n\
-              g 14 0 0 serial 0\n\
-              r Ran 5\n\
-              r Closed 3\n\
-              r Granted 2\n\
-              r Piece 1\n\
-              r Drained 2\n\
-              r Retired 2\n\
-              events 15\n\
-              commits 2\n\
-              s 0 complete 2\n",
+            b"lines: g 4 0 0 piece 3, g 10 0 0 chunk 2, g 14 0 0 serial 0, r Ran 5, r Closed 3, r Granted 2, \
+              r Piece 1, r Drained 2, r Retired 2, events 15, commits 2, s 0 complete 2",
         ),
     ],
 };
@@ -1661,30 +735,13 @@ const REPLAY_IN_PIECES: Case = Case {
     read: &[
         (
             "a.elf",
-            b"\x7fELF\x01\x01\x01\0\0\0\0\0\0\0\0\0\x02\0\xf3\0\x01\0\0\0\0\0\0\04\0\0\0\0\0\0\0\0\0\0\04\0 \0\x01\0\
-              \0\0\0\0\0\0\x01\0\0\0T\0\0\0\0\0\0\0\0\0\0\0\x18\0\0\0\x18\0\0\0\x07\0\0\0\x04\0\0\0\x93\x02@\x10# P\
-              \x10/\xa3\x02\x10\xaf\xa3R\x18\x93\x08\0\0s\0\0\0",
+            b"code: 10400293 10502023 1002A32F 1852A3AF 00000893 00000073",
         ),
         (
             "a.log",
             b"DLRN\x01\x01\0\0d\0\0\0\x02\0\0\0\x02\0\0\0\0\0\0\0\0\0\0\0\0\0\0\0\0\0\0\0\0",
         ),
-        (
-            "plan.toml",
-            b"cores = 1\n\
-              chunk = 100\n\
-              buffer = 1\n\
-              window = 2\n\
-              signature = 64\n\
-              script = \"s.txt\"\n\
-              report = \"r.txt\"\n\
-              [[sphere]]\n\
-              image = \"a.elf\"\n\
-              memory = 4096\n\
-              role = \"replay\"\n\
-              log = \"a.log\"\n\
-              account = \"b.txt\"\n",
-        ),
+        ("plan.toml", b"plan: buffer = 1; replay"),
         ("s.txt", b""),
     ],
     status: Status::Done,
@@ -1692,31 +749,13 @@ const REPLAY_IN_PIECES: Case = Case {
     written: &[
         (
             "b.txt",
-            b"c 0 0 5\n\
-              l 00000104 00000000\n\
-              c 1 0 0\n\
-              t 0 00000018 ended:0 00000000 0 00000000 00000000 00000000 00000000 00000104 00000000 00000000 \
-              00000000 00000000 00000000 00000000 00000000 00000000 00000000 00000000 00000000 00000000 00000000 \
-              00000000 00000000 00000000 00000000 00000000 00000000 00000000 00000000 00000000 00000000 00000000 \
-              00000000 00000000\n\
-              m 00000000 93024010232050102FA30210AFA3521893080000730000000000000000000000\n\
-              m 00000100 0401000004010000000000000000000000000000000000000000000000000000\n\
-              end complete 2\n",
+            b"account: c 0 0 5, l 00000104 00000000, c 1 0 0, t 0 00000018 ended:0 00000000 0 x5=104, \
+              m 00000000 93024010232050102FA30210AFA352189308000073, m 00000100 040100000401, end complete 2",
         ),
         (
             "r.txt",
-            b"g 4 0 0 piece 3\n\
-              g 10 0 0 chunk 2\n\
-              g 14 0 0 serial 0\n\
-              r Ran 5\n\
-              r Closed 3\n\
-              r Granted 2\n\
-              r Piece 1\n\
-              r Drained 2\n\
-              r Retired 2\n\
-              events 15\n\
-              commits 2\n\
-              s 0 complete 2\n",
+            b"lines: g 4 0 0 piece 3, g 10 0 0 chunk 2, g 14 0 0 serial 0, r Ran 5, r Closed 3, r Granted 2, \
+              r Piece 1, r Drained 2, r Retired 2, events 15, commits 2, s 0 complete 2",
         ),
     ],
 };
@@ -1726,28 +765,10 @@ const FINISHING_A_FLIGHT: Case = Case {
     read: &[
         (
             "a.elf",
-            b"\x7fELF\x01\x01\x01\0\0\0\0\0\0\0\0\0\x02\0\xf3\0\x01\0\0\0\0\0\0\04\0\0\0\0\0\0\0\0\0\0\04\0 \0\x01\0\
-              \0\0\0\0\0\0\x01\0\0\0T\0\0\0\0\0\0\0\0\0\0\0\x18\0\0\0\x18\0\0\0\x07\0\0\0\x04\0\0\0\x93\x02@\x10# P\
-              \x10/\xa3\x02\x10\xaf\xa3R\x18\x93\x08\0\0s\0\0\0",
+            b"code: 10400293 10502023 1002A32F 1852A3AF 00000893 00000073",
         ),
-        (
-            "plan.toml",
-            b"cores = 1\n\
-              chunk = 100\n\
-              buffer = 1\n\
-              window = 2\n\
-              signature = 64\n\
-              script = \"s.txt\"\n\
-              report = \"r.txt\"\n\
-              [[sphere]]\n\
-              image = \"a.elf\"\n\
-              memory = 4096\n\
-              role = \"record\"\n\
-              mode = \"order-size\"\n\
-              log = \"a.log\"\n\
-              account = \"a.txt\"\n",
-        ),
-        ("s.txt", b"step 0\nstep 0\nstep 0\nstep 0\nask 0\n"),
+        ("plan.toml", b"plan: buffer = 1; record"),
+        ("s.txt", b"lines: step 0 x4, ask 0"),
     ],
     status: Status::Done,
     said: b"events 7\ncommits 1\ns 0 record 1\n",
@@ -1758,15 +779,8 @@ const FINISHING_A_FLIGHT: Case = Case {
         ),
         (
             "a.txt",
-            b"c 0 0 3\n\
-              l 00000104 00000000\n\
-              t 0 0000000C live 00000000 0 00000000 00000000 00000000 00000000 00000104 00000000 00000000 00000000 \
-              00000000 00000000 00000000 00000000 00000000 00000000 00000000 00000000 00000000 00000000 00000000 \
-              00000000 00000000 00000000 00000000 00000000 00000000 00000000 00000000 00000000 00000000 00000000 \
-              00000000\n\
-              m 00000000 93024010232050102FA30210AFA3521893080000730000000000000000000000\n\
-              m 00000100 0401000000000000000000000000000000000000000000000000000000000000\n\
-              end complete 1\n",
+            b"account: c 0 0 3, l 00000104 00000000, t 0 0000000C live 00000000 0 x5=104, \
+              m 00000000 93024010232050102FA30210AFA352189308000073, m 00000100 0401, end complete 1",
         ),
         (
             "r.txt",
@@ -1780,30 +794,12 @@ const WRITES_ITS_NEXT_INSTRUCTION: Case = Case {
     read: &[
         (
             "a.elf",
-            b"\x7fELF\x01\x01\x01\0\0\0\0\0\0\0\0\0\x02\0\xf3\0\x01\0\0\0\0\0\0\04\0\0\0\0\0\0\0\0\0\0\04\0 \0\x01\0\
-              \0\0\0\0\0\0\x01\0\0\0T\0\0\0\0\0\0\0\0\0\0\0\x18\0\0\0\x18\0\0\0\x07\0\0\0\x04\0\0\0\xb7\x02p\0\x93\
-              \x822Q#(P\0\x93\x08\0\0\x13\0\0\0s\0\0\0",
+            b"code: 007002B7 51328293 00502823 00000893 00000013 00000073",
         ),
-        (
-            "plan.toml",
-            b"cores = 1\n\
-              chunk = 100\n\
-              buffer = 16\n\
-              window = 2\n\
-              signature = 64\n\
-              script = \"s.txt\"\n\
-              report = \"r.txt\"\n\
-              [[sphere]]\n\
-              image = \"a.elf\"\n\
-              memory = 4096\n\
-              role = \"record\"\n\
-              mode = \"order-size\"\n\
-              log = \"a.log\"\n\
-              account = \"a.txt\"\n",
-        ),
+        ("plan.toml", b"plan: record"),
         (
             "s.txt",
-            b"step 0\nstep 0\nstep 0\nstep 0\nstep 0\nstep 0\nask 0\nstep 0\ndrain 0\nretire 0\nstep 0\nask 0\n",
+            b"lines: step 0 x6, ask 0, step 0, drain 0, retire 0, step 0, ask 0",
         ),
     ],
     status: Status::Done,
@@ -1815,28 +811,13 @@ const WRITES_ITS_NEXT_INSTRUCTION: Case = Case {
         ),
         (
             "a.txt",
-            b"c 0 0 5\n\
-              c 1 0 0\n\
-              t 0 00000018 ended:7 00000000 0 00000000 00000000 00000000 00000000 00700513 00000000 00000000 \
-              00000000 00000000 00000007 00000000 00000000 00000000 00000000 00000000 00000000 00000000 00000000 \
-              00000000 00000000 00000000 00000000 00000000 00000000 00000000 00000000 00000000 00000000 00000000 \
-              00000000 00000000\n\
-              m 00000000 B702700093823251232850009308000013057000730000000000000000000000\n\
-              end complete 2\n",
+            b"account: c 0 0 5, c 1 0 0, t 0 00000018 ended:7 00000000 0 x5=700513 x10=7, \
+              m 00000000 B70270009382325123285000930800001305700073, end complete 2",
         ),
         (
             "r.txt",
-            b"g 6 0 0 chunk 5\n\
-              g 11 0 0 serial 0\n\
-              r Ran 5\n\
-              r Closed 2\n\
-              r Bounced 1\n\
-              r Granted 2\n\
-              r Drained 1\n\
-              r Retired 1\n\
-              events 12\n\
-              commits 2\n\
-              s 0 record 2\n",
+            b"lines: g 6 0 0 chunk 5, g 11 0 0 serial 0, r Ran 5, r Closed 2, r Bounced 1, r Granted 2, r Drained 1, \
+              r Retired 1, events 12, commits 2, s 0 record 2",
         ),
     ],
 };
@@ -1846,30 +827,13 @@ const WRITES_ITS_NEXT_INSTRUCTION_REPLAYED: Case = Case {
     read: &[
         (
             "a.elf",
-            b"\x7fELF\x01\x01\x01\0\0\0\0\0\0\0\0\0\x02\0\xf3\0\x01\0\0\0\0\0\0\04\0\0\0\0\0\0\0\0\0\0\04\0 \0\x01\0\
-              \0\0\0\0\0\0\x01\0\0\0T\0\0\0\0\0\0\0\0\0\0\0\x18\0\0\0\x18\0\0\0\x07\0\0\0\x04\0\0\0\xb7\x02p\0\x93\
-              \x822Q#(P\0\x93\x08\0\0\x13\0\0\0s\0\0\0",
+            b"code: 007002B7 51328293 00502823 00000893 00000013 00000073",
         ),
         (
             "a.log",
             b"DLRN\x01\0\0\0d\0\0\0\x02\0\0\0\x02\0\0\0\0\x02\0\0\0\x05\0\0\0\0\0\0\0\0\0\0\0\0\0\0\0",
         ),
-        (
-            "plan.toml",
-            b"cores = 1\n\
-              chunk = 100\n\
-              buffer = 1\n\
-              window = 2\n\
-              signature = 64\n\
-              script = \"s.txt\"\n\
-              report = \"r.txt\"\n\
-              [[sphere]]\n\
-              image = \"a.elf\"\n\
-              memory = 4096\n\
-              role = \"replay\"\n\
-              log = \"a.log\"\n\
-              account = \"b.txt\"\n",
-        ),
+        ("plan.toml", b"plan: buffer = 1; replay"),
         ("s.txt", b""),
     ],
     status: Status::Done,
@@ -1877,14 +841,8 @@ const WRITES_ITS_NEXT_INSTRUCTION_REPLAYED: Case = Case {
     written: &[
         (
             "b.txt",
-            b"c 0 0 5\n\
-              c 1 0 0\n\
-              t 0 00000018 ended:7 00000000 0 00000000 00000000 00000000 00000000 00700513 00000000 00000000 \
-              00000000 00000000 00000007 00000000 00000000 00000000 00000000 00000000 00000000 00000000 00000000 \
-              00000000 00000000 00000000 00000000 00000000 00000000 00000000 00000000 00000000 00000000 00000000 \
-              00000000 00000000\n\
-              m 00000000 B702700093823251232850009308000013057000730000000000000000000000\n\
-              end complete 2\n",
+            b"account: c 0 0 5, c 1 0 0, t 0 00000018 ended:7 00000000 0 x5=700513 x10=7, \
+              m 00000000 B70270009382325123285000930800001305700073, end complete 2",
         ),
         (
             "r.txt",
@@ -1898,9 +856,7 @@ const PIPE_BETWEEN_SPHERES: Case = Case {
     read: &[
         (
             "a.elf",
-            b"\x7fELF\x01\x01\x01\0\0\0\0\0\0\0\0\0\x02\0\xf3\0\x01\0\0\0\0\0\0\04\0\0\0\0\0\0\0\0\0\0\04\0 \0\x01\0\
-              \0\0\0\0\0\0\x01\0\0\0T\0\0\0\0\0\0\0\0\0\0\0\x1c\0\0\0\x1c\0\0\0\x07\0\0\0\x04\0\0\0\x93\x080\0\x93\
-              \x05\0\x10\x13\x06\x80\0s\0\0\0\x83\"\0\x10\x93\x08\0\0s\0\0\0",
+            b"code: 00300893 10000593 00800613 00000073 10002283 00000893 00000073",
         ),
         (
             "plan.toml",
@@ -1926,34 +882,12 @@ const PIPE_BETWEEN_SPHERES: Case = Case {
         ),
         (
             "s.txt",
-            b"step 0\n\
-              step 0\n\
-              step 0\n\
-              ask 0\n\
-              step 0\n\
-              ask 0\n\
-              step 1\n\
-              step 1\n\
-              step 1\n\
-              step 1\n\
-              ask 1\n\
-              step 1\n\
-              ask 1\n\
-              deliver 0 0\n\
-              drain 0\n\
-              retire 0\n\
-              step 1\n\
-              step 1\n\
-              step 1\n\
-              ask 1\n\
-              step 1\n\
-              ask 1\n",
+            b"lines: step 0 x3, ask 0, step 0, ask 0, step 1 x4, ask 1, step 1, ask 1, deliver 0 0, drain 0, \
+              retire 0, step 1 x3, ask 1, step 1, ask 1",
         ),
         (
             "x.elf",
-            b"\x7fELF\x01\x01\x01\0\0\0\0\0\0\0\0\0\x02\0\xf3\0\x01\0\0\0\0\0\0\04\0\0\0\0\0\0\0\0\0\0\04\0 \0\x01\0\
-              \0\0\0\0\0\0\x01\0\0\0T\0\0\0\0\0\0\0\0\0\0\0\x14\0\0\0\x14\0\0\0\x07\0\0\0\x04\0\0\0\x93\x08 \0\x13\
-              \x06 \0s\0\0\0\x93\x08\0\0s\0\0\0",
+            b"code: 00200893 00200613 00000073 00000893 00000073",
         ),
     ],
     status: Status::Done,
@@ -1965,49 +899,20 @@ const PIPE_BETWEEN_SPHERES: Case = Case {
         ),
         (
             "a.txt",
-            b"c 0 0 3\n\
-              c 1 0 0\n\
-              c 2 0 2\n\
-              l 00000100 00000893\n\
-              c 3 0 0\n\
-              t 0 0000001C ended:2 00000000 0 00000000 00000000 00000000 00000000 00000893 00000000 00000000 \
-              00000000 00000000 00000002 00000100 00000008 00000000 00000000 00000000 00000000 00000000 00000000 \
-              00000000 00000000 00000000 00000000 00000000 00000000 00000000 00000000 00000000 00000000 00000000 \
-              00000000 00000000\n\
-              m 00000000 9308300093050010130680007300000083220010930800007300000000000000\n\
-              m 00000100 9308000000000000000000000000000000000000000000000000000000000000\n\
-              end complete 4\n",
+            b"account: c 0 0 3, c 1 0 0, c 2 0 2, l 00000100 00000893, c 3 0 0, \
+              t 0 0000001C ended:2 00000000 0 x5=893 x10=2 x11=100 x12=8, \
+              m 00000000 93083000930500101306800073000000832200109308000073, m 00000100 9308, end complete 4",
         ),
         (
             "r.txt",
-            b"g 3 0 0 chunk 2\n\
-              g 5 0 0 serial 0\n\
-              g 10 1 0 chunk 3\n\
-              g 12 1 0 serial 0\n\
-              g 19 1 0 chunk 2\n\
-              g 21 1 0 serial 0\n\
-              r Ran 7\n\
-              r Closed 6\n\
-              r Granted 6\n\
-              r Drained 1\n\
-              r Delivered 1\n\
-              r Retired 1\n\
-              events 22\n\
-              commits 6\n\
-              s 0 plain 2\n\
-              s 1 record 4\n",
+            b"lines: g 3 0 0 chunk 2, g 5 0 0 serial 0, g 10 1 0 chunk 3, g 12 1 0 serial 0, g 19 1 0 chunk 2, \
+              g 21 1 0 serial 0, r Ran 7, r Closed 6, r Granted 6, r Drained 1, r Delivered 1, r Retired 1, \
+              events 22, commits 6, s 0 plain 2, s 1 record 4",
         ),
         (
             "x.txt",
-            b"c 0 0 2\n\
-              c 1 0 0\n\
-              o 0 9308\n\
-              t 0 0000000C live 00000000 0 00000000 00000000 00000000 00000000 00000000 00000000 00000000 00000000 \
-              00000000 00000002 00000000 00000002 00000000 00000000 00000000 00000000 00000002 00000000 00000000 \
-              00000000 00000000 00000000 00000000 00000000 00000000 00000000 00000000 00000000 00000000 00000000 \
-              00000000\n\
-              m 00000000 9308200013062000730000009308000073000000000000000000000000000000\n\
-              end complete 2\n",
+            b"account: c 0 0 2, c 1 0 0, o 0 9308, t 0 0000000C live 00000000 0 x10=2 x12=2 x17=2, \
+              m 00000000 9308200013062000730000009308000073, end complete 2",
         ),
     ],
 };
@@ -2017,30 +922,13 @@ const PIPE_REPLAYED_ALONE: Case = Case {
     read: &[
         (
             "a.elf",
-            b"\x7fELF\x01\x01\x01\0\0\0\0\0\0\0\0\0\x02\0\xf3\0\x01\0\0\0\0\0\0\04\0\0\0\0\0\0\0\0\0\0\04\0 \0\x01\0\
-              \0\0\0\0\0\0\x01\0\0\0T\0\0\0\0\0\0\0\0\0\0\0\x1c\0\0\0\x1c\0\0\0\x07\0\0\0\x04\0\0\0\x93\x080\0\x93\
-              \x05\0\x10\x13\x06\x80\0s\0\0\0\x83\"\0\x10\x93\x08\0\0s\0\0\0",
+            b"code: 00300893 10000593 00800613 00000073 10002283 00000893 00000073",
         ),
         (
             "a.log",
             b"DLRN\x01\0\0\0d\0\0\0\x04\0\0\0\x04\0\0\0\0\0\x04\0\0\0\x03\0\0\0\x02\0\0\0\0\0\0\0\x01\0\0\0\x03\x02\0\0\0\x02\0\x93\x08\0\0\0\0",
         ),
-        (
-            "plan.toml",
-            b"cores = 1\n\
-              chunk = 100\n\
-              buffer = 16\n\
-              window = 2\n\
-              signature = 64\n\
-              script = \"s.txt\"\n\
-              report = \"r.txt\"\n\
-              [[sphere]]\n\
-              image = \"a.elf\"\n\
-              memory = 4096\n\
-              role = \"replay\"\n\
-              log = \"a.log\"\n\
-              account = \"b.txt\"\n",
-        ),
+        ("plan.toml", b"plan: replay"),
         ("s.txt", b""),
     ],
     status: Status::Done,
@@ -2048,33 +936,14 @@ const PIPE_REPLAYED_ALONE: Case = Case {
     written: &[
         (
             "b.txt",
-            b"c 0 0 3\n\
-              c 1 0 0\n\
-              c 2 0 2\n\
-              l 00000100 00000893\n\
-              c 3 0 0\n\
-              t 0 0000001C ended:2 00000000 0 00000000 00000000 00000000 00000000 00000893 00000000 00000000 \
-              00000000 00000000 00000002 00000100 00000008 00000000 00000000 00000000 00000000 00000000 00000000 \
-              00000000 00000000 00000000 00000000 00000000 00000000 00000000 00000000 00000000 00000000 00000000 \
-              00000000 00000000\n\
-              m 00000000 9308300093050010130680007300000083220010930800007300000000000000\n\
-              m 00000100 9308000000000000000000000000000000000000000000000000000000000000\n\
-              end complete 4\n",
+            b"account: c 0 0 3, c 1 0 0, c 2 0 2, l 00000100 00000893, c 3 0 0, \
+              t 0 0000001C ended:2 00000000 0 x5=893 x10=2 x11=100 x12=8, \
+              m 00000000 93083000930500101306800073000000832200109308000073, m 00000100 9308, end complete 4",
         ),
         (
             "r.txt",
-            b"g 3 0 0 chunk 3\n\
-              g 5 0 0 serial 0\n\
-              g 10 0 0 chunk 2\n\
-              g 12 0 0 serial 0\n\
-              r Ran 3\n\
-              r Closed 4\n\
-              r Granted 4\n\
-              r Drained 1\n\
-              r Retired 1\n\
-              events 13\n\
-              commits 4\n\
-              s 0 complete 4\n",
+            b"lines: g 3 0 0 chunk 3, g 5 0 0 serial 0, g 10 0 0 chunk 2, g 12 0 0 serial 0, r Ran 3, r Closed 4, \
+              r Granted 4, r Drained 1, r Retired 1, events 13, commits 4, s 0 complete 4",
         ),
     ],
 };
@@ -2084,51 +953,17 @@ const DMA: Case = Case {
     read: &[
         (
             "a.elf",
-            b"\x7fELF\x01\x01\x01\0\0\0\0\0\0\0\0\0\x02\0\xf3\0\x01\0\0\0\0\0\0\04\0\0\0\0\0\0\0\0\0\0\04\0 \0\x01\0\
-              \0\0\0\0\0\0\x01\0\0\0T\0\0\0\0\0\0\0\0\0\0\0\x1c\0\0\0\x1c\0\0\0\x07\0\0\0\x04\0\0\0\x93\x08\x80\0\
-              \x13\x05\0\x10\x93\x05@\0s\0\0\0\x83\"@\x10\x93\x08\0\0s\0\0\0",
+            b"code: 00800893 10000513 00400593 00000073 10402283 00000893 00000073",
         ),
         ("in", b"AB"),
         (
             "plan.toml",
-            b"cores = 1\n\
-              chunk = 100\n\
-              buffer = 16\n\
-              window = 2\n\
-              signature = 64\n\
-              script = \"s.txt\"\n\
-              report = \"r.txt\"\n\
-              input = \"in\"\n\
-              [[sphere]]\n\
-              image = \"a.elf\"\n\
-              memory = 4096\n\
-              role = \"record\"\n\
-              mode = \"picolog\"\n\
-              log = \"a.log\"\n\
-              account = \"a.txt\"\n",
+            b"plan: input = \"in\"; record, mode = \"picolog\"",
         ),
         (
             "s.txt",
-            b"step 0\n\
-              step 0\n\
-              step 0\n\
-              step 0\n\
-              ask 0\n\
-              step 0\n\
-              ask 0\n\
-              dma 0\n\
-              step 0\n\
-              deliver 0 0\n\
-              drain 0\n\
-              drain 0\n\
-              drain 0\n\
-              retire 0\n\
-              step 0\n\
-              step 0\n\
-              step 0\n\
-              ask 0\n\
-              step 0\n\
-              ask 0\n",
+            b"lines: step 0 x4, ask 0, step 0, ask 0, dma 0, step 0, deliver 0 0, drain 0 x3, retire 0, step 0 x3, \
+              ask 0, step 0, ask 0",
         ),
     ],
     status: Status::Done,
@@ -2140,38 +975,15 @@ const DMA: Case = Case {
         ),
         (
             "a.txt",
-            b"c 0 0 3\n\
-              c 1 0 0\n\
-              c 2 63 0\n\
-              c 3 0 2\n\
-              l 00000104 00004241\n\
-              c 4 0 0\n\
-              t 0 0000001C ended:0 00000000 0 00000000 00000000 00000000 00000000 00004241 00000000 00000000 \
-              00000000 00000000 00000000 00000004 00000000 00000000 00000000 00000000 00000000 00000000 00000000 \
-              00000000 00000000 00000000 00000000 00000000 00000000 00000000 00000000 00000000 00000000 00000000 \
-              00000000 00000000\n\
-              m 00000000 9308800013050010930540007300000083224010930800007300000000000000\n\
-              m 00000100 0200000041420000000000000000000000000000000000000000000000000000\n\
-              end complete 5\n",
+            b"account: c 0 0 3, c 1 0 0, c 2 63 0, c 3 0 2, l 00000104 00004241, c 4 0 0, \
+              t 0 0000001C ended:0 00000000 0 x5=4241 x11=4, \
+              m 00000000 93088000130500109305400073000000832240109308000073, m 00000100 020000004142, end complete 5",
         ),
         (
             "r.txt",
-            b"g 4 0 0 chunk 3\n\
-              g 6 0 0 serial 0\n\
-              g 7 0 63 dma 0\n\
-              g 17 0 0 chunk 2\n\
-              g 19 0 0 serial 0\n\
-              r Ran 6\n\
-              r Closed 4\n\
-              r Granted 4\n\
-              r Drained 2\n\
-              r Clean 1\n\
-              r Squashed 1\n\
-              r Retired 1\n\
-              r DmaDone 1\n\
-              events 20\n\
-              commits 5\n\
-              s 0 record 5\n",
+            b"lines: g 4 0 0 chunk 3, g 6 0 0 serial 0, g 7 0 63 dma 0, g 17 0 0 chunk 2, g 19 0 0 serial 0, r Ran 6, \
+              r Closed 4, r Granted 4, r Drained 2, r Clean 1, r Squashed 1, r Retired 1, r DmaDone 1, events 20, \
+              commits 5, s 0 record 5",
         ),
     ],
 };
@@ -2181,30 +993,13 @@ const DMA_REPLAYED: Case = Case {
     read: &[
         (
             "a.elf",
-            b"\x7fELF\x01\x01\x01\0\0\0\0\0\0\0\0\0\x02\0\xf3\0\x01\0\0\0\0\0\0\04\0\0\0\0\0\0\0\0\0\0\04\0 \0\x01\0\
-              \0\0\0\0\0\0\x01\0\0\0T\0\0\0\0\0\0\0\0\0\0\0\x1c\0\0\0\x1c\0\0\0\x07\0\0\0\x04\0\0\0\x93\x08\x80\0\
-              \x13\x05\0\x10\x93\x05@\0s\0\0\0\x83\"@\x10\x93\x08\0\0s\0\0\0",
+            b"code: 00800893 10000513 00400593 00000073 10402283 00000893 00000073",
         ),
         (
             "a.log",
             b"DLRN\x01\x02\0\0d\0\0\0\x05\0\0\0\0\0\0\0\0\0\0\0\0\0\0\0\0\0\0\0\x01\0\0\0\x02\0\0\0\x02\0AB",
         ),
-        (
-            "plan.toml",
-            b"cores = 1\n\
-              chunk = 100\n\
-              buffer = 16\n\
-              window = 2\n\
-              signature = 64\n\
-              script = \"s.txt\"\n\
-              report = \"r.txt\"\n\
-              [[sphere]]\n\
-              image = \"a.elf\"\n\
-              memory = 4096\n\
-              role = \"replay\"\n\
-              log = \"a.log\"\n\
-              account = \"b.txt\"\n",
-        ),
+        ("plan.toml", b"plan: replay"),
         ("s.txt", b""),
     ],
     status: Status::Done,
@@ -2212,37 +1007,15 @@ const DMA_REPLAYED: Case = Case {
     written: &[
         (
             "b.txt",
-            b"c 0 0 3\n\
-              c 1 0 0\n\
-              c 2 63 0\n\
-              c 3 0 2\n\
-              l 00000104 00004241\n\
-              c 4 0 0\n\
-              t 0 0000001C ended:0 00000000 0 00000000 00000000 00000000 00000000 00004241 00000000 00000000 \
-              00000000 00000000 00000000 00000004 00000000 00000000 00000000 00000000 00000000 00000000 00000000 \
-              00000000 00000000 00000000 00000000 00000000 00000000 00000000 00000000 00000000 00000000 00000000 \
-              00000000 00000000\n\
-              m 00000000 9308800013050010930540007300000083224010930800007300000000000000\n\
-              m 00000100 0200000041420000000000000000000000000000000000000000000000000000\n\
-              end complete 5\n",
+            b"account: c 0 0 3, c 1 0 0, c 2 63 0, c 3 0 2, l 00000104 00004241, c 4 0 0, \
+              t 0 0000001C ended:0 00000000 0 x5=4241 x11=4, \
+              m 00000000 93088000130500109305400073000000832240109308000073, m 00000100 020000004142, end complete 5",
         ),
         (
             "r.txt",
-            b"g 4 0 0 chunk 3\n\
-              g 6 0 0 serial 0\n\
-              g 7 0 63 dma 0\n\
-              g 15 0 0 chunk 2\n\
-              g 17 0 0 serial 0\n\
-              r Ran 5\n\
-              r Closed 4\n\
-              r Granted 4\n\
-              r Drained 2\n\
-              r Delivered 1\n\
-              r Retired 1\n\
-              r DmaDone 1\n\
-              events 18\n\
-              commits 5\n\
-              s 0 complete 5\n",
+            b"lines: g 4 0 0 chunk 3, g 6 0 0 serial 0, g 7 0 63 dma 0, g 15 0 0 chunk 2, g 17 0 0 serial 0, r Ran 5, \
+              r Closed 4, r Granted 4, r Drained 2, r Delivered 1, r Retired 1, r DmaDone 1, events 18, commits 5, \
+              s 0 complete 5",
         ),
     ],
 };
@@ -2252,30 +1025,12 @@ const INTERRUPT: Case = Case {
     read: &[
         (
             "a.elf",
-            b"\x7fELF\x01\x01\x01\0\0\0\0\0\0\0\0\0\x02\0\xf3\0\x01\0\0\0\0\0\0\04\0\0\0\0\0\0\0\0\0\0\04\0 \0\x01\0\
-              \0\0\0\0\0\0\x01\0\0\0T\0\0\0\0\0\0\0\0\0\0\0\x18\0\0\0\x18\0\0\0\x07\0\0\0\x04\0\0\0\x93\x08`\0\x13\
-              \x05@\x01s\0\0\0o\0\0\0\x13\0\0\0o\0\0\0",
+            b"code: 00600893 01400513 00000073 0000006F 00000013 0000006F",
         ),
-        (
-            "plan.toml",
-            b"cores = 1\n\
-              chunk = 100\n\
-              buffer = 16\n\
-              window = 2\n\
-              signature = 64\n\
-              script = \"s.txt\"\n\
-              report = \"r.txt\"\n\
-              [[sphere]]\n\
-              image = \"a.elf\"\n\
-              memory = 4096\n\
-              role = \"record\"\n\
-              mode = \"order-size\"\n\
-              log = \"a.log\"\n\
-              account = \"a.txt\"\n",
-        ),
+        ("plan.toml", b"plan: record"),
         (
             "s.txt",
-            b"step 0\nstep 0\nstep 0\nask 0\nstep 0\nask 0\nraise 0 0 5\nraise 0 0 6\n",
+            b"lines: step 0 x3, ask 0, step 0, ask 0, raise 0 0 5, raise 0 0 6",
         ),
     ],
     status: Status::Done,
@@ -2287,29 +1042,13 @@ const INTERRUPT: Case = Case {
         ),
         (
             "a.txt",
-            b"c 0 0 2\n\
-              c 1 0 0\n\
-              t 0 00000014 live 00000014 1 00000000 00000000 00000000 00000000 00000000 00000000 00000000 00000000 \
-              00000000 00000005 00000000 00000000 00000000 00000000 00000000 00000000 00000006 00000000 00000000 \
-              00000000 00000000 00000000 00000000 00000000 00000000 00000000 00000000 00000000 00000000 00000000 \
-              00000000\n\
-              h 0 0000000C 00000000 00000000\n\
-              m 00000000 9308600013054001730000006F000000130000006F0000000000000000000000\n\
-              end complete 2\n",
+            b"account: c 0 0 2, c 1 0 0, t 0 00000014 live 00000014 1 x10=5 x17=6, h 0 0000000C 00000000 00000000, \
+              m 00000000 9308600013054001730000006F000000130000006F, end complete 2",
         ),
         (
             "r.txt",
-            b"g 3 0 0 chunk 2\n\
-              g 5 0 0 serial 0\n\
-              g 6 0 0 raise 00000005\n\
-              r Ran 2\n\
-              r Closed 2\n\
-              r Granted 2\n\
-              r Raised 1\n\
-              r Masked 1\n\
-              events 8\n\
-              commits 2\n\
-              s 0 record 2\n",
+            b"lines: g 3 0 0 chunk 2, g 5 0 0 serial 0, g 6 0 0 raise 00000005, r Ran 2, r Closed 2, r Granted 2, \
+              r Raised 1, r Masked 1, events 8, commits 2, s 0 record 2",
         ),
     ],
 };
@@ -2319,30 +1058,13 @@ const INTERRUPT_REPLAYED: Case = Case {
     read: &[
         (
             "a.elf",
-            b"\x7fELF\x01\x01\x01\0\0\0\0\0\0\0\0\0\x02\0\xf3\0\x01\0\0\0\0\0\0\04\0\0\0\0\0\0\0\0\0\0\04\0 \0\x01\0\
-              \0\0\0\0\0\0\x01\0\0\0T\0\0\0\0\0\0\0\0\0\0\0\x18\0\0\0\x18\0\0\0\x07\0\0\0\x04\0\0\0\x93\x08`\0\x13\
-              \x05@\x01s\0\0\0o\0\0\0\x13\0\0\0o\0\0\0",
+            b"code: 00600893 01400513 00000073 0000006F 00000013 0000006F",
         ),
         (
             "a.log",
             b"DLRN\x01\0\0\0d\0\0\0\x02\0\0\0\x02\0\0\0\0\x02\0\0\0\x02\0\0\0\x01\0\0\0\0\x02\0\0\0\x05\0\0\0\0\0\0\0\0\0\0\0",
         ),
-        (
-            "plan.toml",
-            b"cores = 1\n\
-              chunk = 100\n\
-              buffer = 16\n\
-              window = 2\n\
-              signature = 64\n\
-              script = \"s.txt\"\n\
-              report = \"r.txt\"\n\
-              [[sphere]]\n\
-              image = \"a.elf\"\n\
-              memory = 4096\n\
-              role = \"replay\"\n\
-              log = \"a.log\"\n\
-              account = \"b.txt\"\n",
-        ),
+        ("plan.toml", b"plan: replay"),
         ("s.txt", b""),
     ],
     status: Status::Done,
@@ -2350,15 +1072,8 @@ const INTERRUPT_REPLAYED: Case = Case {
     written: &[
         (
             "b.txt",
-            b"c 0 0 2\n\
-              c 1 0 0\n\
-              t 0 00000014 live 00000014 1 00000000 00000000 00000000 00000000 00000000 00000000 00000000 00000000 \
-              00000000 00000005 00000000 00000000 00000000 00000000 00000000 00000000 00000006 00000000 00000000 \
-              00000000 00000000 00000000 00000000 00000000 00000000 00000000 00000000 00000000 00000000 00000000 \
-              00000000\n\
-              h 0 0000000C 00000000 00000000\n\
-              m 00000000 9308600013054001730000006F000000130000006F0000000000000000000000\n\
-              end complete 2\n",
+            b"account: c 0 0 2, c 1 0 0, t 0 00000014 live 00000014 1 x10=5 x17=6, h 0 0000000C 00000000 00000000, \
+              m 00000000 9308600013054001730000006F000000130000006F, end complete 2",
         ),
         (
             "r.txt",
@@ -2370,33 +1085,13 @@ const INTERRUPT_REPLAYED: Case = Case {
 const DIVERGED_THEN_STOPPED: Case = Case {
     words: RUN,
     read: &[
-        (
-            "a.elf",
-            b"\x7fELF\x01\x01\x01\0\0\0\0\0\0\0\0\0\x02\0\xf3\0\x01\0\0\0\0\0\0\04\0\0\0\0\0\0\0\0\0\0\04\0 \0\x01\0\
-              \0\0\0\0\0\0\x01\0\0\0T\0\0\0\0\0\0\0\0\0\0\0\x0c\0\0\0\x0c\0\0\0\x07\0\0\0\x04\0\0\0\x93\x08\0\0\x13\
-              \x05p\0s\0\0\0",
-        ),
+        ("a.elf", b"code: 00000893 00700513 00000073"),
         (
             "a.log",
             b"DLRN\x01\0\0\0d\0\0\0\x02\0\0\0\x02\0\0\0\0\x02\0\0\0\x03\0\0\0\0\0\0\0\0\0\0\0\0\0\0\0",
         ),
-        (
-            "plan.toml",
-            b"cores = 1\n\
-              chunk = 100\n\
-              buffer = 16\n\
-              window = 2\n\
-              signature = 64\n\
-              script = \"s.txt\"\n\
-              report = \"r.txt\"\n\
-              [[sphere]]\n\
-              image = \"a.elf\"\n\
-              memory = 4096\n\
-              role = \"replay\"\n\
-              log = \"a.log\"\n\
-              account = \"b.txt\"\n",
-        ),
-        ("s.txt", b"step 0\nstep 0\nstep 0\nask 0\nstep 0\n"),
+        ("plan.toml", b"plan: replay"),
+        ("s.txt", b"lines: step 0 x3, ask 0, step 0"),
     ],
     status: Status::Diverged,
     said: b"events 5\ncommits 0\ns 0 diverged 0 2 3 2\n",
@@ -2414,30 +1109,13 @@ const WRONG_RECORD: Case = Case {
     read: &[
         (
             "a.elf",
-            b"\x7fELF\x01\x01\x01\0\0\0\0\0\0\0\0\0\x02\0\xf3\0\x01\0\0\0\0\0\0\04\0\0\0\0\0\0\0\0\0\0\04\0 \0\x01\0\
-              \0\0\0\0\0\0\x01\0\0\0T\0\0\0\0\0\0\0\0\0\0\0\x1c\0\0\0\x1c\0\0\0\x07\0\0\0\x04\0\0\0\x93\x080\0\x93\
-              \x05\0\x10\x13\x06\x80\0s\0\0\0\x83\"\0\x10\x93\x08\0\0s\0\0\0",
+            b"code: 00300893 10000593 00800613 00000073 10002283 00000893 00000073",
         ),
         (
             "a.log",
             b"DLRN\x01\0\0\0d\0\0\0\x04\0\0\0\x04\0\0\0\0\0\x04\0\0\0\x03\0\0\0\x02\0\0\0\0\0\0\0\x01\0\0\0\x04\x02\0\0\0\x02\0\x93\x08\0\0\0\0",
         ),
-        (
-            "plan.toml",
-            b"cores = 1\n\
-              chunk = 100\n\
-              buffer = 16\n\
-              window = 2\n\
-              signature = 64\n\
-              script = \"s.txt\"\n\
-              report = \"r.txt\"\n\
-              [[sphere]]\n\
-              image = \"a.elf\"\n\
-              memory = 4096\n\
-              role = \"replay\"\n\
-              log = \"a.log\"\n\
-              account = \"b.txt\"\n",
-        ),
+        ("plan.toml", b"plan: replay"),
         ("s.txt", b""),
     ],
     status: Status::Diverged,
@@ -2454,32 +1132,12 @@ const WRONG_RECORD: Case = Case {
 const TOO_SHORT: Case = Case {
     words: RUN,
     read: &[
-        (
-            "a.elf",
-            b"\x7fELF\x01\x01\x01\0\0\0\0\0\0\0\0\0\x02\0\xf3\0\x01\0\0\0\0\0\0\04\0\0\0\0\0\0\0\0\0\0\04\0 \0\x01\0\
-              \0\0\0\0\0\0\x01\0\0\0T\0\0\0\0\0\0\0\0\0\0\0\x0c\0\0\0\x0c\0\0\0\x07\0\0\0\x04\0\0\0\x93\x08\0\0\x13\
-              \x05p\0s\0\0\0",
-        ),
+        ("a.elf", b"code: 00000893 00700513 00000073"),
         (
             "a.log",
             b"DLRN\x01\0\0\0d\0\0\0\x02\0\0\0\x02\0\0\0\0\x02\0\0\0\x03\0\0\0\0\0\0\0\0\0\0\0\0\0\0\0",
         ),
-        (
-            "plan.toml",
-            b"cores = 1\n\
-              chunk = 100\n\
-              buffer = 16\n\
-              window = 2\n\
-              signature = 64\n\
-              script = \"s.txt\"\n\
-              report = \"r.txt\"\n\
-              [[sphere]]\n\
-              image = \"a.elf\"\n\
-              memory = 4096\n\
-              role = \"replay\"\n\
-              log = \"a.log\"\n\
-              account = \"b.txt\"\n",
-        ),
+        ("plan.toml", b"plan: replay"),
         ("s.txt", b""),
     ],
     status: Status::Diverged,
@@ -2496,32 +1154,12 @@ const TOO_SHORT: Case = Case {
 const NO_SUCH_THREAD: Case = Case {
     words: RUN,
     read: &[
-        (
-            "a.elf",
-            b"\x7fELF\x01\x01\x01\0\0\0\0\0\0\0\0\0\x02\0\xf3\0\x01\0\0\0\0\0\0\04\0\0\0\0\0\0\0\0\0\0\04\0 \0\x01\0\
-              \0\0\0\0\0\0\x01\0\0\0T\0\0\0\0\0\0\0\0\0\0\0\x0c\0\0\0\x0c\0\0\0\x07\0\0\0\x04\0\0\0\x93\x08\0\0\x13\
-              \x05p\0s\0\0\0",
-        ),
+        ("a.elf", b"code: 00000893 00700513 00000073"),
         (
             "a.log",
             b"DLRN\x01\0\0\0d\0\0\0\x02\0\0\0\x02\0\0\0\x05\x02\0\0\0\x02\0\0\0\0\0\0\0\0\0\0\0\0\0\0\0",
         ),
-        (
-            "plan.toml",
-            b"cores = 1\n\
-              chunk = 100\n\
-              buffer = 16\n\
-              window = 2\n\
-              signature = 64\n\
-              script = \"s.txt\"\n\
-              report = \"r.txt\"\n\
-              [[sphere]]\n\
-              image = \"a.elf\"\n\
-              memory = 4096\n\
-              role = \"replay\"\n\
-              log = \"a.log\"\n\
-              account = \"b.txt\"\n",
-        ),
+        ("plan.toml", b"plan: replay"),
         ("s.txt", b""),
     ],
     status: Status::Diverged,
@@ -2535,32 +1173,12 @@ const NO_SUCH_THREAD: Case = Case {
 const RECORD_LEFT_OVER: Case = Case {
     words: RUN,
     read: &[
-        (
-            "a.elf",
-            b"\x7fELF\x01\x01\x01\0\0\0\0\0\0\0\0\0\x02\0\xf3\0\x01\0\0\0\0\0\0\04\0\0\0\0\0\0\0\0\0\0\04\0 \0\x01\0\
-              \0\0\0\0\0\0\x01\0\0\0T\0\0\0\0\0\0\0\0\0\0\0\x0c\0\0\0\x0c\0\0\0\x07\0\0\0\x04\0\0\0\x93\x08\0\0\x13\
-              \x05p\0s\0\0\0",
-        ),
+        ("a.elf", b"code: 00000893 00700513 00000073"),
         (
             "a.log",
             b"DLRN\x01\0\0\0d\0\0\0\x02\0\0\0\x02\0\0\0\0\x02\0\0\0\x02\0\0\0\0\0\0\0\x01\0\0\0\x05\0\0\0\0\0\0\0\0\0\0",
         ),
-        (
-            "plan.toml",
-            b"cores = 1\n\
-              chunk = 100\n\
-              buffer = 16\n\
-              window = 2\n\
-              signature = 64\n\
-              script = \"s.txt\"\n\
-              report = \"r.txt\"\n\
-              [[sphere]]\n\
-              image = \"a.elf\"\n\
-              memory = 4096\n\
-              role = \"replay\"\n\
-              log = \"a.log\"\n\
-              account = \"b.txt\"\n",
-        ),
+        ("plan.toml", b"plan: replay"),
         ("s.txt", b""),
     ],
     status: Status::Diverged,
@@ -2577,29 +1195,9 @@ const RECORD_LEFT_OVER: Case = Case {
 const LOG_CUT_TO_16: Case = Case {
     words: RUN,
     read: &[
-        (
-            "a.elf",
-            b"\x7fELF\x01\x01\x01\0\0\0\0\0\0\0\0\0\x02\0\xf3\0\x01\0\0\0\0\0\0\04\0\0\0\0\0\0\0\0\0\0\04\0 \0\x01\0\
-              \0\0\0\0\0\0\x01\0\0\0T\0\0\0\0\0\0\0\0\0\0\0\x0c\0\0\0\x0c\0\0\0\x07\0\0\0\x04\0\0\0\x93\x08\0\0\x13\
-              \x05p\0s\0\0\0",
-        ),
+        ("a.elf", b"code: 00000893 00700513 00000073"),
         ("a.log", b"DLRN\x01\0\0\0d\0\0\0\x02\0\0\0"),
-        (
-            "plan.toml",
-            b"cores = 1\n\
-              chunk = 100\n\
-              buffer = 16\n\
-              window = 2\n\
-              signature = 64\n\
-              script = \"s.txt\"\n\
-              report = \"r.txt\"\n\
-              [[sphere]]\n\
-              image = \"a.elf\"\n\
-              memory = 4096\n\
-              role = \"replay\"\n\
-              log = \"a.log\"\n\
-              account = \"b.txt\"\n",
-        ),
+        ("plan.toml", b"plan: replay"),
         ("s.txt", b""),
     ],
     status: Status::Grammar,
@@ -2610,32 +1208,12 @@ const LOG_CUT_TO_16: Case = Case {
 const LOG_AND_ONE_BYTE: Case = Case {
     words: RUN,
     read: &[
-        (
-            "a.elf",
-            b"\x7fELF\x01\x01\x01\0\0\0\0\0\0\0\0\0\x02\0\xf3\0\x01\0\0\0\0\0\0\04\0\0\0\0\0\0\0\0\0\0\04\0 \0\x01\0\
-              \0\0\0\0\0\0\x01\0\0\0T\0\0\0\0\0\0\0\0\0\0\0\x0c\0\0\0\x0c\0\0\0\x07\0\0\0\x04\0\0\0\x93\x08\0\0\x13\
-              \x05p\0s\0\0\0",
-        ),
+        ("a.elf", b"code: 00000893 00700513 00000073"),
         (
             "a.log",
             b"DLRN\x01\0\0\0d\0\0\0\x02\0\0\0\x02\0\0\0\0\x02\0\0\0\x02\0\0\0\0\0\0\0\0\0\0\0\0\0\0\0\0",
         ),
-        (
-            "plan.toml",
-            b"cores = 1\n\
-              chunk = 100\n\
-              buffer = 16\n\
-              window = 2\n\
-              signature = 64\n\
-              script = \"s.txt\"\n\
-              report = \"r.txt\"\n\
-              [[sphere]]\n\
-              image = \"a.elf\"\n\
-              memory = 4096\n\
-              role = \"replay\"\n\
-              log = \"a.log\"\n\
-              account = \"b.txt\"\n",
-        ),
+        ("plan.toml", b"plan: replay"),
         ("s.txt", b""),
     ],
     status: Status::Grammar,

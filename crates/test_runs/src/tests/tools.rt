@@ -27,7 +27,7 @@ const CASES: &[Case] = &[
     OUT_OF_RANGE,
 ];
 
-const OVERFLOWED_LOG: Case = Case {
+pub(super) const OVERFLOWED_LOG: Case = Case {
     words: &["inspect", "l.log"],
     read: &[(
         "l.log",
@@ -65,7 +65,7 @@ const NO_LOG: Case = Case {
     written: &[],
 };
 
-const LOG_THAT_FITS: Case = Case {
+pub(super) const LOG_THAT_FITS: Case = Case {
     words: &["walk", "a.elf", "4096", "a.log"],
     read: &[
         (
@@ -174,7 +174,7 @@ const BOTH_ARE_READ: Case = Case {
     written: &[],
 };
 
-const GENERATED_IMAGE: Case = Case {
+pub(super) const GENERATED_IMAGE: Case = Case {
     words: &["make", "0", "x.elf"],
     read: &[],
     status: Status::Done,
@@ -189,7 +189,7 @@ const GENERATED_IMAGE: Case = Case {
     )],
 };
 
-const DRILL: Case = Case {
+pub(super) const DRILL: Case = Case {
     words: &["drill", "6"],
     read: &[],
     status: Status::Done,
@@ -197,7 +197,7 @@ const DRILL: Case = Case {
     written: &[],
 };
 
-const THREE_INSTRUCTIONS: Case = Case {
+pub(super) const THREE_INSTRUCTIONS: Case = Case {
     words: &["asm", "a.s", "a.elf"],
     read: &[("a.s", b"addi x17, x0, 0\naddi x10, x0, 7\necall\n")],
     status: Status::Done,

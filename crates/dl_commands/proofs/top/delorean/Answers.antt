@@ -1,12 +1,12 @@
 use Rattle.std.proofs.Common.{◌∙◌, ap, refl, subst}
-use Rattle.dl_files.specs.Seen.{Seen}
+use Rattle.dl_files.specs.Seen.{Seen, FailsOnce}
 use Rattle.dl_words.specs.Commands.{Run}
 use Rattle.spec_program.specs.Asked.{outcome_of, reads_of}
 use Rattle.spec_program.specs.Outside.{outside}
 use Rattle.dl_commands.specs.Jobs.{writes_of}
 use Rattle.dl_commands.specs.Performed.{IsPerformed}
 use Rattle.dl_commands.specs.Texts.{texts}
-use Rattle.dl_commands.proofs.Finishing.{done_is, drill_halted, drill_performed, performed_fault, performed_stands, performed_unread, performed_unrefused, stopped_fault, halted_absent, halted_kept, halted_line, halted_stands, stopped_undone}
+use Rattle.dl_commands.proofs.Finishing.{done_is, drill_halted, drill_performed, performed_fault, performed_short, performed_stands, performed_unread, performed_unrefused, stopped_fault, stopped_short, halted_absent, halted_kept, halted_line, halted_once, halted_stands, stopped_undone}
 use Rattle.dl_commands.proofs.Growing.{performed_took, stopped_took}
 use Rattle.dl_commands.proofs.top.delorean.Goals as goal
 
@@ -16,7 +16,7 @@ pub returns-in-Ok-clause-stands : goal.returns-in-Ok-clause-stands
 returns-in-Ok-clause-stands g c =
     λ m e.
     performed_stands (outcome_of (texts c.args.words.now) m) c.in-Ok.job (reads_of (texts c.args.words.now) m) m _ _ c.perform.result (c.in-Ok.ensures.job m e) e
-    (subst (λ (s : Seen). IsPerformed c.in-Ok.job.diverged (writes_of c.in-Ok.job.writes.items) c.in-Ok.job.text.items (outside s (g.O.Sink.taken c.args.out.now) (g.O.Sink.count c.args.out.now)) (outside (g.F.Files.seen c.perform.new.files) (g.O.Sink.taken c.perform.new.out) (g.O.Sink.count c.perform.new.out)) c.perform.result) c.in-Ok.ensures.same c.perform.ensures)
+    (subst (λ (s : Seen). IsPerformed c.in-Ok.job.diverged (writes_of c.in-Ok.job.writes.items) c.in-Ok.job.text.items (outside s (g.O.Sink.taken c.args.out.now) (g.O.Sink.count c.args.out.now)) (outside (g.F.Files.seen c.perform.new.files) (g.O.Sink.taken c.perform.new.out) (g.O.Sink.count c.perform.new.out)) c.perform.result) c.in-Ok.ensures.same c.perform.ensures.ends)
 
 pub returns-in-Ok-clause-done : goal.returns-in-Ok-clause-done
 returns-in-Ok-clause-done g c =
@@ -28,23 +28,30 @@ returns-in-Ok-clause-headline g c = λ plan m asks e done. returns-in-Ok-clause-
 
 pub returns-in-Ok-clause-drill : goal.returns-in-Ok-clause-drill
 returns-in-Ok-clause-drill g c = λ number asks.
-    let done = drill_performed number c.in-Ok.job _ _ c.perform.result (c.in-Ok.ensures.drill number asks).0 c.perform.ensures in
-    (done.0, done.1 ∙ ap (λ (s : Seen). s.faults) c.in-Ok.ensures.same)
+    let done = drill_performed number c.in-Ok.job _ _ c.perform.result (c.in-Ok.ensures.drill number asks).0 c.perform.ensures.ends in
+    (done.0, done.1 ∙ ap (λ (s : Seen). s.faults) c.in-Ok.ensures.same, done.2 ∙ ap (λ (s : Seen). s.changes) c.in-Ok.ensures.same)
 
 pub returns-in-Ok-clause-fault_said : goal.returns-in-Ok-clause-fault_said
-returns-in-Ok-clause-fault_said g c = λ e whole. performed_fault _ _ _ _ _ c.perform.result c.perform.ensures e whole
+returns-in-Ok-clause-fault_said g c = λ e. performed_fault _ _ _ _ _ c.perform.result c.perform.ensures.ends e
+
+pub returns-in-Ok-clause-memory_said : goal.returns-in-Ok-clause-memory_said
+returns-in-Ok-clause-memory_said g c =
+    λ e failed. performed_short _ _ _ _ _ c.perform.result c.perform.ensures.ends (λ same. failed (same ∙ ap (λ (s : Seen). s.faults) c.in-Ok.ensures.same))
+
+pub returns-in-Ok-clause-once : goal.returns-in-Ok-clause-once
+returns-in-Ok-clause-once g c = subst (λ (s : Seen). FailsOnce s (g.F.Files.seen c.perform.new.files)) c.in-Ok.ensures.same c.perform.ensures.once
 
 pub returns-in-Ok-clause-said : goal.returns-in-Ok-clause-said
-returns-in-Ok-clause-said g c = performed_took _ _ _ _ _ c.perform.result c.perform.ensures
+returns-in-Ok-clause-said g c = performed_took _ _ _ _ _ c.perform.result c.perform.ensures.ends
 
 pub returns-in-Ok-clause-line : goal.returns-in-Ok-clause-line
-returns-in-Ok-clause-line g c = λ e. absurd (performed_unrefused _ _ _ _ _ c.perform.result c.perform.ensures e)
+returns-in-Ok-clause-line g c = λ e. absurd (performed_unrefused _ _ _ _ _ c.perform.result c.perform.ensures.ends e)
 
 pub returns-in-Ok-clause-refused_kept : goal.returns-in-Ok-clause-refused_kept
-returns-in-Ok-clause-refused_kept g c = λ e. absurd (performed_unrefused _ _ _ _ _ c.perform.result c.perform.ensures e)
+returns-in-Ok-clause-refused_kept g c = λ e. absurd (performed_unrefused _ _ _ _ _ c.perform.result c.perform.ensures.ends e)
 
 pub returns-in-Ok-clause-unread_kept : goal.returns-in-Ok-clause-unread_kept
-returns-in-Ok-clause-unread_kept g c = λ n. absurd (n (performed_unread _ _ _ _ _ c.perform.result c.perform.ensures ∙ ap (λ (s : Seen). s.unread) c.in-Ok.ensures.same))
+returns-in-Ok-clause-unread_kept g c = λ n. absurd (n (performed_unread _ _ _ _ _ c.perform.result c.perform.ensures.ends ∙ ap (λ (s : Seen). s.unread) c.in-Ok.ensures.same))
 
 -- ---- a command that halts
 
@@ -62,16 +69,22 @@ returns-in-Err-clause-done g c = λ command m asks e done. absurd (stopped_undon
 pub returns-in-Err-clause-drill : goal.returns-in-Err-clause-drill
 returns-in-Err-clause-drill g c = λ number asks.
     let drill = c.in-Err.ensures.drill number asks in
-    (drill_halted c.in-Err.halt _ _ _ _ c.stop.result drill.0 c.stop.ensures, ap (λ (s : Seen). s.faults) drill.1)
+    (drill_halted c.in-Err.halt _ _ _ _ c.stop.result drill.0 c.stop.ensures, ap (λ (s : Seen). s.faults) drill.1, ap (λ (s : Seen). s.changes) drill.1)
 
 pub returns-in-Err-clause-fault_said : goal.returns-in-Err-clause-fault_said
-returns-in-Err-clause-fault_said g c = λ e whole. stopped_fault _ _ _ _ c.stop.result _ _ _ _ c.in-Err.halt c.in-Err.ensures.halt c.stop.ensures e whole
+returns-in-Err-clause-fault_said g c = λ e. stopped_fault _ _ _ _ c.stop.result _ _ _ _ c.in-Err.halt c.in-Err.ensures.halt c.stop.ensures e
 
 pub returns-in-Err-clause-said : goal.returns-in-Err-clause-said
 returns-in-Err-clause-said g c = stopped_took c.in-Err.halt _ _ _ _ c.stop.result c.stop.ensures
 
 pub returns-in-Err-clause-absent_said : goal.returns-in-Err-clause-absent_said
-returns-in-Err-clause-absent_said g c = λ none e whole. halted_absent _ _ _ _ _ _ _ _ c.in-Err.halt c.stop.result c.in-Err.ensures.halt c.stop.ensures none e whole
+returns-in-Err-clause-absent_said g c = λ none e. halted_absent _ _ _ _ _ _ _ _ c.in-Err.halt c.stop.result c.in-Err.ensures.halt c.stop.ensures none e
+
+pub returns-in-Err-clause-memory_said : goal.returns-in-Err-clause-memory_said
+returns-in-Err-clause-memory_said g c = λ e failed. stopped_short _ _ _ _ c.stop.result _ _ _ _ c.in-Err.halt c.in-Err.ensures.halt c.stop.ensures failed
+
+pub returns-in-Err-clause-once : goal.returns-in-Err-clause-once
+returns-in-Err-clause-once g c = halted_once _ _ (g.O.Sink.taken c.args.out.now) (g.O.Sink.taken c.args.out.now) 0 0 _ _ c.in-Err.halt c.in-Err.ensures.halt
 
 pub returns-in-Err-clause-line : goal.returns-in-Err-clause-line
 returns-in-Err-clause-line g c = λ e. halted_line _ _ _ _ _ _ _ _ c.in-Err.halt c.stop.result c.in-Err.ensures.halt c.stop.ensures e

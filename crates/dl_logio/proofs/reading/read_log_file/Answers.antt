@@ -1,4 +1,4 @@
-use Rattle.std.proofs.Common.{◌≡◌, ℕ, [], ◌++◌, length, take, Err, sym, refl, ap, ◌∙◌, subst, arith}
+use Rattle.std.proofs.Common.{◌≡◌, ℕ, [], ◌++◌, length, take, Err, sym, refl, ap, ◌∙◌, subst, arith, rules}
 use Rattle.std.proofs.lemmas.List.{length-append, length-take-le}
 use Rattle.std.proofs.lemmas.Result.{IfOk-weaker}
 use Rattle.dl_files.specs.Contents.{HoldsAt}
@@ -15,6 +15,8 @@ pub loop-reader-init : goal.loop-reader-init
 loop-reader-init g c = record {
   fed = ([], c.new-reader.ensures, refl, omega arith, none_read _ _);
   seen = refl;
+  room = search rules;
+  pieces = omega arith;
 }
 
 pub returns-then-n-eq0-clause-read : goal.returns-then-n-eq0-clause-read
@@ -64,6 +66,8 @@ loop-reader-preserved g c =
         more_read known name fed.0 offset (length c.loop-reader.piece) piece fed.2 fed.4 held,
       );
       seen = c.in_ok-n.ensures.ok ∙ c.loop-reader.invariant.seen;
+      room = omega (arith, c.loop-reader.invariant.room);
+      pieces = omega (arith, c.read_at.ensures.asked, c.loop-reader.invariant.room, c.loop-reader.invariant.pieces);
     }
 
 pub overflow_add-offset : goal.overflow_add-offset

@@ -83,4 +83,6 @@ loop-offset-preserved g c =
           (held_by known _ name _ room _ (ap (λ (s : Seen). s.known) c.loop-offset.invariant.seen) c.in_ok-n.ensures.bytes);
       most = omega (arith, c.in_ok-n.ensures.most);
       seen = c.in_ok-n.ensures.ok ∙ c.loop-offset.invariant.seen;
+      room = omega (arith, same_room, c.loop-offset.invariant.room);
+      pieces = omega (arith, c.read_at.ensures.asked, c.loop-offset.invariant.room, c.loop-offset.invariant.pieces);
     }

@@ -7,8 +7,8 @@ use Rattle.dl_tail.proofs.Repeating.{repeated-more, repeated-not, repeated-all, 
 use Rattle.dl_tail.proofs.Words.{more-read, more-not}
 use Rattle.dl_tail.proofs.thread.read_words.Goals as goal
 
-pub returns-in_err-words : goal.returns-in_err-words
-returns-in_err-words c =
+pub returns-in_err-words-clause-value : goal.returns-in_err-words-clause-value
+returns-in_err-words-clause-value c =
     let p = err_from_is_err_and c.from_residual.result c.from_residual.ensures.1 in
     let one = one_more (λ x y. true) (any 4) in
     let some = take c.loop-number.number c.loop-number.words in
@@ -33,8 +33,8 @@ loop-number-preserved c =
       length-set words n word ∙ count,
     )
 
-pub returns : goal.returns
-returns c =
+pub returns-clause-value : goal.returns-clause-value
+returns-clause-value c =
     let one = one_more (λ (x y : ℕ). true) (any 4) in
     let n = c.loop-number.number in
     let words = c.loop-number.words in
