@@ -27,6 +27,7 @@ enum { HEAD = 8, LEAST_GUARD = 4, MOST_GUARD = 16, SMALL = 8, CLASS_BITS = 12, M
 
 extern char __heap[], __heap_end[];
 extern unsigned __next_slot;
+int __is_over(struct thread *);
 static unsigned common_taken;
 
 /* ---- classes: 16 to 2,048 bytes by powers of two, and then by multiples of 1,024 */
@@ -229,9 +230,9 @@ int posix_memalign(void **to, size_t alignment, size_t size) {
 
 /* ---- at the program's end: all blocks, if no thread is left that could be in the middle of one */
 
-static int all_are_joined(void) {
+static int all_are_over(void) {
     for (unsigned slot = 1; slot < LOAD(__next_slot); slot++)
-        if (!thread_of(slot)->joined)
+        if (!thread_of(slot)->joined && !__is_over(thread_of(slot)))
             return 0;
     return me()->slot == 0;
 }
@@ -250,7 +251,7 @@ static void check_blocks(char *at, const char *end) {
 }
 
 void __check_heap(void) {
-    if (!all_are_joined())
+    if (!all_are_over())
         return;
     for (unsigned slot = 0; slot < LOAD(__next_slot); slot++)
         check_blocks(part_of(slot), part_of(slot) + thread_of(slot)->taken);

@@ -45,6 +45,8 @@ static int has_stopped(unsigned over) { return over != WORKS && over != BEGINS; 
 
 static int is_over(struct thread *t) { return t->parks ? has_stopped(LOAD(t->over)) : (int)has_ended(t->number); }
 
+int __is_over(struct thread *t) { return LOAD(t->number) && is_over(t); }
+
 static void wait_for_end(struct thread *t, void *at) {
     begin_wait(THREAD_END, t, at);
     WAIT_WHILE(LOAD(t->number) == 0);
@@ -189,7 +191,7 @@ int pthread_join(pthread_t thread, void **result) {
 
 int pthread_tryjoin_np(pthread_t thread, void **result) {
     struct thread *t = (struct thread *)thread;
-    return LOAD(t->number) && is_over(t) ? pthread_join(thread, result) : EBUSY;
+    return __is_over(t) ? pthread_join(thread, result) : EBUSY;
 }
 
 int pthread_timedjoin_np(pthread_t thread, void **result, const struct timespec *until) {
