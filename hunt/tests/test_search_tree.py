@@ -5,12 +5,14 @@ import os
 import unittest
 
 from all_ends import met_ends
+from lib.conditions import read_condition
 from lib.engine import Options
 from lib.image import read_image
+from lib.symbols import Names
 from locked_programs import locked_program, with_marks
 from small_programs import LR, OWN, SC, SIZE, add, addi, atomic, beq, bne, elf, image_of, lw, random_program, reserving_step, slli, sw
-from test_search import BUGS, CAN_BUILD, NO_COMPILER, command
-from test_search_keys import PIPE, READ, WRITE, calls
+from test_search import BUGS, CAN_BUILD, NO_COMPILER, command, searched
+from test_search_keys import CONSOLE, PIPE, READ, WRITE, calls
 from test_search_states import A, ANSWER, B, ENDS, FLAG, Q, REQUEST, SEEN, SPAWNS, SPAWNS_TWO, W, laid, sets
 
 FEW = Options(steps=100000)
@@ -56,6 +58,14 @@ class Tree(unittest.TestCase):
         met = met_ends(laid([addi(9, 0, 0x201), sw(9, OWN), *calls(WRITE, PIPE, OWN, 2), *SPAWNS, *sets(A, 1), *sets(B, 1), *ENDS],
                             [lw(9, A), *calls(READ, PIPE, OWN + 4, 1), lw(7, OWN + 4), sw(7, ANSWER), sw(9, B), *ENDS]))[1]
         self.assertEqual({end[3] for end in met}, {1})
+
+    def test_console_is_kept(self):
+        """Threads 1 and 2 each write a letter, in either order; and what a run has written isn't there in the next one."""
+        def writes(letter, word):
+            return [*sets(word, ord(letter)), *calls(WRITE, CONSOLE, word, 1), *ENDS]
+        image = laid([*SPAWNS_TWO, *ENDS], writes("a", OWN), writes("b", OWN + 4))
+        for text in "ab", "ba":
+            self.assertIsNotNone(searched(image, read_condition(["console = %s" % text], Names(image))).told, text)
 
     def test_whoever_was_left_is_kept(self):
         """Thread 2 is left before it stores to B. Thread 0 comes, and then thread 1, which hasn't come yet. It has come, and was known to
