@@ -12,12 +12,12 @@ pub play_later-requires-clause-state : goal.play_later-requires-clause-state
 play_later-requires-clause-state c =
     goes-on c.args.tail.now c.in_ok-log.log (raised_in c.raise-raised.result) c.dmas_passed-passed.result (state_in c.in_ok-state.state) c.raise-raised.ensures.tail c.in_ok-log.ensures c.raise-raised.ensures.raised c.dmas_passed-passed.ensures c.in_ok-state.ensures
 
-pub used_of_tail-requires-clause-few : goal.used_of_tail-requires-clause-few
-used_of_tail-requires-clause-few c =
+pub used_of_tail-walked-requires-clause-few : goal.used_of_tail-walked-requires-clause-few
+used_of_tail-walked-requires-clause-few c =
     later-few c.args.tail.now c.in_ok-log.log (raised_in c.raise-raised.result) c.dmas_passed-passed.result (state_in c.in_ok-state.state) c.raise-raised.ensures.tail c.in_ok-log.ensures c.raise-raised.ensures.raised c.dmas_passed-passed.ensures c.in_ok-state.ensures (state_in c.in_ok-walked.walked.state) c.in_ok-walked.ensures.bounded
 
-pub used_of_tail-requires-clause-passed : goal.used_of_tail-requires-clause-passed
-used_of_tail-requires-clause-passed c =
+pub used_of_tail-walked-requires-clause-passed : goal.used_of_tail-walked-requires-clause-passed
+used_of_tail-walked-requires-clause-passed c =
     later-passed c.args.tail.now c.in_ok-log.log (raised_in c.raise-raised.result) c.dmas_passed-passed.result (state_in c.in_ok-state.state) c.raise-raised.ensures.tail c.in_ok-log.ensures c.raise-raised.ensures.raised c.dmas_passed-passed.ensures c.in_ok-state.ensures (state_in c.in_ok-walked.walked.state) c.in_ok-walked.ensures.state
 
 pub counted_from_start-requires-clause-end : goal.counted_from_start-requires-clause-end
@@ -33,5 +33,5 @@ returns-clause-walked c =
 pub returns-clause-state : goal.returns-clause-state
 returns-clause-state c =
     c.counted_from_start.ensures.state
-    ∙ ap (λ (u : Used). state_since c.args.tail.now (record (state_in c.in_ok-walked.walked.state) { used = u })) c.used_of_tail.ensures
+    ∙ ap (λ (u : Used). state_since c.args.tail.now (record (state_in c.in_ok-walked.walked.state) { used = u })) c.used_of_tail-walked.ensures
     ∙ later-state c.args.tail.now c.in_ok-log.log (raised_in c.raise-raised.result) c.dmas_passed-passed.result (state_in c.in_ok-state.state) c.raise-raised.ensures.tail c.in_ok-log.ensures c.raise-raised.ensures.raised c.dmas_passed-passed.ensures c.in_ok-state.ensures (state_in c.in_ok-walked.walked.state) c.in_ok-walked.ensures.state
