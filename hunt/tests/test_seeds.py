@@ -12,6 +12,7 @@ from pathlib import Path
 from unittest import mock
 
 import support
+from campaign import enough
 from campaign.conduct import FILES
 from campaign.store import NAME, Store
 from campaigns import COUNT_IS_WRONG, HAS_COMPILER, NO_COMPILER, NOT_BUILT, RACE, SEEDS, SLEEP, Scratch, rows_in, said
@@ -92,6 +93,20 @@ class Campaigns(Scratch):
         subprocess.run([*program(), "run", "kept/seed-39.toml"], check=True, stdout=subprocess.DEVNULL)
         self.assertEqual(Path("sleep.log").read_bytes(), Path("kept/seed-39.log").read_bytes())
 
+    @unittest.skipUnless(HAS_COMPILER, NO_COMPILER)
+    def test_fewer_events_where_they_are_enough(self):
+        """A campaign has the same tries and logs, whether it begins them with fewer events or not; hangs are among them."""
+        self.copy(SLEEP / "plan.toml", SLEEP / "sleep.elf", events=400_000)
+        for folder, looks in (("fewer", 2), ("all", 1000)):
+            with mock.patch.object(enough, "LOOKS", looks):
+                said("plan.toml", "--bad", "hang", "--seeds", "36-42", "--jobs", 1, "--keep", folder)
+        self.assertEqual(self.kept("fewer"), self.kept("all"))
+        self.assertEqual(rows_in("fewer"), rows_in("all"))
+        self.assertIn((39, "bad", 25_000), [row[1:4] for row in self.kept("fewer")])
+        for name in os.listdir("all"):
+            if name != NAME:
+                self.assertEqual(Path("fewer", name).read_bytes(), Path("all", name).read_bytes(), name)
+
     def test_varied(self):
         self.copy(RACE / "plan.toml", RACE / "race.elf")
         varied = "--vary", "chunk=16,32", "--vary", "depth=1-2"
@@ -102,14 +117,24 @@ class Campaigns(Scratch):
 
     def test_walk_that_says_otherwise(self):
         self.copy(RACE / "plan.toml", RACE / "race.elf")
+        status, text = self.said_by_liar("plan.toml", "--bad", COUNT_IS_WRONG, "--seeds", "1-3", "--keep", "kept")
+        self.assertEqual(status, 3, text)
+        self.assertIn("seeds: seed 3: the walk of the log has another account than the run\n", text)
+        self.assertEqual((os.listdir("kept"), [row[1] for row in self.kept()]), ([NAME], [1, 2]))
+
+    @unittest.skipUnless(HAS_COMPILER, NO_COMPILER)
+    def test_walk_of_a_hang_that_says_otherwise(self):
+        self.copy(SLEEP / "plan.toml", SLEEP / "sleep.elf", events=400_000)
+        status, text = self.said_by_liar("plan.toml", "--bad", "hang", "--seeds", "39", "--keep", "kept")
+        self.assertEqual((status, text.startswith("seeds: seed 39: the walk of the log has another account")), (3, True), text)
+
+    def said_by_liar(self, *words):
+        """What the command says with a program whose walks say that nothing was done."""
         liar = self.folder / "liar"
         liar.write_text('#!/bin/sh\n[ "$1" != walk ] || { echo "end complete 0"; exit; }\nexec %s "$@"\n' % " ".join(program()))
         liar.chmod(0o755)
         with mock.patch.dict(os.environ, DELOREAN=str(liar)):
-            status, text = said("plan.toml", "--bad", COUNT_IS_WRONG, "--seeds", "1-3", "--keep", "kept")
-        self.assertEqual(status, 3, text)
-        self.assertIn("seeds: seed 3: the walk of the log has another account than the run\n", text)
-        self.assertEqual((os.listdir("kept"), [row[1] for row in self.kept()]), ([NAME], [1, 2]))
+            return said(*words)
 
     def test_goes_on(self):
         self.copy(RACE / "plan.toml", RACE / "race.elf")
