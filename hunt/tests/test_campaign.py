@@ -226,6 +226,8 @@ class Rates(unittest.TestCase):
         self.assertEqual([rate[:3] for rate in rates.by_value(rows)],
                          [("chunk=16", 30, 4), ("chunk=32", 30, 0), ("depth=1", 40, 3), ("depth=2", 20, 1)])
         self.assertEqual([rate.name for rate in rates.by_setting(rows)], [rows[0][0], rows[1][0], rows[2][0]])
+        alike = ["chunk=%d" % chunk for chunk in (16, 64, 128)]
+        self.assertEqual([rate.name for rate in rates.by_setting([(name, 9, 0) for name in alike])], alike)
 
 
 if __name__ == "__main__":

@@ -171,7 +171,10 @@ class Campaigns(Scratch):
                 (("plan.toml", "--bad", "fault", "--vary", "chunk=8"),
                  "seed 1, chunk=8: refused plan 4: the plan, line 3: `chunk` is 8, but it has to be 16"),
                 (("plan.toml", "--bad", "fault", "--sphere", "1"), "sphere 1 of the plan isn't recorded"),
-                (("plan.toml", "--bad", "fault", "--resume"), "--resume needs --keep, the folder of the campaign")):
+                (("plan.toml", "--bad", "fault", "--resume"), "--resume needs --keep, the folder of the campaign"),
+                (("plan.toml", "--bad", "fault", "--slurm", "x"), "--slurm needs --keep, the folder of the campaign"),
+                (("plan.toml", "--bad", "fault", "--keep", "k", "--slurm", "x", "--stop-after", "1"),
+                 "--slurm and --stop-after don't go together")):
             status, text = said(*words)
             self.assertEqual(status, 2, words)
             self.assertIn("seeds: ", text)
@@ -259,6 +262,14 @@ class Reports(Scratch):
         self.assertIn("\n  a thread is left before 0000009C, 00000400\n", text)
         self.assertIn("\n  a thread is left before 000000E0, 00000404\n", text)
         self.assertEqual(len(re.findall(r"kept/bug-[12].log: .* 1 forced; walked", text)), 2, text)
+
+    def test_hung_runs(self):
+        self.copy(SLEEP / "plan.toml", SLEEP / "sleep.elf")
+        said("plan.toml", "--bad", "fault", "--seeds", "38-39", "--keep", "kept")
+        status, text = said("report", "kept", "--seconds", 0)
+        self.assertIn("seeds 38 to 39: 2 tries, 1 good, 0 bad, 0 live, 1 hung\n", text)
+        self.assertIn("\nno run was bad; so, with 95%, at most 65.8% of runs are\n", text)
+        self.assertIn("\n1 run hung, which isn't counted as bad here; with --bad hang it is\n", text)
 
     def test_one_bug_with_several_ends(self):
         self.copy(RACE / "plan.toml", RACE / "race.elf")
