@@ -9,7 +9,7 @@ TIMES = 2  # as many events as that
 
 class Enough:
     def __init__(self):
-        self.lasts = {}  # of each setting: how many runs were looked at, and after how many events their last commit came at the latest
+        self.lasts = {}  # of each setting: how many runs were looked at, and the events up to the last commit of any of them
 
     def first(self, number, events):
         """With how many events a try of this setting may begin, or None if that isn't known, or saves little."""

@@ -50,7 +50,7 @@ class Hangs:
         engine.built = functools.cache(engine.built)  # which looks at all sources of the engine
 
     def of(self, data, account, seed):
-        """The Hang of a run's log, or None if threads go on, or if there is no engine. The log's walk must have the run's account."""
+        """The Hang of a run's log, or None if threads go on, or if there is no engine. The log's walk must have this account."""
         if self.known[0] != (data, seed):
             self.known = (data, seed), self.found(data, account, seed)
         return self.known[1]

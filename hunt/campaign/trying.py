@@ -67,6 +67,7 @@ class Trier:
         self.rows = rows_of(self.condition)
         self.runner = Runner(campaign.program, folder)
         self.early = None  # a Runner too, from the first hang on
+        self.early_run = None, b""  # of what its last run was, and the account
         self.hangs = Hangs(self.sphere, self.image, self.plan.values.get("input"), self.runner)
         self.enough, self.texts = Enough(), {}
 
@@ -76,11 +77,14 @@ class Trier:
         result = self.tried_short(number, seed, events)
         while result is None:
             result = self.tried_once(number, seed, events)
-            events = min(max(events or 0, 1) * MORE, self.campaign.most_events)
+            events = self.more(events)
         return result
 
+    def more(self, events):
+        return min(max(events or 0, 1) * MORE, self.campaign.most_events)
+
     def tried_short(self, number, seed, events):
-        """The Result that all events would have, by a run with as many as were enough so far; None if it has to be tried with all."""
+        """The Result that all events would have, by a run with as many as were enough so far; None if all are needed."""
         few = self.enough.first(number, events)
         if few is None:
             return None
@@ -107,12 +111,13 @@ class Trier:
             return self.ended(number, seed, events, ended)
         if ended.meets(self.condition, False):
             return self.found(BAD, number, seed, events, ended)
-        return self.tried_early(number, seed, events, account) or self.tried_live(number, seed, events, ended)
+        return (self.tried_early(number, seed, events, account) or self.tried_live(number, seed, events, ended)
+                or self.tried_early(number, seed, self.more(events), account, events))
 
     def tried_early(self, number, seed, events, account, few=None):
         """The Result of a run that had come to its hang after a few of its events: nothing in the memory has changed since. It has
-        these events, and the log that is short. The account is that of a run with all events; or with `few` of them, and then no
-        thread may go on in any order."""
+        these events, and the log that is short. The account is that of the run with all events; or with `few` of them, and then
+        the hang must be for ever."""
         early = (events or 0) // EARLY
         if early < LEAST_EARLY or (few and max(early, few) < 2 * min(early, few)):
             return None
@@ -125,11 +130,15 @@ class Trier:
         return self.hung(early, hang)
 
     def early_account(self, number, seed, events):
+        """The account of a run whose log is then in the folder of the early ones."""
         if self.early is None:
             folder = Path(self.runner.folder) / "early"
             folder.mkdir()
             self.early = Runner(self.campaign.program, folder)
-        return self.run(number, seed, events, True, self.early)
+        if self.early_run[0] != (number, seed, events):
+            self.early_run = None, b""
+            self.early_run = (number, seed, events), self.run(number, seed, events, True, self.early)
+        return self.early_run[1]
 
     def hung(self, events, hang):
         return result_of(BAD if hang.ended.meets(self.condition, True) else HUNG, events, hang.ended, hang.log)

@@ -14,7 +14,10 @@ from unittest import mock
 import support
 from campaign import enough
 from campaign.conduct import FILES
+from campaign.plans import read_plan
+from campaign.program import find_program
 from campaign.store import NAME, Store
+from campaign.trying import BAD, Campaign, Trier
 from campaigns import COUNT_IS_WRONG, HAS_COMPILER, NO_COMPILER, NOT_BUILT, RACE, SEEDS, SLEEP, Scratch, rows_in, said
 from killing import kill_and_resume
 from lib.account import program
@@ -85,13 +88,25 @@ class Campaigns(Scratch):
 
     @unittest.skipUnless(HAS_COMPILER, NO_COMPILER)
     def test_hang_that_comes_early(self):
-        """The run has come to it after a few of many events; then these are what is kept, with a log that its plan records again."""
+        """The run has come to it after a few of many events; these are what is kept, with a log that its plan records again."""
         self.copy(SLEEP / "plan.toml", SLEEP / "sleep.elf", events=400_000)
         _, text = said("plan.toml", "--bad", "hang", "--seeds", "38-39", "--keep", "kept")
         self.assertIn("2 tries: 1 good, 1 bad, 0 live, 0 hung\n", text)
         self.assertEqual([row[3] for row in self.kept()], [400_000, 25_000])
         subprocess.run([*program(), "run", "kept/seed-39.toml"], check=True, stdout=subprocess.DEVNULL)
         self.assertEqual(Path("sleep.log").read_bytes(), Path("kept/seed-39.log").read_bytes())
+
+    @unittest.skipUnless(HAS_COMPILER, NO_COMPILER)
+    def test_hang_needs_no_more_events(self):
+        """Its loops were walked, so a run with four times as many events wouldn't tell more."""
+        self.copy(SLEEP / "plan.toml", SLEEP / "sleep.elf", events=100_000)
+        plan = read_plan("plan.toml")
+        with mock.patch.dict(os.environ, DELOREAN=" ".join(program())):
+            trier = Trier(Campaign(find_program(), plan, [{}], ["hang"], 1_600_000), self.folder)
+            with mock.patch.object(trier, "run", wraps=trier.run) as run:
+                result = trier.tried(0, 39)
+        self.assertEqual((result.outcome, result.events), (BAD, 25_000))
+        self.assertEqual([call.args[2] for call in run.call_args_list], [100_000, 6_250, 25_000])
 
     @unittest.skipUnless(HAS_COMPILER, NO_COMPILER)
     def test_fewer_events_where_they_are_enough(self):
