@@ -12,6 +12,7 @@ Call = namedtuple("Call", "who name arguments at result first last")
 # A block of the heap. where: the pc that asked for it. count: how many that pc has asked for by then. freed: the Call, or None.
 Block = namedtuple("Block", "addr size where count freed")
 
+HEAD, LEAST_GUARD, MOST_GUARD = 8, 4, 16  # bytes, as heap.c has them
 GIVING, TAKING_BACK = ("malloc", "calloc", "realloc"), ("free", "realloc")
 
 
@@ -66,6 +67,14 @@ def calls_of(trace, own):
     return _Finder(trace, own).all() if own.has_library else []
 
 
+def guard_of(block):
+    """(first, end) of the bytes after a block that the library fills, and looks at later."""
+    first, room = block.addr + block.size, 16
+    while room < block.size + HEAD + LEAST_GUARD:
+        room = room * 2 if room < 2048 else room + 1024
+    return first, min(first + MOST_GUARD, block.addr - HEAD + room)
+
+
 class Heap:
     """The blocks that calls gave and took back: `look(call)` in the order of the calls' ends, then `block(addr)`."""
 
@@ -83,3 +92,7 @@ class Heap:
     def block(self, addr):
         """The block that an address is in, or None."""
         return next((b for b in self.blocks if b.addr <= addr < b.addr + max(b.size, 4)), None)
+
+    def before(self, addr):
+        """The block that isn't freed and right after whose end an address is, or None."""
+        return next((b for b in self.blocks if b.freed is None and guard_of(b)[0] <= addr < guard_of(b)[1]), None)

@@ -20,15 +20,19 @@ MOST_SWITCHES, MOST_RUNS, MOST_STATES = 250, 1 << 40, 1 << 25
 PAGE, MOST_MEMORY = 4096, 1 << 24
 TICK, TURN = 64, 10_000  # as in search
 FEW_THREADS = 15  # as many as logs of version 1 have
+CLOCKS = ("__past", "clock_gettime", "gettimeofday", "time", "clock", "usleep", "sleep", "nanosleep", "clock_nanosleep", "sleep_for")
+NUMBER_OF_CLOCK, CALL, DEVICES, NEAR = 0x00500893, 0x00000073, 0xF0000037, 8  # li a7, 5; ecall; lui .., 0xF0000; instructions
 
-# image: the path. memory: bytes. threads: how many there may be in all. has_library: whether delorean-cc has linked it.
-Program = namedtuple("Program", "image memory threads has_library")
+# image: the path. memory: bytes. threads: how many there may be in all. has_library: whether delorean-cc has linked it. has_clock:
+# whether it has code that reads a clock.
+Program = namedtuple("Program", "image memory threads has_library has_clock", defaults=(False,))
 # switches: at most so many forced ones, or None. seconds: of the search. bad: further conditions. input: a file, or None. strategy: by
 # which orders are drawn, with its depth and tries, or None.
 Limits = namedtuple("Limits", "switches seconds shrink_seconds bad input seed steps tick strategy depth tries",
                     defaults=(TICK, None, 3, MOST_RUNS))
-# status: below. search: as the engine has it, a Search or Drawn. run: a Run, or None. seconds: that the search took. condition: what a failure is.
-Finding = namedtuple("Finding", "status search run seconds condition")
+# status: below. search: as the engine has it, a Search or Drawn. run: a Run, or None. seconds: that the search took. condition: what a
+# failure is. tick: what a clock went on by when it was read; None if the program has none.
+Finding = namedtuple("Finding", "status search run seconds condition tick", defaults=(None,))
 # log: bytes, that the proved walk has judged. ended: what the walk's account tells. forced: how many forced switches. left: of each
 # turn of a thread, the next one's apart, whether it was left by a forced switch. leaf: as in engine.Told.
 Run = namedtuple("Run", "log ended forced left leaf commits switches")
@@ -66,7 +70,7 @@ def read_program(path, memory=None):
     names = Names(image)
     if memory is None:
         memory = memory_of(names, path)
-    return Program(str(path), memory, most_threads(image, names), names.has("__library_code"))
+    return Program(str(path), memory, most_threads(image, names), names.has("__library_code"), reads_clock(image, names))
 
 
 def most_threads(image, names):
@@ -75,6 +79,16 @@ def most_threads(image, names):
         return FEW_THREADS
     at = names.value("__numbers")
     return int.from_bytes(image.memory[at : at + 4], "little")
+
+
+def reads_clock(image, names):
+    """Whether there is code that reads a clock. Of the library only what the program needs is linked. In an image without it, it is a call
+    of the kernel by its number, or the address of the devices."""
+    if names.has("__library_code"):
+        return any(names.has(name) for name in CLOCKS)
+    words = memoryview(image.memory[: len(image.memory) & ~3]).cast("I").tolist()
+    return any(word == NUMBER_OF_CLOCK and CALL in words[at : at + NEAR] or word & 0xFFFFF07F == DEVICES
+               for at, word in enumerate(words) if word)
 
 
 def memory_of(names, path):
@@ -140,8 +154,8 @@ def find(program, limits, tell=lambda bound: None):
     job, started = job_of(program, limits), time.monotonic()
     with job.engine() as engine:
         result = searched_by(engine, limits, tell)
-    searched = time.monotonic() - started
+    searched, tick = time.monotonic() - started, limits.tick if program.has_clock else None
     if result.told is None:
-        return Finding(status_of(result), result, None, searched, conditions(program, limits))
+        return Finding(status_of(result), result, None, searched, conditions(program, limits), tick)
     run = judged(job, result.told, limits.shrink_seconds)
-    return Finding(FOUND, result, run, searched, conditions(program, limits))
+    return Finding(FOUND, result, run, searched, conditions(program, limits), tick)

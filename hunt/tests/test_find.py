@@ -97,8 +97,9 @@ class Lines(InScratch):
 
     def test_freed_block(self):
         _, said, _ = self.found("usedafterfree.elf")
-        self.assertIn("thread 2 loads the block of usedafterfree.c:13 (read_latest, usedafterfree.c:37), which thread 1 has freed "
-                      "(replace, usedafterfree.c:25)\n", said)
+        self.assertRegex(said, r"thread 2 loads from the block of usedafterfree.c:13 \(commit \d+, read_latest, usedafterfree.c:37\), "
+                               r"which thread 1 has freed \(commit \d+, replace, usedafterfree.c:25\)\n")
+        self.assertNotIn("loads from the block of usedafterfree.c:13 (main", said)  # as the library does when it looks at the heap
         self.assertRegex(said, r"frees +block of usedafterfree.c:13 +replace, usedafterfree.c:25\n")
 
 
@@ -119,6 +120,16 @@ class Found(InScratch):
             (self.out / "replay.toml").write_text(plan.replace("cores = 4", "cores = %d" % cores))
             subprocess.run([*program(), "run", "replay.toml"], cwd=self.out, check=True, stdout=subprocess.DEVNULL)
             self.assertEqual((self.out / "replayed.account").read_bytes(), walked)
+
+    def test_what_a_replay_shows(self):
+        for name in ("account.elf", "deadlock.elf"):
+            _, said, _ = self.found(name)
+            printed = subprocess.run([*program(), "run", "replay.toml"], cwd=self.out, check=True, capture_output=True, text=True).stdout
+            line = re.search(r"which prints `(s 0 complete \d+)`, since", said)[1]
+            self.assertIn(line, printed.splitlines())
+            command, states = re.search(r"^  (grep .*) shows how the threads ended: (.*)$", said, re.M).groups()
+            shown = subprocess.run(command, shell=True, cwd=self.out, check=True, capture_output=True, text=True).stdout
+            self.assertEqual(", ".join("`%s`" % row for row in shown.splitlines()), states)
 
     def test_json(self):
         status, said, _ = self.found("deadlock.elf", "--json")
@@ -248,7 +259,7 @@ class Sources(InScratch):
     @unittest.skipUnless(HAS_LINES, NO_LINES)
     def test_block_freed_twice(self):
         _, said, _ = find(EXAMPLES / "doublefree.c", "--out", self.out)
-        self.assertRegex(said, r"thread \d frees the block of doublefree.c:30 \(close_connection, doublefree.c:18\), which thread \d has freed ")
+        self.assertRegex(said, r"thread \d frees the block of doublefree.c:30 \(commit \d+, close_connection, doublefree.c:18\), which thread \d has freed ")
 
     def test_words_for_the_compiler(self):
         status, said, errors = find("-DMENDED", EXAMPLES / "account.c", "-O1", "--out", self.out)
@@ -270,7 +281,7 @@ class Sources(InScratch):
                              "static int *other(void) { static int count; return &count; }\n"
                              "int main(void) { mine()[1] = 3; *other() += 2; return *other(); }\n")
         _, said, _ = find(source, "--out", self.out, "-O1", "--bad", "word mine::count+4 = 3 and word other::count = 2")
-        self.assertRegex(said, r"stores +mine::count\+0x4 +00000003 over")
+        self.assertRegex(said, r"stores +mine::count\[1\] +00000003 over")
         self.assertRegex(said, r"stores +other::count +00000002 over")
         _, _, errors = find(source, "--out", self.out, "--bad", "word count = 3")
         self.assertIn("there are several: mine::count, other::count", errors)
