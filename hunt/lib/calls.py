@@ -1,5 +1,6 @@
 """The program's calls of its library, as a Trace shows them: `calls_of(trace, own)`. A call begins with the first instruction of
-a function of the library, right after one of the program's own code in the same thread, and ends when that code goes on."""
+a function of the library, right after one of the program's own code in the same thread, and ends when that code goes on. Where the
+library calls malloc and its like for the program, as in strdup, that is a call too."""
 
 from collections import namedtuple
 
@@ -13,6 +14,7 @@ Call = namedtuple("Call", "who name arguments at result first last")
 Block = namedtuple("Block", "addr size where count freed")
 
 HEAD, LEAST_GUARD, MOST_GUARD = 8, 4, 16  # bytes, as heap.c has them
+RA, A0 = 1, 10  # registers
 GIVING, TAKING_BACK = ("malloc", "calloc", "realloc"), ("free", "realloc")
 
 
@@ -27,7 +29,9 @@ class _Finder:
         self.trace, self.own, self.moment = trace, own, Moment(trace)
         public_last = sorted(trace.names.code, key=lambda s: not s.name.startswith("_"))
         self.entries = {s.addr: s.name for s in public_last if s.addr >= own.library}
+        self.heap_entries = {addr for addr, name in self.entries.items() if name in GIVING + TAKING_BACK}
         self.open, self.last_own, self.done = {}, {}, []
+        self.inner = {}  # the library's own call of the heap's functions, and where that goes on
 
     def registers(self, step, thread):
         commit, moment = self.trace.commit_of(step), self.moment
@@ -35,18 +39,29 @@ class _Finder:
             moment.seek(commit.first)
         if moment.step < step:
             moment.advance(step)
-        return tuple(moment.machine.threads[thread].x[10:14])
+        return tuple(moment.machine.threads[thread].x)
 
     def look(self, step, who, thread):
         pc = self.trace.pcs[step]
+        if who in self.inner and pc == self.inner[who][1]:
+            self.done.append(self.inner.pop(who)[0]._replace(result=self.registers(step, thread)[A0], last=step))
         if self.own.is_code(pc):
             if who in self.open:
-                self.close(who, step, self.registers(step, thread)[0])
+                self.close(who, step, self.registers(step, thread)[A0])
             self.last_own[who] = pc
         elif who in self.last_own:
             at = self.last_own.pop(who)
             if pc in self.entries:
-                self.open[who] = Call(who, self.entries[pc], self.registers(step, thread), at, None, step, None)
+                self.open[who] = self.begun(pc, step, who, thread, at)
+        elif pc in self.heap_entries and who not in self.inner and not self.is_in_heap(who):
+            back = self.registers(step, thread)[RA]
+            self.inner[who] = self.begun(pc, step, who, thread, self.open[who].at if who in self.open else back - 4), back
+
+    def begun(self, pc, step, who, thread, at):
+        return Call(who, self.entries[pc], self.registers(step, thread)[A0 : A0 + 4], at, None, step, None)
+
+    def is_in_heap(self, who):
+        return who in self.open and self.open[who].name in GIVING + TAKING_BACK
 
     def close(self, who, step, result):
         self.done.append(self.open.pop(who)._replace(result=result, last=step))

@@ -4,7 +4,8 @@
 import io
 import re
 
-_ADDRESS = 0x03  # DW_OP_addr: the variable is at this address
+from .statics import fixed_address
+
 _SAME = {"DW_TAG_typedef", "DW_TAG_const_type", "DW_TAG_volatile_type", "DW_TAG_atomic_type", "DW_TAG_restrict_type"}
 _OPAQUE = re.compile(r"pthread_\w+|sem_t|mtx_t|cnd_t|tss_t|thrd_t|once_flag|atomic_flag|va_list|jmp_buf")
 _STEP = re.compile(r"\.(\w+)|\[(\d{1,9})\]")
@@ -30,9 +31,9 @@ class Fields:
                 if child.has_children:
                     self._look(child)
             elif child.tag == "DW_TAG_variable":
-                place = child.attributes.get("DW_AT_location")
-                if place is not None and isinstance(place.value, list) and place.value[:1] == [_ADDRESS]:
-                    self.types[int.from_bytes(bytes(place.value[1:5]), "little")] = child
+                addr = fixed_address(child)
+                if addr is not None:
+                    self.types[addr] = child
 
     # ------------------------------------------------------------ types
 

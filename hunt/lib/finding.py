@@ -11,6 +11,7 @@ import time
 from .engine import TO_ITS_END
 from .image import NotAnImage, read_image
 from .judge import switches_of
+from .reach import reached, words_of
 from .searching import Job, Refused
 from .shrinking import Shrinker
 from .symbols import Names
@@ -20,7 +21,7 @@ MOST_SWITCHES, MOST_RUNS, MOST_STATES = 250, 1 << 40, 1 << 25
 PAGE, MOST_MEMORY = 4096, 1 << 24
 TICK, TURN = 64, 10_000  # as in search
 FEW_THREADS = 15  # as many as logs of version 1 have
-CLOCKS = ("__past", "clock_gettime", "gettimeofday", "time", "clock", "usleep", "sleep", "nanosleep", "clock_nanosleep", "sleep_for")
+CLOCKS = {"__past", "clock_gettime", "gettimeofday", "time", "clock", "usleep", "sleep", "nanosleep", "clock_nanosleep", "sleep_for"}
 NUMBER_OF_CLOCK, CALL, DEVICES, NEAR = 0x00500893, 0x00000073, 0xF0000037, 8  # li a7, 5; ecall; lui .., 0xF0000; instructions
 
 # image: the path. memory: bytes. threads: how many there may be in all. has_library: whether delorean-cc has linked it. has_clock:
@@ -82,11 +83,11 @@ def most_threads(image, names):
 
 
 def reads_clock(image, names):
-    """Whether there is code that reads a clock. Of the library only what the program needs is linked. In an image without it, it is a call
-    of the kernel by its number, or the address of the devices."""
+    """Whether there is code that reads a clock, and that can be reached. In an image without the library, it is a call of the kernel by its
+    number, or the address of the devices, wherever that is."""
     if names.has("__library_code"):
-        return any(names.has(name) for name in CLOCKS)
-    words = memoryview(image.memory[: len(image.memory) & ~3]).cast("I").tolist()
+        return not CLOCKS.isdisjoint(reached(image, names))
+    words = words_of(image)
     return any(word == NUMBER_OF_CLOCK and CALL in words[at : at + NEAR] or word & 0xFFFFF07F == DEVICES
                for at, word in enumerate(words) if word)
 

@@ -52,10 +52,17 @@ def _of_failed(trace, story, number):
     for commit, a in sorted((there or loads)[:MOST_WORDS], key=lambda pair: pair[1].step):
         last = _stored(trace, a)
         who = "as it was %s" % trace.begun() if last is None else "which %s has stored (commit %d, %s)" % (
-            "it" if last[0].actor == number else context_name(trace.context(last[0])), last[0].told, trace.names.place(last[1].pc))
+            "it" if last[0].actor == number else context_name(trace.context(last[0])), last[0].told, _place(trace, story, last))
         steps = {a.step} | ({last[1].step} if last else set())
         yield Ground("%s fails with what it finds: %s = %s (commit %d, %s), %s" % (
-            _name(story, number), story.word(a.addr, a.width), values(a), commit.told, trace.names.place(a.pc), who), steps)
+            _name(story, number), story.word(a.addr, a.width), values(a).rpartition(" over ")[2], commit.told, trace.names.place(a.pc), who), steps)
+
+
+def _place(trace, story, pair):
+    """Where in the program's own code an access comes from."""
+    commit, a = pair
+    call = next((c for c in story.calls if c.who == trace.context(commit) and c.first <= a.step < c.last), None)
+    return trace.names.place(call.at if call and not story.own.is_code(a.pc) else a.pc)
 
 
 def _last_loads(trace, story, number):

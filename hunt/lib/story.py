@@ -30,7 +30,8 @@ LOCKING = {"__delorean_took", "__delorean_lock", "__delorean_wait", "__delorean_
 TWO_ARGUMENTS = {"pthread_cond_wait", "pthread_cond_timedwait"}
 CHECKING = {*GIVING, *TAKING_BACK, "exit", "quick_exit"}
 UNTOLD = LOCKING | set(GIVING) | set(TAKING_BACK) | {"pthread_create", "pthread_join"}
-QUIET = {"exit", "write", "clock", "self", "yield", "handler", "iret", "ended", "spawn", "fault", "break", "device store"}
+CLOCK = "the clock"
+QUIET = {"exit", "write", "self", "yield", "handler", "iret", "ended", "spawn", "fault", "break", "device store"}
 PAST = "stores past the end of"
 LOCK_BYTES = 16      # of a pthread_mutex_t
 REACH = 64           # an access so many bytes from an argument counts as one to what was given
@@ -66,7 +67,7 @@ class Story:
         for call in self.calls:
             self.ends.setdefault(call.last, []).append(call)
         self.locks = {a.addr for a in trace.accesses if a.pc in self.own.lock_code}
-        self.heap, self.at, self.within, self.told = Heap(), {}, {}, set()
+        self.heap, self.at, self.within, self.around, self.told = Heap(), {}, {}, {}, set()  # around: of a call the one that it is in
         self.misuses = {}  # Uses of blocks that had been freed, or past their ends, each place once
         self.functions, self.touched = {}, {}
         self.turns = [turn for turn in self._turns(list(left)) if turn.rows or turn.is_left]
@@ -106,7 +107,7 @@ class Story:
         for call in self.ends.get(step, ()):
             self.heap.look(call)
             if self.within.get(who) is call:
-                del self.within[who]
+                self.within[who] = self.around.pop(call.first, None)
                 yield from self._of_heap(call)
                 yield from self._answered(call)
         pc = self.trace.pcs[step]
@@ -114,7 +115,7 @@ class Story:
             self.at[who] = pc
             self.functions.setdefault(who, self.names.function(pc))
         if step in self.begins:
-            self.within[who] = self.begins[step]
+            self.around[step], self.within[who] = self.within.get(who), self.begins[step]
             self._look_at_free(self.begins[step])
 
     def _answered(self, call):
@@ -124,11 +125,11 @@ class Story:
             yield Row("answers", "%s: %s" % (call.name, answer), "", self.place_of(call.at), rank=KEY)
 
     def _of_heap(self, call):
-        if call.name in GIVING:
-            yield Row("allocates", self.word(call.result), "%08X" % call.result, self.place_of(call.at), rank=OWN)
-        elif call.name in TAKING_BACK and call.arguments[0]:
+        if call.name in TAKING_BACK and call.arguments[0] and (call.name not in GIVING or call.result):
             rank = KEY if self._is_of_others(call) else SHARED
             yield Row("frees", self.word(call.arguments[0]).removeprefix("freed "), "", self.place_of(call.at), rank=rank)
+        if call.name in GIVING:
+            yield Row("allocates", self.word(call.result), "%08X" % call.result, self.place_of(call.at), rank=OWN)
 
     def _is_of_others(self, call):
         """Whether other threads have used the block that a call frees, or use it later."""
@@ -225,6 +226,8 @@ class Story:
             yield Row("faults", CAUSES.get(served.result, "cause %d" % served.result), "", place)
         elif served.name == "ended" and served.result == 1:
             yield Row("joins", "thread %d" % served.arguments[0], "", place, rank=SHARED)
+        elif served.name == "clock":
+            yield Row("reads", CLOCK, "%08X" % served.result, place, rank=SHARED)
         elif served.name not in QUIET:
             yield Row("asks", "the kernel: %s, answer %08X" % (served.name, served.result), "", place, rank=SHARED)
 
@@ -252,8 +255,10 @@ class Story:
 
 
 def add(rows, row):
-    if rows and rows[-1]._replace(times=1, step=row.step) == row:
-        rows[-1] = rows[-1]._replace(times=rows[-1].times + 1)
+    """Equal rows are one; and of looks at the clock at one place the last is told, as in a wait."""
+    last = rows[-1]._replace(times=1, step=row.step) if rows else None
+    if last == row or last and row.word == last.word == CLOCK and row.place == last.place:
+        rows[-1] = rows[-1]._replace(times=rows[-1].times + 1, value=row.value)
     else:
         rows.append(row)
 

@@ -43,7 +43,9 @@ class Told(unittest.TestCase):
         self.assertRegex(second, r'^    and thread \d prints "\]\\n" .*, lineparts.c:11\) only then$')
 
     def test_a_store_that_comes_too_late(self):
-        first, second = self.told("timedout")["why"]
+        first, second, third = self.told("timedout")["why"]
+        self.assertRegex(third, r"^thread 0 \(main\) fails with what it finds: a stack, \w+ = 00000000 \(commit \d+, main, timedout.c:38\), "
+                                r"which thread 1 has stored \(commit \d+, receiver, timedout.c:18\)$")
         self.assertRegex(first, r"; thread 1 loads 00000000 of message \(commit \d+, receiver, timedout.c:18\),$")
         self.assertRegex(second, r"thread 0 stores 00000007 there only then \(commit \d+, main, timedout.c:33\)$")
 
@@ -67,6 +69,15 @@ class Told(unittest.TestCase):
                                              r"has freed \(commit \d+, closes, reuse.c:15\)$")
             self.assertTrue(any(re.search(r"stores +freed block of .* raises, reuse.c:31  <- thread 1 has freed it$", row)
                                 for row in told["order"]), told["order"])
+
+    def test_who_has_freed_it(self):
+        """Also if that was realloc, or the library at a thread's end."""
+        told = self.told("grow")
+        self.assertEqual(told["broken"], [
+            "thread 1 (adds) stored to the freed block of grow.c:27: adds, grow.c:21; freed by thread 2 (adds): append, grow.c:10"])
+        self.assertTrue(any(re.search(r"frees +block of grow.c:27 +append, grow.c:10$", row) for row in told["order"]), told["order"])
+        self.assertRegex(self.told("destructor")["why"][0], r"^thread 2 loads from the block of destructor.c:10 \(commit \d+, user, "
+                         r"destructor.c:24\), which thread 1 has freed \(commit \d+, __destroy_specifics, keys.c:\d+\)$")
 
     def test_parts_of_variables(self):
         told = self.told("parts")
@@ -99,7 +110,7 @@ class Told(unittest.TestCase):
         told = self.told("unjoined")
         self.assertIn("malloc: written past the end of the block at ", told["console"])
         self.assertEqual(told["broken"], ["thread 1 (write_past) stored past the end of the block of unjoined.c:15: write_past, unjoined.c:18"])
-        self.assertEqual(told["threads"][1][2:4], ["ended", 0])
+        self.assertEqual((told["threads"][1]["state"], told["threads"][1]["code"]), ("ended", 0))
 
 
 if __name__ == "__main__":
