@@ -6,7 +6,7 @@ import tempfile
 
 from .chains import places
 from .found import LOG, PICTURE, PLAN, plan_text
-from .grounds import grounds
+from .grounds import grounds, signals
 from .notes import notes_of
 from .story import PAST, Story, block_name, thread_name
 from .storylines import lines
@@ -27,13 +27,13 @@ def told_switches(trace, story):
 
 def why_told(trace, story, told, is_hang):
     """(lines, steps): blocks that were used after they were freed, and loads that were stale, or what else came of forced switches. If
-    nothing of that is so, what the failure rests on."""
+    nothing of that is so, what the failure rests on; and in any case who has signalled, of those that wait."""
     uses = list(story.misuses.values())
     lines = [*map(story.use_line, uses), *found_lines(trace, told)]
     steps = {step for use in uses for step in (use.step, use.block.freed and use.block.freed.last)} | {step for _, it in told for step in steps_of(it)}
     is_known = uses or any(not isinstance(it, (Crossing, Printing)) for _, it in told)
     waiting = [note for note in notes_of(trace) if note.waits] if is_hang else []
-    more = [] if is_known else grounds(trace, story, waiting, not lines)
+    more = signals(trace, story, waiting) if is_known else grounds(trace, story, waiting, not lines)
     return lines + [ground.text for ground in more], steps.union(*(ground.steps for ground in more))
 
 

@@ -22,7 +22,8 @@ PAGE, MOST_MEMORY = 4096, 1 << 24
 TICK, TURN = 64, 10_000  # as in search
 FEW_THREADS = 15  # as many as logs of version 1 have
 CLOCKS = {"__past", "clock_gettime", "gettimeofday", "time", "clock", "usleep", "sleep", "nanosleep", "clock_nanosleep", "sleep_for"}
-NUMBER_OF_CLOCK, CALL, DEVICES, NEAR = 0x00500893, 0x00000073, 0xF0000037, 8  # li a7, 5; ecall; lui .., 0xF0000; instructions
+NUMBER_OF_CLOCK, CALL, DEVICES = 0x00500893, 0x00000073, 0xF0000037  # li a7, 5; ecall; lui .., 0xF0000, whose first word is a clock
+NEAR, FAR = 8, 64  # instructions up to the call, and up to the load
 
 # image: the path. memory: bytes. threads: how many there may be in all. has_library: whether delorean-cc has linked it. has_clock:
 # whether it has code that reads a clock.
@@ -84,11 +85,12 @@ def most_threads(image, names):
 
 def reads_clock(image, names):
     """Whether there is code that reads a clock, and that can be reached. In an image without the library, it is a call of the kernel by its
-    number, or the address of the devices, wherever that is."""
+    number, or a load of the devices' first word, wherever that is."""
     if names.has("__library_code"):
         return not CLOCKS.isdisjoint(reached(image, names))
     words = words_of(image)
-    return any(word == NUMBER_OF_CLOCK and CALL in words[at : at + NEAR] or word & 0xFFFFF07F == DEVICES
+    return any(word == NUMBER_OF_CLOCK and CALL in words[at : at + NEAR] or
+               word & 0xFFFFF07F == DEVICES and any(after & 0xFFFFF07F == 0x2003 | (word >> 7 & 31) << 15 for after in words[at : at + FAR])
                for at, word in enumerate(words) if word)
 
 

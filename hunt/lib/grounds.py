@@ -24,10 +24,15 @@ def grounds(trace, story, waiting, is_alone):
     could have woken them. is_alone: whether nothing else is told, so at least who holds the lock, or that all wait for one's end."""
     found = [ground for number, thread in enumerate(trace.machine.threads) if has_failed(thread)
              for ground in _of_failed(trace, story, number)]
-    found += [_of_signals(trace, story, note) for note in waiting if KINDS.index(note.waits.kind) in WAKING]
+    found += signals(trace, story, waiting)
     if is_alone and not found:
         found = [_of_others(trace, story, note) for note in waiting] or [Ground("no load was stale when it was used", set())]
     return found
+
+
+def signals(trace, story, waiting):
+    """Of each thread that waits for a condition or a semaphore, who has signalled last."""
+    return [_of_signals(trace, story, note) for note in waiting if KINDS.index(note.waits.kind) in WAKING]
 
 
 def has_failed(thread):
@@ -102,16 +107,18 @@ def _of_signals(trace, story, note):
     if not calls:
         return Ground("%s, and nobody has ever %s" % (head, DONE[kind]), {begun})
     last = calls[-1]
-    when = "after that" if last.first > begun else "before that"
-    return Ground("%s; %s %s last %s (commit %d, %s)%s" % (
-        head, "it" if last.who.thread == note.thread else context_name(last.who), DONE[kind], when, trace.commit_of(last.first).told,
-        trace.names.place(last.at), ", which didn't wake it" if last.first > begun else ", and nobody has since"), {last.first, begun})
+    who = "it" if last.who.thread == note.thread else context_name(last.who)
+    text, rest = ("%s; %s %s last", ", which didn't wake it") if last.first > begun else ("%s; %s %s before that", ", and nobody has since")
+    return Ground((text + " (commit %d, %s)" + rest) % (
+        head, who, DONE[kind], trace.commit_of(last.first).told, trace.names.place(last.at)), {last.first, begun})
 
 
 def _begun(trace, story, note):
-    """The step of the call with which a thread began to wait."""
+    """The step with which a thread began to wait: in its last call, that in which it is counted as one that waits, if it is."""
     mine = [call for call in story.calls if call.who.thread == note.thread and call.result is None]
-    return mine[-1].first if mine else trace.steps
+    first = mine[-1].first if mine else trace.steps
+    return next((a.step for commit, a in trace.of_word(note.waits.object)
+                 if commit.actor == note.thread and a.step >= first and a.kind in isa.STORES), first)
 
 
 def _of_others(trace, story, note):

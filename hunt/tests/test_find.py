@@ -221,6 +221,16 @@ class Folders(InScratch):
         self.assertEqual(self.out.read_text(), "a file")
 
 
+class Clock(unittest.TestCase):
+    def test_code_that_reads_a_clock(self):
+        """calls.elf makes each call of the kernel, and copies.elf loads the devices' second word alone. In the images of tests the library has
+        the waits until a time, and nothing comes there."""
+        for image, wanted in (("examples/calls/calls.elf", True), ("examples/input/copies.elf", False), ("examples/race/race.elf", False)):
+            self.assertEqual(read_program(support.TOP / image, 1 << 16).has_clock, wanted, image)
+        for image in IMAGES.glob("*.elf"):
+            self.assertFalse(read_program(image).has_clock, image)
+
+
 class Columns(unittest.TestCase):
     def test_a_long_word_is_cut_and_widens_nothing(self):
         rows = [Row("loads", "count", "00000001", "work, a.c:3"), Row("prints", "x" * 100, "", "work, a.c:4"),

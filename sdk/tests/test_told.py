@@ -90,7 +90,7 @@ class Told(unittest.TestCase):
     def test_who_could_have_woken_it(self):
         """Nothing is stale here: the signal has come before the wait."""
         why = self.told("parts")["why"]
-        self.assertTrue(any(re.search(r"^thread 1 \(take\) waits for condition queue.filled \(take, parts.c:21\); thread 2 signalled it last "
+        self.assertTrue(any(re.search(r"^thread 1 \(take\) waits for condition queue.filled \(take, parts.c:21\); thread 2 signalled it "
                                       r"before that \(commit \d+, put, parts.c:33\), and nobody has since$", line) for line in why), why)
 
     def test_what_a_thread_that_fails_had_found(self):
