@@ -18,11 +18,12 @@ from unittest import mock
 import support
 from lib.account import program
 from lib.finding import read_program
+from lib.folded import MOST_ROWS, folded
 from lib.hangs import waits
 from lib.logs import write_log
-from lib.story import Row
+from lib.story import KEY, OWN, SHARED, Row, Turn
 from lib.storylines import row_lines
-from lib.trace import open_trace
+from lib.trace import Context, open_trace
 from lib.waiting import waiting_lines
 from test_guide import HAS_LINES
 
@@ -219,6 +220,34 @@ class Folders(InScratch):
         self.assertEqual(self.found("account.elf")[0], 2)
         self.assertEqual(find(IMAGES / "account.elf", "--out", self.out.parent / "no/where")[0], 2)
         self.assertEqual(self.out.read_text(), "a file")
+
+
+class Folded(unittest.TestCase):
+    def turn(self, *ranks):
+        """A turn with a row of each rank; the step of a row is its place."""
+        return Turn(Context(1, 0), "work", [Row("loads", "w%d" % j, rank=rank, step=j) for j, rank in enumerate(ranks)], False)
+
+    def shown(self, *turns, steps=()):
+        return [(turn is not None, [row if isinstance(row, int) else row.step for row in rows] if turn else rows)
+                for turn, rows in folded(list(turns), frozenset(steps))]
+
+    def test_a_short_story_is_told_whole(self):
+        self.assertEqual(self.shown(self.turn(*[OWN] * MOST_ROWS)), [(True, list(range(MOST_ROWS)))])
+
+    def test_what_is_a_threads_own_is_left_out_first(self):
+        self.assertEqual(self.shown(self.turn(SHARED, *[OWN] * 60, SHARED, KEY)), [(True, [0, 60, 61, 62])])
+
+    def test_two_rows_beside_a_switch_and_what_matters_are_told(self):
+        ranks = [SHARED] * 60
+        ranks[20] = KEY
+        self.assertEqual(self.shown(self.turn(*ranks), steps=[30]), [(True, [0, 1, 18, 20, 9, 30, 27, 58, 59])])
+
+    def test_turns_in_the_middle_are_left_out(self):
+        turns = [self.turn(SHARED, SHARED)] * 40
+        turns[20] = Turn(Context(2, 0), "work", [Row("frees", "b", rank=KEY, step=99)], False)
+        shown = self.shown(*turns, steps=[99])
+        self.assertEqual([rows for is_turn, rows in shown if not is_turn], [8, 7])
+        self.assertEqual(shown[13], (True, [99]))
 
 
 class Clock(unittest.TestCase):
