@@ -97,8 +97,9 @@ class Heap:
         self.blocks, self.counts = [], {}
 
     def look(self, call):
-        if call.name in TAKING_BACK and call.arguments[0]:
-            self.blocks = [b._replace(freed=call) if b.addr == call.arguments[0] else b for b in self.blocks]
+        if call.name in TAKING_BACK and call.arguments[0]:  # which is in the middle of the block if aligned_alloc has given it
+            self.blocks = [b._replace(freed=call) if b.freed is None and b.addr <= call.arguments[0] < b.addr + max(b.size, 4) else b
+                           for b in self.blocks]
         if call.name in GIVING and call.result:
             count = self.counts[call.at] = self.counts.get(call.at, 0) + 1
             self.blocks = [b for b in self.blocks if b.addr != call.result]
