@@ -216,12 +216,12 @@ static struct hash hash_when_left(struct run *r, uint32_t number) {
     return mixed(h.a + number, h.b);
 }
 
-static void keep_loop(struct run *r, uint64_t length, const struct looks *looks, enum waiting how) {
+static void keep_loop(struct run *r, uint64_t length, const struct loop *loop) {
     struct machine *m = &r->machine;
     if (how_waits(hash_when_left(r, r->current), m) != IS_UNKNOWN)
         return;
     for (uint64_t j = 0; j < length; j++) {
-        keep_waiting(hash_when_left(r, r->current), looks, m, how);
+        keep_waiting(hash_when_left(r, r->current), loop, m);
         take_step(r, next_of(m, &m->threads[r->current]));
     }
 }
@@ -229,10 +229,12 @@ static void keep_loop(struct run *r, uint64_t length, const struct looks *looks,
 static void wait_here(struct run *r) {
     bool pure = r->machine.stores == r->mark_stores;
     uint64_t length = r->mark_age + 1;
-    struct looks looks = {.at_all = !pure};
-    look_around(r, length, &looks);
+    struct loop loop = {.looks = {.at_all = !pure}};
+    look_around(r, length, &loop.looks);
+    loop.known = knowledge();
     uint32_t places = settle(r, length);
-    keep_loop(r, length, &looks, !pure ? WAITS_WITH_STORES : places > 1 ? WAITS_AROUND : WAITS_AT_ONE_PLACE);
+    loop.how = !pure ? WAITS_WITH_STORES : places > 1 ? WAITS_AROUND : WAITS_AT_ONE_PLACE;
+    keep_loop(r, length, &loop);
 }
 
 enum waiting waiting_of(struct run *r, uint32_t thread) {
