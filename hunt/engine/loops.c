@@ -175,9 +175,12 @@ void keep_waiting(struct hash thread, const struct loop *loop, const struct mach
     forget_old();
     if (known_then != loop->known)
         return;
-    keep(&f);
-    if (tells)
-        put_fact(&f);
+    if (!tells) {
+        keep(&f);
+        return;
+    }
+    put_fact(&f);
+    learn_what_was_told();
 }
 
 enum waiting how_waits(struct hash thread, const struct machine *m) {

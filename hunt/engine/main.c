@@ -11,6 +11,7 @@
 #include "priorities.h"
 #include "run.h"
 #include "saved.h"
+#include "scouts.h"
 #include "search.h"
 #include "segments.h"
 #include "sharing.h"
@@ -290,6 +291,7 @@ static void take_line(char *line) {
     else if (strcmp(line, "stamp") == 0) begin_saved_with(rest);
     else if (strcmp(line, "save") == 0) take_save(rest);
     else if (strcmp(line, "resume") == 0) resume_from(copy_of(rest));
+    else if (strcmp(line, "scouts") == 0) set_scouts((int)strtol(rest, NULL, 10));
     else if (strcmp(line, "keep") == 0) keep_at_most(strtoul(rest, NULL, 10));
     else if (strcmp(line, "turn") == 0) take_turn(rest);
     else if (strcmp(line, "search") == 0) do_search(rest);

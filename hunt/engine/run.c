@@ -1,5 +1,6 @@
 #include "run.h"
 
+#include "crew.h"
 #include "segments.h"
 #include "sharing.h"
 
@@ -230,10 +231,14 @@ static void wait_here(struct run *r) {
     bool pure = r->machine.stores == r->mark_stores;
     uint64_t length = r->mark_age + 1;
     struct loop loop = {.looks = {.at_all = !pure}};
+    uint32_t before = changes_begun();
     look_around(r, length, &loop.looks);
+    delay("around");
     loop.known = knowledge();
     uint32_t places = settle(r, length);
     loop.how = !pure ? WAITS_WITH_STORES : places > 1 ? WAITS_AROUND : WAITS_AT_ONE_PLACE;
+    if (crew_size() > 1 && changes_begun() != before) /* a word that was looked at may be shared by now; the search begins again */
+        return;
     keep_loop(r, length, &loop);
 }
 

@@ -33,6 +33,7 @@ static struct counter tries;
 static atomic_flag lock = ATOMIC_FLAG_INIT;
 static struct list later; /* to be tried with one forced switch more */
 static struct run *found; /* the run that ends badly, or NULL */
+static uint32_t changes_before; /* when the crew began */
 
 /* Of each of the crew. What it has put off, and counted, is added to the whole when it comes back. */
 static _Thread_local struct run *run;
@@ -289,6 +290,10 @@ static bool must_come_back(void) {
     return is_stopped() || limit_is_met(&limit) || save_is_due();
 }
 
+/* Somebody has found a word that is shared, or a places' word: all runs are given up. A run that is done once more comes to other stops by
+   now, so it isn't to part there. */
+static bool is_outdated(void) { return changes_begun() != changes_before; }
+
 /* ---------------------------------------------------------------- a trial */
 
 static void go_past(struct trial *t, enum stop stop, bool *past) {
@@ -335,7 +340,7 @@ static enum result go_to_end(struct trial *t) {
     bool past = false;
     while (result == GOES_ON) {
         enum stop stop = go_to_stop(t, &past);
-        if (has_news())
+        if (is_outdated())
             return IS_OVER; /* the search begins again */
         if (stop == AT_LIMIT) {
             close_turn();
@@ -435,6 +440,8 @@ static enum result try_tree(struct trial *t) {
     uint32_t from = t->stop, next = first_part(t->item), item;
     while ((item = next) != NO_ITEM && result == IS_DONE) {
         stop = go_on_to(t, item_of(item).stop, from, stop);
+        if (is_outdated())
+            return IS_OVER;
         next = next_part(item);
         if (next != NO_ITEM) {
             result = can_keep() ? try_apart(t, item, end_at[stop]) : IS_DONE;
@@ -593,7 +600,7 @@ static void go_on_from_file(void) {
 
 static enum finish go_through(void) {
     enum finish limit;
-    for (uint32_t known = knowledge();;) {
+    for (;;) {
         if (work_left()->count == 0) {
             struct standing s = standing();
             tell_bound(&s);
@@ -609,12 +616,12 @@ static enum finish go_through(void) {
         if (save_is_due())
             save();
         allow_work();
+        changes_before = changes_begun();
         together(work);
         drop_former_tables();
         if (found != NULL)
             return FOUND;
-        if (knowledge() != known) {
-            known = knowledge();
+        if (is_outdated()) {
             tally->restarts++;
             start_over();
         }

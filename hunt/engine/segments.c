@@ -1,5 +1,6 @@
 #include "segments.h"
 
+#include "crew.h"
 #include "sharing.h"
 
 #include <stdatomic.h>
@@ -17,14 +18,14 @@ static _Thread_local bool news, at_place, learns = true;
 static _Thread_local uint32_t known_then; /* when the run began */
 /* Of all runs: */
 static _Atomic uint8_t *place;
-static _Atomic uint32_t place_words;
+static _Atomic uint32_t place_words, changes;
 static bool all_places = true;
 
 /* ---------------------------------------------------------------- places */
 
 void every_shared_word_is_a_place(bool all) { all_places = all; }
 
-bool is_made_place(uint32_t address) { return atomic_load_explicit(&place[address / 4], memory_order_relaxed); }
+bool is_made_place(uint32_t address) { return atomic_load_explicit(&place[address / 4], memory_order_acquire); }
 
 bool is_place_word(uint32_t address) { return is_made_place(address) || (all_places && is_shared(address)); }
 
@@ -32,9 +33,16 @@ uint32_t place_word_count(void) { return all_places ? shared_count() : place_wor
 
 uint32_t knowledge(void) { return shared_count() + place_words; }
 
+uint32_t changes_begun(void) { return changes; }
+
+void begin_change(void) { changes++; }
+
 bool has_news(void) { return news || known_then != knowledge(); }
 
-void tell_news(void) { news = true; }
+void tell_news(void) {
+    news = true;
+    delay("news");
+}
 
 void learn(bool so) { learns = so; }
 
@@ -48,8 +56,9 @@ void put_place(uint32_t address) {
 void make_place(uint32_t address) {
     if (!learns || all_places || is_made_place(address))
         return;
+    begin_change();
     put_place(address);
-    news = true;
+    tell_news();
 }
 
 /* ---------------------------------------------------------------- segments */

@@ -22,6 +22,9 @@ uint32_t place_word_count(void);
 /* Grows with each word that is found to be shared, or a place's, by whomever of the crew. */
 uint32_t knowledge(void);
 bool has_news(void); /* of this run, or of another one of the crew since this one began */
+/* Grows before anybody can see that such a word is one. So whoever finds that it is as it was has seen none of what came meanwhile. */
+uint32_t changes_begun(void);
+void begin_change(void);
 void tell_news(void);
 /* Whether runs are to be learned from, as they are unless this says otherwise. */
 void learn(bool so);

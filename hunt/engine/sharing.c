@@ -23,7 +23,7 @@ void start_sharing(uint32_t size) {
     start_places(size);
 }
 
-static struct touchers of(uint32_t address) { return atomic_load_explicit(&touchers[address / 4], memory_order_relaxed); }
+static struct touchers of(uint32_t address) { return atomic_load_explicit(&touchers[address / 4], memory_order_acquire); }
 
 bool is_shared(uint32_t address) { return of(address).shared; }
 
@@ -51,6 +51,7 @@ static void share(uint32_t address) {
             return;
         after = t;
         after.shared = true;
+        begin_change();
     } while (!is_changed(address, &t, after));
     count++;
     tell_news();

@@ -2,6 +2,8 @@
 them wait at points of the engine that it names, so that they do."""
 
 import os
+import pty
+import re
 import signal
 import subprocess
 import time
@@ -49,6 +51,15 @@ class SameEnds(unittest.TestCase):
                 with delayed(delays):
                     self.assertEqual(met_ends(image, FEW, "jobs %d" % jobs), expected, (place, jobs, delays))
         self.assertGreater(hangs, 2)
+
+    def test_news(self):
+        """No runs before the search find out which words are shared. So the search begins again and again, and whoever finds such a word is
+        slow to say so. Or another one finds it while a loop is looked at."""
+        for place, image in enumerate(list(self.programs())[:9]):
+            expected = met_ends(image, FEW)
+            for delays in "news:*:2000,take:*:+200", "around:*:2000,news:*:+1000":
+                with delayed(delays):
+                    self.assertEqual(met_ends(image, FEW, "jobs 4", "scouts 0"), expected, (place, delays))
 
     def test_few_kept(self):
         """Those that can't part are given to the others."""
@@ -106,6 +117,25 @@ class Verdicts(unittest.TestCase):
             status, said = command("search", file.name, 4096, "--bad", "fault", "--out", os.devnull, "--steps", 5000, "--jobs", 2)
         self.assertEqual(status, 1, said)
 
+    def test_progress(self):
+        """On a terminal a line tells each second how it is, each one in place of the last. Elsewhere there is none."""
+        words = [support.TOP / "hunt/search", RACE / "mended.elf", "4096", "--bad", "exit 0 != 0", "--out", os.devnull, "--jobs", "2"]
+        ours, terminal = pty.openpty()
+        with delayed("place:*:2500"):
+            began = time.monotonic()
+            told = subprocess.run(words, stdout=subprocess.PIPE, stderr=terminal, text=True).stdout
+            seconds = time.monotonic() - began
+        os.close(terminal)
+        shown = read_all(ours)
+        lines = re.findall(r"\r(with[^\r]*)", shown)
+        self.assertTrue(1 <= len(lines) <= seconds, (seconds, shown))
+        for line in lines:
+            self.assertRegex(line, r"^with(out a| \d) forced( switch)?: \d+ runs?, \d+ states?, \d+ places? so far, \d+ s; "
+                                   r"\d+ of this bound's \d+ ways? not begun *$")
+        self.assertRegex(shown, r"\r *\r$")
+        self.assertNotIn("begun", told)
+        self.assertEqual(subprocess.run(words, capture_output=True, text=True).stderr, "")
+
     def test_refused(self):
         for words in ("--jobs", "0"), ("--jobs", "65"), ("--jobs", "2", "--strategy", "pct"):
             self.assertEqual(command("search", RACE / "race.elf", 4096, "--bad", "hang", "--out", os.devnull, *words)[0], 2, words)
@@ -119,6 +149,17 @@ class Verdicts(unittest.TestCase):
         said, _ = search.communicate()
         self.assertEqual(search.returncode, 2, said)
         self.assertNotIn("no order", said)
+
+
+def read_all(terminal):
+    """What was written to it, once nobody else has it open."""
+    text = b""
+    while True:
+        try:
+            text += os.read(terminal, 4096)
+        except OSError:
+            os.close(terminal)
+            return text.decode()
 
 
 def engine_of(pid):
