@@ -42,6 +42,7 @@ static struct hash key_of(struct hash state, uint32_t thread, uint32_t how) {
 /* The states at places of the present turn, since the path's end. */
 static struct hash *turn_keys;
 static size_t turn_key_count, turn_key_room;
+static bool turn_goes_round; /* it came to one of them again, so it comes to no others any more */
 
 static void keep_key(struct hash key) {
     if (turn_key_count == turn_key_room) {
@@ -51,12 +52,16 @@ static void keep_key(struct hash key) {
     turn_keys[turn_key_count++] = key;
 }
 
-/* Whether the present turn was in this state before: then the thread is in a loop, and soon seen to wait. */
+/* Whether the present turn was in this state before: then the thread is in a loop, and will be seen to wait. */
 static bool is_in_turn(struct hash key) {
-    for (size_t j = turn_key_count; j > 0; j--)
-        if (same_hash(turn_keys[j - 1], key))
-            return true;
-    return false;
+    for (size_t j = turn_key_count; j > 0 && !turn_goes_round; j--)
+        turn_goes_round = same_hash(turn_keys[j - 1], key);
+    return turn_goes_round;
+}
+
+static void forget_turn(void) {
+    turn_key_count = 0;
+    turn_goes_round = false;
 }
 
 /* With what each thread has touched in its segment, so that the conflicts that can come are the same too. */
@@ -72,14 +77,19 @@ static struct hash state_after_chunk(void) {
     return state;
 }
 
-enum { AT_PLACE_KEY, COMING, AFTER_CUT };
+enum { AT_PLACE_KEY, COMING, AFTER_CUT, GOING_ON };
 
 /* ---------------------------------------------------------------- choices */
+
+static void comes(struct trial *t) {
+    t->fresh = true;
+    t->touches_then = touch_count();
+}
 
 static void take_choice(struct trial *t, uint32_t choice, enum turn_end end) {
     uint32_t current = run->current;
     end_turn(run, end);
-    turn_key_count = 0;
+    forget_turn();
     if (choice == CUT) {
         begin_turn(run, current);
         return;
@@ -94,8 +104,7 @@ static void take_choice(struct trial *t, uint32_t choice, enum turn_end end) {
         return;
     }
     begin_turn(run, choice);
-    t->fresh = true;
-    t->touches_then = touch_count();
+    comes(t);
 }
 
 /* Whether the current thread has touched nothing that others touch since it came. */
@@ -239,9 +248,13 @@ static bool limit_is_met(enum finish *which) {
 
 /* ---------------------------------------------------------------- a trial */
 
+/* Who has had its steps is as if it came anew, since others could come for nothing. */
 static void go_past(struct trial *t, enum stop stop, bool *past) {
-    t->fresh = t->fresh && stop == AT_INTERRUPTIBLE;
-    *past = true;
+    *past = stop != AT_SPENT;
+    if (stop == AT_SPENT)
+        comes(t);
+    else
+        t->fresh = t->fresh && stop == AT_INTERRUPTIBLE;
 }
 
 /* At a place, or where an interrupt may come. The current thread goes on past it. */
@@ -268,6 +281,7 @@ static enum stop go_to_stop(struct trial *t, bool *past) {
 }
 
 static enum result choose(struct trial *t, enum turn_end end);
+static enum result at_spent(struct trial *t, bool *past);
 
 /* On to the run's end, and to those of all that parts from it for nothing. */
 static enum result go_to_end(struct trial *t) {
@@ -286,7 +300,9 @@ static enum result go_to_end(struct trial *t) {
         else if (is_bad_already(run, bad)) {
             end_turn(run, end_at[stop]);
             result = IS_BAD;
-        } else
+        } else if (stop == AT_SPENT)
+            result = at_spent(t, &past);
+        else
             result = choose(t, end_at[stop]);
     }
     if (t->places > tally->most_places)
@@ -323,6 +339,50 @@ static enum result try_apart(const struct trial *parent, uint32_t item, enum tur
     return result;
 }
 
+/* Those that could come here for nothing, and where that is new, as items. */
+static void add_choices(const struct trial *t, struct hash state) {
+    for (uint32_t c = 0; c < RAISE + run->raise_count; c = choice_after(c))
+        if (c != run->current && is_choice(c) && is_new(key_of(state, c, COMING), tally->bound))
+            new_item(t, c);
+}
+
+/* The items from here on are tried now; or later, if the search is over or no more runs can be kept. */
+static enum result try_items(const struct trial *t, uint32_t item, uint32_t count, enum turn_end end, enum result result) {
+    for (; item < count && result == IS_DONE && can_keep(); item++)
+        result = try_apart(t, item, end);
+    for (; item < count; item++)
+        push(&now, item);
+    return result;
+}
+
+/* The current thread has had its steps. Others may come, for nothing. Before they do, it goes on in the same turn, to its end: so the
+   turn that is the first in a loop sees it, and isn't left because others have been in its states meanwhile. */
+static enum result at_spent(struct trial *t, bool *past) {
+    struct hash state = state_after_chunk(), key = key_of(state, run->current, GOING_ON);
+    uint32_t item = item_count();
+    if (is_new(key, tally->bound))
+        keep_key(key);
+    else if (!is_in_turn(key))
+        return IS_DONE;
+    is_new(key_of(state, run->current, COMING), tally->bound); /* whoever comes to this is here */
+    add_choices(t, state);
+    uint32_t count = item_count();
+    struct trial on = *t;
+    bool keeps = item < count && can_keep();
+    if (keeps)
+        keep_run(run);
+    else
+        try_items(t, item, count, SPENT, IS_OVER);
+    go_past(keeps ? &on : t, AT_SPENT, past);
+    if (!keeps)
+        return GOES_ON;
+    enum result result = go_to_end(&on);
+    if (result == IS_DONE)
+        take_back_run(run);
+    drop_run();
+    return try_items(t, item, count, SPENT, result);
+}
+
 /* No thread goes on: others are chosen, for nothing. The last new choice is gone on with here. */
 static enum result choose(struct trial *t, enum turn_end end) {
     enum result result = IS_DONE;
@@ -330,17 +390,12 @@ static enum result choose(struct trial *t, enum turn_end end) {
     end_turn(run, end);
     if (is_leaf() && at_leaf() == IS_BAD)
         return IS_BAD;
-    struct hash state = whole_state();
-    for (uint32_t c = 0; c < RAISE + run->raise_count; c = choice_after(c))
-        if (is_choice(c) && is_new(key_of(state, c, COMING), tally->bound))
-            new_item(t, c);
+    add_choices(t, whole_state());
     uint32_t count = item_count();
     if (item == count)
         return IS_DONE;
-    for (; item + 1 < count && result == IS_DONE && can_keep(); item++)
-        result = try_apart(t, item, end);
-    for (; item + 1 < count; item++)
-        push(&now, item);
+    result = try_items(t, item, count - 1, end, result);
+    item = count - 1;
     if (result != IS_DONE) {
         push(&now, item);
         return result;
@@ -385,7 +440,7 @@ static enum result try_some(void) {
     now.count = first;
     start_run(run);
     begin_turn(run, 0);
-    turn_key_count = 0;
+    forget_turn();
     enum result result = try_tree(&t);
     put_back(&now);
     return result;
