@@ -84,7 +84,7 @@ def is_same(least, shrunk):
 
 def variables(shrunk):
     """The marks, with the variables that the words are of: an array is one."""
-    return {(pc, word if word is None else shrunk.trace.names.name(word).partition("+")[0]) for pc, word in shrunk.marks}
+    return {(pc, word if word is None else shrunk.trace.names.whole_name(word)) for pc, word in shrunk.marks}
 
 
 def in_turns(finds):

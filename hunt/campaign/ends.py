@@ -45,6 +45,11 @@ def is_live(ended):
     return any(status == "live" for status, _ in ended.threads)
 
 
+def is_over(account, ended):
+    """Whether more events change nothing: all threads have ended or faulted, and no DMA is asked for."""
+    return not is_live(ended) and account.find(b"\nd ", account.rfind(b"\nt 0 ")) < 0
+
+
 def threads_text(ended):
     """The ends of all threads in few letters, as `0:0 0:0 fault:5 live`: ended:0 is `0`, and equal ones that follow are told
     once with their number."""

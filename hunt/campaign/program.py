@@ -107,6 +107,12 @@ class Runner:
             raise Failed(ran.told())
         return self.read("said")
 
+    def walk_bytes(self, image, memory, data):
+        """The account of the walk of a log's bytes."""
+        with open(self.path("walked"), "wb") as file:
+            file.write(data)
+        return self.walk(image, memory, self.path("walked"))
+
     def read(self, name):
         with open(self.path(name), "rb") as file:
             return file.read()

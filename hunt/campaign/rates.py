@@ -31,9 +31,9 @@ def rate_of(name, tries, bad):
 
 
 def by_setting(rows):
-    """The Rates of settings, those that fail most first. rows: (name, tries, bad)."""
+    """The Rates of settings, those that fail most first, and alike ones in the order of the rows. rows: (name, tries, bad)."""
     rates = [rate_of(*row) for row in rows]
-    return sorted(rates, key=lambda rate: (-rate.bad / max(rate.tries, 1), -rate.tries, rate.name))
+    return sorted(rates, key=lambda rate: (-rate.bad / max(rate.tries, 1), -rate.tries))
 
 
 def by_value(rows):

@@ -20,7 +20,7 @@ from .bugs import Grouping
 from .identity import files_sum
 from .rates import by_setting, by_value, rate_of, seeds_for
 from .store import open_folder
-from .trying import OUTCOMES, Campaign, condition_of
+from .trying import HUNG, OUTCOMES, Campaign, condition_of
 
 SHOWN = 12  # settings, at most
 
@@ -58,7 +58,7 @@ def rates_text(rows):
 
 def needed_text(rate):
     if rate.bad == 0:
-        yield "no run failed; so, with 95%%, at most %s of runs do" % percent(rate.high)
+        yield "no run was bad; so, with 95%%, at most %s of runs are" % percent(rate.high)
         if rate.high < 1:
             yield "a failure that is as frequent as that is met by %s with 95%%" % counted(seeds_for(rate.high), "further seed")
     else:
@@ -122,6 +122,8 @@ def report(given):
             raise Refused("nothing was tried yet")
         print("seeds %d to %d: %d tries, %s" % (*seeds, sum(counts), ", ".join("%d %s" % pair for pair in zip(counts, OUTCOMES))))
         print("\n".join(rates_text(store.rates())))
+        if counts[HUNG]:
+            print("%s hung, which isn't counted as bad here; with --bad hang it is" % counted(counts[HUNG], "run"))
         finds = store.finds()
         if finds and given.seconds > 0:
             for line in bugs_text(given.folder, grouping_of(store, given.seconds), finds):

@@ -13,7 +13,8 @@ from lib.searching import Refused
 from lib.symbols import Names, NoWord
 
 from . import plans
-from .ends import console_sum, ended_of, is_live, memory_of, rows_of, threads_text
+from .ends import console_sum, ended_of, is_live, is_over, memory_of, rows_of, threads_text
+from .enough import Enough, last_commit
 from .hangs import Hangs
 from .program import Failed, Runner, explained
 
@@ -66,44 +67,78 @@ class Trier:
         self.rows = rows_of(self.condition)
         self.runner = Runner(campaign.program, folder)
         self.early = None  # a Runner too, from the first hang on
-        self.hangs = Hangs(self.sphere, self.image, self.plan.values.get("input"))
-        self.texts = {}
+        self.early_run = None, b""  # of what its last run was, and the account
+        self.hangs = Hangs(self.sphere, self.image, self.plan.values.get("input"), self.runner)
+        self.enough, self.texts = Enough(), {}
 
     def tried(self, number, seed):
         """The Result of a seed with the setting of this number."""
         events = plans.events_of(self.plan, self.campaign.settings[number])
-        while True:
+        result = self.tried_short(number, seed, events)
+        while result is None:
             result = self.tried_once(number, seed, events)
-            if result is not None:
-                return result
-            events = min(max(events, 1) * MORE, self.campaign.most_events)
+            events = self.more(events)
+        return result
+
+    def more(self, events):
+        return min(max(events or 0, 1) * MORE, self.campaign.most_events)
+
+    def tried_short(self, number, seed, events):
+        """The Result that all events would have, by a run with as many as were enough so far; None if all are needed."""
+        few = self.enough.first(number, events)
+        if few is None:
+            return None
+        account = self.run(number, seed, few)
+        ended = ended_of(account, self.rows)
+        if is_over(account, ended):
+            result = self.ended(number, seed, few, ended)
+            return result._replace(events=events)
+        return self.tried_early(number, seed, events, account, few) if is_live(ended) else None
+
+    def ended(self, number, seed, events, ended):
+        """The Result of a run all of whose threads have ended."""
+        if ended.meets(self.condition, True):
+            return self.found(BAD, number, seed, events, ended)
+        return result_of(GOOD, events, ended)
 
     def tried_once(self, number, seed, events):
         """None if it is to be tried with more events."""
         account = self.run(number, seed, events)
         ended = ended_of(account, self.rows)
-        live = is_live(ended)
-        if ended.meets(self.condition, not live):
+        if not is_live(ended):
+            if self.enough.wants(number, events):
+                self.enough.look(number, self.runner.read("report"), self.plan.number)
+            return self.ended(number, seed, events, ended)
+        if ended.meets(self.condition, False):
             return self.found(BAD, number, seed, events, ended)
-        if not live:
-            return result_of(GOOD, events, ended)
-        return self.tried_early(number, seed, events, account) or self.tried_live(number, seed, events, ended)
+        return (self.tried_early(number, seed, events, account) or self.tried_live(number, seed, events, ended)
+                or self.tried_early(number, seed, self.more(events), account, events))
 
-    def tried_early(self, number, seed, events, account):
+    def tried_early(self, number, seed, events, account, few=None):
         """The Result of a run that had come to its hang after a few of its events: nothing in the memory has changed since. It has
-        these events, and the log that is short."""
-        few = (events or 0) // EARLY
-        if few < LEAST_EARLY:
+        these events, and the log that is short. The account is that of the run with all events; or with `few` of them, and then
+        the hang must be for ever."""
+        early = (events or 0) // EARLY
+        if early < LEAST_EARLY or (few and max(early, few) < 2 * min(early, few)):
             return None
+        known = self.early_account(number, seed, early)
+        if memory_of(known) != memory_of(account):
+            return None
+        hang = self.hangs.of(self.early.read("log"), known, seed)
+        if not hang or not hang.is_own or (few and not (hang.is_for_ever and not hang.ended.meets(self.condition, False))):
+            return None
+        return self.hung(early, hang)
+
+    def early_account(self, number, seed, events):
+        """The account of a run whose log is then in the folder of the early ones."""
         if self.early is None:
             folder = Path(self.runner.folder) / "early"
             folder.mkdir()
             self.early = Runner(self.campaign.program, folder)
-        if memory_of(self.run(number, seed, few, True, self.early)) != memory_of(account):
-            return None
-        log = self.early.read("log")
-        hang = self.hangs.of(log, seed)
-        return self.hung(few, hang) if hang and hang.is_own else None
+        if self.early_run[0] != (number, seed, events):
+            self.early_run = None, b""
+            self.early_run = (number, seed, events), self.run(number, seed, events, True, self.early)
+        return self.early_run[1]
 
     def hung(self, events, hang):
         return result_of(BAD if hang.ended.meets(self.condition, True) else HUNG, events, hang.ended, hang.log)
@@ -146,11 +181,8 @@ class Trier:
 
     def commits_late(self, events):
         """Whether any commit of the sphere came in the second half of the events: if not, more of them bring none."""
-        sphere = b" %d " % self.plan.number
-        for line in reversed(self.runner.read("report").split(b"\n")):
-            if line.startswith(b"g ") and line[line.index(b" ", 2) :].startswith(sphere):
-                return int(line.split(b" ", 2)[1]) >= events // 2
-        return False
+        last = last_commit(self.runner.read("report"), self.plan.number)
+        return last is not None and last >= events // 2
 
     def whole_run(self, number, seed, events):
         """The log and the account of a run that has just been done; if it was recorded in epochs, it is done again without."""
@@ -168,7 +200,7 @@ class Trier:
         return result_of(outcome, events, ended, log)
 
     def hang(self, number, seed, events):
-        return self.hangs.of(self.whole_run(number, seed, events)[0], seed)
+        return self.hangs.of(*self.whole_run(number, seed, events), seed)
 
 
 def result_of(outcome, events, ended, log=None):

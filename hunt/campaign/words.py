@@ -64,6 +64,9 @@ def read(words):
     for option in ("resume", "slurm"):
         if getattr(given, option) and given.keep is None:
             raise Refused("--%s needs --keep, the folder of the campaign" % option)
+    for option in ("stop_after", "sshlogin", "sshloginfile"):
+        if given.slurm and getattr(given, option):
+            raise Refused("--slurm and --%s don't go together" % option.replace("_", "-"))
     return given
 
 

@@ -272,10 +272,16 @@ static void tell_size(uint64_t *size) {
     *size = 0;
 }
 
-/* A thread's loop from the end on, as sizes of commits with their answers. A chunk ends after each store, so that a walk can
-   show what memory is then. */
+/* A chunk ends after each store, so that a walk can show what memory is then. It ends too before it is too long, and early, so that an LR
+   mostly isn't parted from its SC. */
+static bool ends_chunk(const struct thread *t, bool stores, uint64_t size) {
+    uint32_t longest = run->machine.setup->longest_chunk;
+    return stores || size == longest || (size >= longest / 2 && t->reservation == NO_RESERVATION);
+}
+
+/* A thread's loop from the end on, as sizes of commits with their answers. */
 static void emit_loop(uint32_t thread) {
-    enum { LONGEST_LOOP = 10000 };
+    enum { LONGEST_LOOP = 1000000 };
     struct machine *m = &run->machine;
     struct thread *t = &m->threads[thread];
     struct hash from = state_of(run);
@@ -298,7 +304,7 @@ static void emit_loop(uint32_t thread) {
             continue;
         }
         size++;
-        if (stores) {
+        if (ends_chunk(t, stores, size)) {
             tell_size(&size);
             end_chunk(t);
         }

@@ -8,6 +8,7 @@ enum { MOST_KEPT = 1000 };
 
 struct kept_run {
     struct run run;
+    struct turn last; /* of its turns */
     struct kept_segments segments;
 };
 
@@ -24,6 +25,7 @@ void keep_run(const struct run *r) {
         kept[count] = room(1, sizeof **kept);
     struct kept_run *k = kept[count++];
     k->run = *r;
+    k->last = r->turns[r->turn_count - 1];
     keep_segments(&k->segments);
 }
 
@@ -34,7 +36,7 @@ static void take_back_memory(struct machine *m, size_t journal_length) {
     }
 }
 
-/* What has grown meanwhile isn't given back. Of turns the last one is as its end finds it. */
+/* What has grown meanwhile isn't given back. Turns before the last one haven't changed. */
 void take_back_run(struct run *r) {
     const struct kept_run *k = kept[count - 1];
     struct run grown = *r;
@@ -42,6 +44,7 @@ void take_back_run(struct run *r) {
     *r = k->run;
     r->turns = grown.turns;
     r->turn_room = grown.turn_room;
+    r->turns[r->turn_count - 1] = k->last;
     r->machine.journal = grown.machine.journal;
     r->machine.journal_room = grown.machine.journal_room;
     r->machine.console = grown.machine.console;

@@ -42,6 +42,7 @@ void begin_turn(struct run *r, uint32_t actor) {
     r->seats[actor] = (struct hash){0, 0};
     r->current = actor;
     r->still_turn = 0;
+    r->spent_at = r->turn_limit;
     r->mark_power = 1;
     set_mark(r);
 }
@@ -253,9 +254,12 @@ enum waiting waiting_of(struct run *r, uint32_t thread) {
 }
 
 /* A turn isn't ended for nothing as long as an SC could ask for its reservation. */
-static bool is_spent(const struct run *r) {
-    return r->turns[r->turn_count - 1].steps >= r->turn_limit
-           && reservation_age(&r->machine, &r->machine.threads[r->current]) == 0;
+static bool is_spent(struct run *r) {
+    uint64_t steps = present(r)->steps;
+    if (steps < r->spent_at || reservation_age(&r->machine, &r->machine.threads[r->current]) != 0)
+        return false;
+    r->spent_at = steps + r->turn_limit;
+    return true;
 }
 
 /* One step, then how it stands. AT_PLACE means that nothing has ended. */

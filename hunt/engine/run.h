@@ -37,6 +37,7 @@ struct run {
     struct turn *turns;
     size_t turn_count, turn_room;
     uint64_t turn_limit, step_limit;
+    uint64_t spent_at; /* the steps of the present turn after which others may come for nothing */
     /* Where the present turn is looked at for a state that comes again: after 1, 2, 4, .. steps. */
     struct thread mark;
     struct hash mark_memory;

@@ -62,6 +62,7 @@ static struct hash key_of(struct hash state, uint32_t thread, uint32_t how) {
 /* The states at places of the present turn that it was the first to meet, since the path's end. */
 static _Thread_local struct hash *turn_keys;
 static _Thread_local size_t turn_key_count, turn_key_room;
+static _Thread_local bool turn_goes_round; /* it came to one of them again, so it comes to no new ones any more */
 
 static void keep_key(struct hash key) {
     if (turn_key_count == turn_key_room) {
@@ -71,12 +72,16 @@ static void keep_key(struct hash key) {
     turn_keys[turn_key_count++] = key;
 }
 
-/* Whether the present turn was the first in this state: then the thread is in a loop, and soon seen to wait. */
+/* Whether the present turn was the first in this state: then the thread is in a loop, and will be seen to wait. */
 static bool is_in_turn(struct hash key) {
-    for (size_t j = turn_key_count; j > 0; j--)
-        if (same_hash(turn_keys[j - 1], key))
-            return true;
-    return false;
+    for (size_t j = turn_key_count; j > 0 && !turn_goes_round; j--)
+        turn_goes_round = same_hash(turn_keys[j - 1], key);
+    return turn_goes_round;
+}
+
+static void forget_turn(void) {
+    turn_key_count = 0;
+    turn_goes_round = false;
 }
 
 /* The turn has come to its end, or to where another one has gone on to its end. Only now nobody else need go on from its states. */
@@ -99,14 +104,19 @@ static struct hash state_after_chunk(void) {
     return state;
 }
 
-enum { AT_PLACE_KEY, COMING, AFTER_CUT };
+enum { AT_PLACE_KEY, COMING, AFTER_CUT, GOING_ON };
 
 /* ---------------------------------------------------------------- choices */
+
+static void comes(struct trial *t) {
+    t->fresh = true;
+    t->touches_then = touch_count();
+}
 
 static void take_choice(struct trial *t, uint32_t choice, enum turn_end end) {
     uint32_t current = run->current;
     end_turn(run, end);
-    turn_key_count = 0;
+    forget_turn();
     if (choice == CUT) {
         begin_turn(run, current);
         return;
@@ -121,8 +131,7 @@ static void take_choice(struct trial *t, uint32_t choice, enum turn_end end) {
         return;
     }
     begin_turn(run, choice);
-    t->fresh = true;
-    t->touches_then = touch_count();
+    comes(t);
 }
 
 /* Whether the current thread has touched nothing that others touch since it came. */
@@ -296,9 +305,13 @@ static bool is_outdated(void) { return changes_begun() != changes_before; }
 
 /* ---------------------------------------------------------------- a trial */
 
+/* Who has had its steps is as if it came anew, since others could come for nothing. */
 static void go_past(struct trial *t, enum stop stop, bool *past) {
-    t->fresh = t->fresh && stop == AT_INTERRUPTIBLE;
-    *past = true;
+    *past = stop != AT_SPENT;
+    if (stop == AT_SPENT)
+        comes(t);
+    else
+        t->fresh = t->fresh && stop == AT_INTERRUPTIBLE;
 }
 
 /* At a place, or where an interrupt may come. The current thread goes on past it, except if a turn has come to its end from here. If
@@ -333,6 +346,7 @@ static enum stop go_to_stop(struct trial *t, bool *past) {
 }
 
 static enum result choose(struct trial *t, enum turn_end end);
+static enum result at_spent(struct trial *t, bool *past);
 
 /* On to the run's end, and to those of all that parts from it for nothing. */
 static enum result go_to_end(struct trial *t) {
@@ -351,7 +365,9 @@ static enum result go_to_end(struct trial *t) {
         else if (is_bad_already(run, bad)) {
             end_turn(run, end_at[stop]);
             result = IS_BAD;
-        } else
+        } else if (stop == AT_SPENT)
+            result = at_spent(t, &past);
+        else
             result = choose(t, end_at[stop]);
     }
     if (t->places > counts.most_places)
@@ -388,39 +404,74 @@ static enum result try_apart(const struct trial *parent, uint32_t item, enum tur
     return result;
 }
 
-/* The ways to go on from a turn's end, which are new. */
+/* The ways to go on from here for nothing, which are new. */
 struct ways {
     uint32_t items[MOST_THREADS + 1 + MOST_RAISES];
     uint32_t count;
 };
 
-static void find_ways(const struct trial *t, struct ways *ways) {
-    struct hash state = whole_state();
+static void find_ways(const struct trial *t, struct hash state, struct ways *ways) {
     ways->count = 0;
     for (uint32_t c = 0; c < RAISE + run->raise_count; c = choice_after(c))
-        if (is_choice(c) && is_new(key_of(state, c, COMING), tally->bound))
+        if (c != run->current && is_choice(c) && is_new(key_of(state, c, COMING), tally->bound))
             ways->items[ways->count++] = new_item(t, c);
+}
+
+/* So many of them are tried now; or later, by whomever, if the search is over, no more runs can be kept, or others have nothing to do. */
+static enum result try_ways(const struct trial *t, const struct ways *ways, uint32_t count, enum turn_end end, enum result result) {
+    uint32_t next = 0;
+    for (; next < count && result == IS_DONE && can_keep() && !others_want_work(); next++)
+        result = try_apart(t, ways->items[next], end);
+    give_work(ways->items + next, count - next);
+    return result;
+}
+
+/* The current thread has had its steps. Others may come, for nothing. Before they do, it goes on in the same turn, to its end: so the
+   turn that is the first in a loop sees it, and isn't left because others have been in its states meanwhile. */
+static enum result at_spent(struct trial *t, bool *past) {
+    struct hash state = state_after_chunk(), key = key_of(state, run->current, GOING_ON);
+    struct ways ways;
+    enum meeting meeting = meet(key, tally->bound);
+    if (meeting == IS_KNOWN) {
+        close_turn();
+        return IS_DONE;
+    }
+    if (meeting == IS_FIRST)
+        keep_key(key);
+    is_new(key_of(state, run->current, COMING), tally->bound); /* whoever comes to this is here */
+    find_ways(t, state, &ways);
+    if (ways.count == 0 || !can_keep() || others_want_work()) {
+        give_work(ways.items, ways.count);
+        go_past(t, AT_SPENT, past);
+        return GOES_ON;
+    }
+    struct trial on = *t;
+    keep_run(run);
+    go_past(&on, AT_SPENT, past);
+    enum result result = go_to_end(&on);
+    if (result == IS_DONE)
+        take_back_run(run);
+    drop_run();
+    return try_ways(t, &ways, ways.count, SPENT, result);
 }
 
 /* No thread goes on: others are chosen, for nothing. The last new choice is gone on with here. */
 static enum result choose(struct trial *t, enum turn_end end) {
     struct ways ways;
-    uint32_t next = 0;
     end_turn(run, end);
     delay("leaf");
     if (is_leaf() && at_leaf() == IS_BAD)
         return IS_BAD;
-    find_ways(t, &ways);
+    find_ways(t, whole_state(), &ways);
     close_turn();
-    enum result result = IS_DONE;
-    for (; next + 1 < ways.count && result == IS_DONE && can_keep() && !others_want_work(); next++)
-        result = try_apart(t, ways.items[next], end);
     if (ways.count == 0)
         return IS_DONE;
     uint32_t last = ways.items[ways.count - 1];
-    give_work(ways.items + next, ways.count - next - (result == IS_DONE));
-    if (result != IS_DONE)
+    enum result result = try_ways(t, &ways, ways.count - 1, end, IS_DONE);
+    if (result != IS_DONE) {
+        give_work(&last, 1);
         return result;
+    }
     part(t, last, end);
     return GOES_ON;
 }
@@ -460,7 +511,7 @@ static enum result try_some(const struct list *some) {
     make_tree(some->items, some->count);
     start_run(run);
     begin_turn(run, 0);
-    turn_key_count = 0;
+    forget_turn();
     return try_tree(&t);
 }
 

@@ -1,5 +1,6 @@
 """The program's calls of its library, as a Trace shows them: `calls_of(trace, own)`. A call begins with the first instruction of
-a function of the library, right after one of the program's own code in the same thread, and ends when that code goes on."""
+a function of the library, right after one of the program's own code in the same thread, and ends when that code goes on. Where the
+library calls malloc and its like for the program, as in strdup, that is a call too."""
 
 from collections import namedtuple
 
@@ -12,6 +13,8 @@ Call = namedtuple("Call", "who name arguments at result first last")
 # A block of the heap. where: the pc that asked for it. count: how many that pc has asked for by then. freed: the Call, or None.
 Block = namedtuple("Block", "addr size where count freed")
 
+HEAD, LEAST_GUARD, MOST_GUARD = 8, 4, 16  # bytes, as heap.c has them
+RA, A0 = 1, 10  # registers
 GIVING, TAKING_BACK = ("malloc", "calloc", "realloc"), ("free", "realloc")
 
 
@@ -26,7 +29,9 @@ class _Finder:
         self.trace, self.own, self.moment = trace, own, Moment(trace)
         public_last = sorted(trace.names.code, key=lambda s: not s.name.startswith("_"))
         self.entries = {s.addr: s.name for s in public_last if s.addr >= own.library}
+        self.heap_entries = {addr for addr, name in self.entries.items() if name in GIVING + TAKING_BACK}
         self.open, self.last_own, self.done = {}, {}, []
+        self.inner = {}  # the library's own call of the heap's functions, and where that goes on
 
     def registers(self, step, thread):
         commit, moment = self.trace.commit_of(step), self.moment
@@ -34,18 +39,29 @@ class _Finder:
             moment.seek(commit.first)
         if moment.step < step:
             moment.advance(step)
-        return tuple(moment.machine.threads[thread].x[10:14])
+        return tuple(moment.machine.threads[thread].x)
 
     def look(self, step, who, thread):
         pc = self.trace.pcs[step]
+        if who in self.inner and pc == self.inner[who][1]:
+            self.done.append(self.inner.pop(who)[0]._replace(result=self.registers(step, thread)[A0], last=step))
         if self.own.is_code(pc):
             if who in self.open:
-                self.close(who, step, self.registers(step, thread)[0])
+                self.close(who, step, self.registers(step, thread)[A0])
             self.last_own[who] = pc
         elif who in self.last_own:
             at = self.last_own.pop(who)
             if pc in self.entries:
-                self.open[who] = Call(who, self.entries[pc], self.registers(step, thread), at, None, step, None)
+                self.open[who] = self.begun(pc, step, who, thread, at)
+        elif pc in self.heap_entries and who not in self.inner and not self.is_in_heap(who):
+            back = self.registers(step, thread)[RA]
+            self.inner[who] = self.begun(pc, step, who, thread, self.open[who].at if who in self.open else back - 4), back
+
+    def begun(self, pc, step, who, thread, at):
+        return Call(who, self.entries[pc], self.registers(step, thread)[A0 : A0 + 4], at, None, step, None)
+
+    def is_in_heap(self, who):
+        return who in self.open and self.open[who].name in GIVING + TAKING_BACK
 
     def close(self, who, step, result):
         self.done.append(self.open.pop(who)._replace(result=result, last=step))
@@ -66,6 +82,14 @@ def calls_of(trace, own):
     return _Finder(trace, own).all() if own.has_library else []
 
 
+def guard_of(block):
+    """(first, end) of the bytes after a block that the library fills, and looks at later."""
+    first, room = block.addr + block.size, 16
+    while room < block.size + HEAD + LEAST_GUARD:
+        room = room * 2 if room < 2048 else room + 1024
+    return first, min(first + MOST_GUARD, block.addr - HEAD + room)
+
+
 class Heap:
     """The blocks that calls gave and took back: `look(call)` in the order of the calls' ends, then `block(addr)`."""
 
@@ -73,8 +97,9 @@ class Heap:
         self.blocks, self.counts = [], {}
 
     def look(self, call):
-        if call.name in TAKING_BACK and call.arguments[0]:
-            self.blocks = [b._replace(freed=call) if b.addr == call.arguments[0] else b for b in self.blocks]
+        if call.name in TAKING_BACK and call.arguments[0]:  # which is in the middle of the block if aligned_alloc has given it
+            self.blocks = [b._replace(freed=call) if b.freed is None and b.addr <= call.arguments[0] < b.addr + max(b.size, 4) else b
+                           for b in self.blocks]
         if call.name in GIVING and call.result:
             count = self.counts[call.at] = self.counts.get(call.at, 0) + 1
             self.blocks = [b for b in self.blocks if b.addr != call.result]
@@ -83,3 +108,7 @@ class Heap:
     def block(self, addr):
         """The block that an address is in, or None."""
         return next((b for b in self.blocks if b.addr <= addr < b.addr + max(b.size, 4)), None)
+
+    def before(self, addr):
+        """The block that isn't freed and right after whose end an address is, or None."""
+        return next((b for b in self.blocks if b.freed is None and guard_of(b)[0] <= addr < guard_of(b)[1]), None)

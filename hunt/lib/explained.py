@@ -2,36 +2,69 @@
 
 from collections import namedtuple
 from pathlib import Path
-import re
 import tempfile
 
 from .chains import places
 from .found import LOG, PICTURE, PLAN, plan_text
-from .story import Story
+from .grounds import grounds, signals
+from .notes import notes_of
+from .story import PAST, Story, block_name, thread_name
 from .storylines import lines
+from .switches import Crossing, Printing
 from .trace import open_trace
 from .waiting import waiting_lines
-from .why import switch_lines
+from .why import found_lines, found_switches, is_of, steps_of
 
-# why, waits, story: lines. threads: (number, function, state, code, places where it failed) of each. console: text. files: name -> text or bytes.
-Told = namedtuple("Told", "why waits story threads console files folder")
+# broken: lines on stores to freed blocks and past ends. why, waits, story: lines. threads: (number, function, state, code, places where it failed) of
+# each. console: text. files: name -> text or bytes.
+Told = namedtuple("Told", "broken why waits story threads console files folder")
 
 
-def why_lines(trace, story):
-    """Blocks that were used after they were freed, and what why.switch_lines says of the program's own code."""
-    yield from story.after_free.values()
-    own, is_kept = story.own.files(), True
-    for line in switch_lines(trace, True):
-        if not line.startswith(" "):
-            places = re.findall(r"\(commit \d+, [^,()]+, ([^:()]+):\d+", line)
-            is_kept = not story.own.has_library or all(file in own for file in places)
-        if is_kept:
-            yield line
+def told_switches(trace, story):
+    """What why.found_switches finds of the program's own code."""
+    return [(its, found) for its, found in found_switches(trace, True) if is_of(story.own, found)]
+
+
+def why_told(trace, story, told, is_hang):
+    """(lines, steps): blocks that were used after they were freed, and loads that were stale, or what else came of forced switches. If
+    nothing of that is so, what the failure rests on; and in any case who has signalled, of those that wait."""
+    uses = list(story.misuses.values())
+    lines = [*map(story.use_line, uses), *found_lines(trace, told)]
+    steps = {step for use in uses for step in (use.step, use.block.freed and use.block.freed.last)} | {step for _, it in told for step in steps_of(it)}
+    is_known = uses or any(not isinstance(it, (Crossing, Printing)) for _, it in told)
+    waiting = [note for note in notes_of(trace) if note.waits] if is_hang else []
+    more = signals(trace, story, waiting) if is_known else grounds(trace, story, waiting, not lines)
+    return lines + [ground.text for ground in more], steps.union(*(ground.steps for ground in more))
+
+
+def broken_lines(story):
+    """Of each block that was stored to after it was freed, or past its end, the first such store, at its line: that is where it went wrong,
+    and not where the heap was looked at."""
+    first = {}
+    for use in story.misuses.values():
+        if use.what in ("stores to", PAST):
+            first.setdefault((use.block.addr, use.block.freed and use.block.freed.first), use)
+    return [broken_line(story, use) for use in first.values()]
+
+
+def broken_line(story, use):
+    """For example `thread 2 (put) stored to the freed block of list.c:30: put, list.c:12; freed by thread 1 (drop): drop, list.c:20`."""
+    def name(who):
+        return thread_name(who.thread, story.function_of(who.thread))
+
+    freed = use.block.freed
+    what = "to the freed" if freed else "past the end of the"
+    head = "%s stored %s %s: %s" % (name(use.who), what, block_name(story.names, use.block), story.place_of(use.pc))
+    return head + ("; freed by %s: %s" % (name(freed.who), story.place_of(freed.at)) if freed else "")
 
 
 def hang_told(trace, run):
     """Who waits for whom, of a run in which no thread goes on."""
-    return waiting_lines(trace, True) if run.leaf in ("waits", "repeats") else []
+    return waiting_lines(trace, True) if is_hang(run) else []
+
+
+def is_hang(run):
+    return run.leaf in ("waits", "repeats")
 
 
 def states(trace, story):
@@ -63,5 +96,5 @@ def explained(program, finding, folder):
         trace = open_trace(program.image, program.memory, file.name)
     story, image = Story(trace, finding.run.left), Path(program.image).name
     files = {LOG: finding.run.log, PICTURE: picture_of(trace, image), PLAN: plan_text(image, program.memory)}
-    return Told(list(why_lines(trace, story)), hang_told(trace, finding.run), list(lines(story)), list(states(trace, story)),
-                console_of(trace), files, folder)
+    why, steps = why_told(trace, story, told_switches(trace, story), is_hang(finding.run))
+    return Told(broken_lines(story), why, hang_told(trace, finding.run), list(lines(story, steps)), list(states(trace, story)), console_of(trace), files, folder)

@@ -11,6 +11,7 @@ import time
 from .engine import TO_ITS_END
 from .image import NotAnImage, read_image
 from .judge import switches_of
+from .reach import reached, words_of
 from .searching import Job, Refused
 from .shrinking import Shrinker
 from .symbols import Names
@@ -20,15 +21,20 @@ MOST_SWITCHES, MOST_RUNS, MOST_STATES = 250, 1 << 40, 1 << 25
 PAGE, MOST_MEMORY = 4096, 1 << 24
 TICK, TURN = 64, 10_000  # as in search
 FEW_THREADS = 15  # as many as logs of version 1 have
+CLOCKS = {"__past", "clock_gettime", "gettimeofday", "time", "clock", "usleep", "sleep", "nanosleep", "clock_nanosleep", "sleep_for"}
+NUMBER_OF_CLOCK, CALL, DEVICES = 0x00500893, 0x00000073, 0xF0000037  # li a7, 5; ecall; lui .., 0xF0000, whose first word is a clock
+NEAR, FAR = 8, 64  # instructions up to the call, and up to the load
 
-# image: the path. memory: bytes. threads: how many there may be in all. has_library: whether delorean-cc has linked it.
-Program = namedtuple("Program", "image memory threads has_library")
+# image: the path. memory: bytes. threads: how many there may be in all. has_library: whether delorean-cc has linked it. has_clock:
+# whether it has code that reads a clock.
+Program = namedtuple("Program", "image memory threads has_library has_clock", defaults=(False,))
 # switches: at most so many forced ones, or None. seconds: of the search. bad: further conditions. input: a file, or None. strategy: by
 # which orders are drawn, with its depth and tries, or None.
 Limits = namedtuple("Limits", "switches seconds shrink_seconds bad input seed steps tick strategy depth tries",
                     defaults=(TICK, None, 3, MOST_RUNS))
-# status: below. search: as the engine has it, a Search or Drawn. run: a Run, or None. seconds: that the search took. condition: what a failure is.
-Finding = namedtuple("Finding", "status search run seconds condition")
+# status: below. search: as the engine has it, a Search or Drawn. run: a Run, or None. seconds: that the search took. condition: what a
+# failure is. tick: what a clock went on by when it was read; None if the program has none.
+Finding = namedtuple("Finding", "status search run seconds condition tick", defaults=(None,))
 # log: bytes, that the proved walk has judged. ended: what the walk's account tells. forced: how many forced switches. left: of each
 # turn of a thread, the next one's apart, whether it was left by a forced switch. leaf: as in engine.Told.
 Run = namedtuple("Run", "log ended forced left leaf commits switches")
@@ -66,7 +72,7 @@ def read_program(path, memory=None):
     names = Names(image)
     if memory is None:
         memory = memory_of(names, path)
-    return Program(str(path), memory, most_threads(image, names), names.has("__library_code"))
+    return Program(str(path), memory, most_threads(image, names), names.has("__library_code"), reads_clock(image, names))
 
 
 def most_threads(image, names):
@@ -75,6 +81,17 @@ def most_threads(image, names):
         return FEW_THREADS
     at = names.value("__numbers")
     return int.from_bytes(image.memory[at : at + 4], "little")
+
+
+def reads_clock(image, names):
+    """Whether there is code that reads a clock, and that can be reached. In an image without the library, it is a call of the kernel by its
+    number, or a load of the devices' first word, wherever that is."""
+    if names.has("__library_code"):
+        return not CLOCKS.isdisjoint(reached(image, names))
+    words = words_of(image)
+    return any(word == NUMBER_OF_CLOCK and CALL in words[at : at + NEAR] or
+               word & 0xFFFFF07F == DEVICES and any(after & 0xFFFFF07F == 0x2003 | (word >> 7 & 31) << 15 for after in words[at : at + FAR])
+               for at, word in enumerate(words) if word)
 
 
 def memory_of(names, path):
@@ -140,8 +157,8 @@ def find(program, limits, tell=lambda bound: None):
     job, started = job_of(program, limits), time.monotonic()
     with job.engine() as engine:
         result = searched_by(engine, limits, tell)
-    searched = time.monotonic() - started
+    searched, tick = time.monotonic() - started, limits.tick if program.has_clock else None
     if result.told is None:
-        return Finding(status_of(result), result, None, searched, conditions(program, limits))
+        return Finding(status_of(result), result, None, searched, conditions(program, limits), tick)
     run = judged(job, result.told, limits.shrink_seconds)
-    return Finding(FOUND, result, run, searched, conditions(program, limits))
+    return Finding(FOUND, result, run, searched, conditions(program, limits), tick)

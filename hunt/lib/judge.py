@@ -27,6 +27,10 @@ class Judge:
         """is_cut: the condition, without hangs, is of where a log ends, even if threads could go on."""
         self.image, self.memory, self.condition, self.is_cut = image, memory, condition, is_cut
 
+    def of(self, condition):
+        """A Judge of the same image, with another condition."""
+        return Judge(self.image, self.memory, condition)
+
     def walked(self, log):
         """The account that the proved program's walk puts for the log's bytes."""
         with tempfile.NamedTemporaryFile(prefix="walked-", suffix=".log") as file:

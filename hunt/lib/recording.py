@@ -54,7 +54,7 @@ class Recording:
             return self.at_log_end, "limited"
         told, any_end = engine.told(self.turns, EXACTLY)[1], [[]]
         try:
-            return Judge(job.given.image, job.given.memory, any_end).judged(told).ended, told.leaf
+            return job.judge.of(any_end).judged(told).ended, told.leaf
         except Differs:
             return self.at_log_end, "doubtful"
 

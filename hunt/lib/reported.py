@@ -7,10 +7,10 @@ from .advice import advice
 from .chains import chain_text
 from .chances import what_was_tried
 from .engine import Drawn
-from .finding import FOUND
-from .found import LOG, PICTURE, PLAN
+from .finding import CLEAR, FOUND
+from .found import LOG, PICTURE, PLAN, REPLAYED
 from .searching import counted
-from .story import CAUSES
+from .story import CAUSES, thread_name
 
 
 def progress(is_quiet):
@@ -23,10 +23,6 @@ def progress(is_quiet):
 
 def forced_text(number):
     return "without a forced switch" if number == 0 else "with %s" % counted(number, "forced switch")
-
-
-def thread_name(number, function):
-    return "thread %d%s" % (number, " (%s)" % function if function else "")
 
 
 HANGS = {"waits": ["no thread goes on, in whatever order"],
@@ -43,16 +39,24 @@ def why_it_ended(result):
     return "it was stopped" if result.how == "stopped" else "the limit of %s was met" % result.how
 
 
-def covered(result):
+def covered(finding):
     """What was covered without a failure, and never more; and what to try if that isn't all."""
+    result, clock = finding.search, clock_text(finding.tick)
     if isinstance(result, Drawn):
         yield from what_was_tried(result, "fails")
     else:
-        yield from covered_alone(result)
+        yield from covered_alone(result, clock)
         yield from advice(result)
+    if finding.tick is not None and finding.status != CLEAR:
+        yield "the clock went on by %d each time that it was read (--tick)" % finding.tick
 
 
-def covered_alone(result):
+def clock_text(tick):
+    """What a verdict rests on if the program reads a clock."""
+    return "" if tick is None else ", if the clock goes on by %d each time that it is read (--tick)" % tick
+
+
+def covered_alone(result, clock):
     if result.limited:
         yield "no failure in %s, but what comes after that isn't covered" % counted(result.tries, "run")
         yield "%s came to the limit of steps (--steps)" % counted(result.limited, "run")
@@ -60,18 +64,20 @@ def covered_alone(result):
             yield "%s with %d forced" % (why_it_ended(result), result.bound)
     elif result.how == "all":
         done = bound_done(result)
-        yield "no order fails, with however many switches: all states were met, %d in %s" % (done.states, counted(result.tries, "run"))
+        yield "no order fails, with however many switches%s: all states were met, %d in %s" % (
+            clock, done.states, counted(result.tries, "run"))
     else:
-        yield from up_to_bound(result)
+        yield from up_to_bound(result, clock)
 
 
-def up_to_bound(result):
+def up_to_bound(result, clock):
     done = bound_done(result)
     if done is None:
         yield "nothing is covered: %s before all orders without a forced switch were tried" % why_it_ended(result)
         return
     bound = "without a forced switch" if done.bound == 0 else "with at most " + counted(done.bound, "forced switch")
-    yield "no order %s among %s fails, in %s" % (bound, counted(done.places, "place"), counted(done.tries, "run"))
+    yield "no order %s among %s fails%s, in %s" % (
+        bound, counted(done.places, "place"), clock if result.how == "bound" else "", counted(done.tries, "run"))
     if result.how != "bound":
         yield "%s with %d forced: the rest isn't covered" % (why_it_ended(result), result.bound)
 
@@ -91,7 +97,7 @@ def ends(told):
 
 def sections(finding, told):
     """The parts of what is told, each with its heading."""
-    failures = list(ends(told)) + HANGS.get(finding.run.leaf, [])
+    failures = told.broken + list(ends(told)) + HANGS.get(finding.run.leaf, [])
     yield "what failed", failures + ["console: " + line for line in told.console.splitlines()]
     yield "who waits", told.waits
     yield "why", told.why
@@ -112,12 +118,20 @@ def found_text(program, finding, told):
     yield "written to %s: %s (%s, %s; walked), %s, %s" % (
         told.folder, LOG, counted(run.commits, "commit"), counted(run.switches, "switch"), PICTURE, PLAN)
     yield "to replay it: cd %s && delorean run %s" % (shlex.quote(str(told.folder)), PLAN)
+    yield from ("  " + line for line in shown_by_replay(run, told))
+
+
+def shown_by_replay(run, told):
+    """What a replay prints if all is as it was, and a command that shows how the threads ended in it."""
+    yield "which prints `s 0 complete %d`, since all commits are as in the log; then" % run.commits
+    states = ", ".join("`%d %s`" % (number, state if code is None else "%s:%d" % (state, code)) for number, _, state, code, _ in told.threads)
+    yield "grep ^t %s | cut -d' ' -f2,4 shows how the threads ended: %s" % (REPLAYED[0], states)
 
 
 def as_text(program, ready, finding, told):
     if finding.status == FOUND:
         return list(found_text(program, finding, told))
-    lines = list(covered(finding.search))
+    lines = list(covered(finding))
     return ["%s: %s, %.2f s" % (program, lines[0], finding.seconds), *lines[1:]]
 
 
@@ -137,16 +151,16 @@ def json_of_run(finding, told):
     run = finding.run
     return {"forced": run.forced, "switches": run.switches, "commits": run.commits, "hangs": run.leaf in ("waits", "repeats"),
             "threads": [dict(zip(("thread", "function", "state", "code", "places"), state)) for state in told.threads],
-            "console": told.console, "waits": told.waits, "why": told.why, "order": told.story, "folder": str(told.folder),
-            "log": LOG, "picture": PICTURE, "plan": PLAN}
+            "broken": told.broken, "console": told.console, "waits": told.waits, "why": told.why, "order": told.story,
+            "folder": str(told.folder), "log": LOG, "picture": PICTURE, "plan": PLAN}
 
 
 def as_json(program, ready, finding, told):
     """The object of --json, which found.json has too."""
     out = {"program": str(program), "memory": ready.memory, "conditions": finding.condition, "status": finding.status,
-           "seconds": round(finding.seconds, 2), "search": json_of_search(finding.search)}
+           "seconds": round(finding.seconds, 2), "tick of the clock": finding.tick, "search": json_of_search(finding.search)}
     if finding.status == FOUND:
         out["found"] = json_of_run(finding, told)
     else:
-        out["covered"] = list(covered(finding.search))
+        out["covered"] = list(covered(finding))
     return out

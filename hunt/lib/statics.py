@@ -26,9 +26,18 @@ def _look(die, function, found):
         elif child.tag == "DW_TAG_lexical_block":
             _look(child, function, found)
         elif child.tag == "DW_TAG_variable" and function:
-            place = child.attributes.get("DW_AT_location")
-            if place is not None and isinstance(place.value, list) and place.value[:1] == [_ADDRESS]:
-                found[int.from_bytes(bytes(place.value[1:5]), "little")] = function
+            addr = fixed_address(child)
+            if addr is not None:
+                found[addr] = function
+
+
+def fixed_address(die):
+    """The address that a variable has all the time; None if it moves, or is in a register, or only its value is known, which may be an
+    address."""
+    place = die.attributes.get("DW_AT_location")
+    if place is None or not isinstance(place.value, list) or len(place.value) != 5 or place.value[0] != _ADDRESS:
+        return None
+    return int.from_bytes(bytes(place.value[1:]), "little")
 
 
 def _name(die):

@@ -7,6 +7,7 @@ for it. Accesses of the library to words of its own are left out."""
 from collections import namedtuple
 
 from . import isa
+from .answered import answer_name
 from .calls import GIVING, TAKING_BACK, Heap, calls_of
 from .machine import CONSOLE_CHANNEL, NO_PC
 from .own import Own
@@ -16,19 +17,31 @@ from .trace import context_name
 # who: the Context. function: the program's own function that the thread began with, or None. rows: of Row. is_left: whether
 # another thread comes next although this one could go on.
 Turn = namedtuple("Turn", "who function rows is_left")
-# what: a verb. word: what it is done to, or "". value: in digits, or "". place: function and line, or "". times: in a row.
-Row = namedtuple("Row", "what word value place times", defaults=("", "", "", 1))
+# what: a verb. word: what it is done to, or "". value: in digits, or "". place: function and line, or "". times: in a row. note: what is
+# to be said beside it. rank: KEY, SHARED or OWN, how much it matters. step: of the trace.
+Row = namedtuple("Row", "what word value place times note rank step", defaults=("", "", "", 1, "", 0, None))
+# A use of a block that had been freed, or past its end. who: the Context. what: a verb. block: the Block, as it was then. pc: of the program's own code.
+Use = namedtuple("Use", "who what block pc commit step")
+# KEY: a row that is told however long the story is; SHARED: of words that several threads use; OWN: of the thread's own.
+KEY, SHARED, OWN = range(3)
 
 LOCKING = {"__delorean_took", "__delorean_lock", "__delorean_wait", "__delorean_gives", "pthread_mutex_lock",
            "pthread_mutex_unlock", "pthread_mutex_trylock", "pthread_mutex_timedlock"}
 TWO_ARGUMENTS = {"pthread_cond_wait", "pthread_cond_timedwait"}
+CHECKING = {*GIVING, *TAKING_BACK, "exit", "quick_exit"}
 UNTOLD = LOCKING | set(GIVING) | set(TAKING_BACK) | {"pthread_create", "pthread_join"}
-QUIET = {"exit", "write", "clock", "self", "yield", "handler", "iret", "ended", "spawn", "fault", "break", "device store"}
+CLOCK = "the clock"
+QUIET = {"exit", "write", "self", "yield", "handler", "iret", "ended", "spawn", "fault", "break", "device store"}
+PAST = "stores past the end of"
 LOCK_BYTES = 16      # of a pthread_mutex_t
 REACH = 64           # an access so many bytes from an argument counts as one to what was given
 CAUSES = {0: "a jump to a place that isn't a multiple of 4", 1: "a jump out of the memory", 2: "no instruction is there",
           3: "a break", 4: "a load from an address that isn't a multiple of its width", 5: "a load from outside the memory",
           6: "a store to an address that isn't a multiple of its width", 7: "a store outside the memory"}
+
+
+def thread_name(number, function):
+    return "thread %d%s" % (number, " (%s)" % function if function else "")
 
 
 def block_name(names, block):
@@ -54,10 +67,11 @@ class Story:
         for call in self.calls:
             self.ends.setdefault(call.last, []).append(call)
         self.locks = {a.addr for a in trace.accesses if a.pc in self.own.lock_code}
-        self.heap, self.at, self.within, self.told = Heap(), {}, {}, set()
-        self.after_free = {}  # lines: what was done to blocks that had been freed
+        self.heap, self.at, self.within, self.around, self.told = Heap(), {}, {}, {}, set()  # around: of a call the one that it is in
+        self.misuses = {}  # Uses of blocks that had been freed, or past their ends, each place once
         self.functions, self.touched = {}, {}
         self.turns = [turn for turn in self._turns(list(left)) if turn.rows or turn.is_left]
+        hand_over(self.turns)
 
     def function_of(self, thread):
         """The program's own function that a thread began with, or None."""
@@ -81,33 +95,46 @@ class Story:
         accesses = self.trace.accesses_of(commit)
         at = 0
         for step in range(commit.first, commit.last):
-            yield from self._step(step, who)
+            yield from (row._replace(step=step) for row in self._step(step, who))
             while at < len(accesses) and accesses[at].step == step:
-                yield from self._access(accesses[at], who)
+                yield from (row._replace(step=step) for row in self._access(accesses[at], who))
                 at += 1
         if commit.served:
-            yield from self._served(commit, who)
+            yield from (row._replace(step=commit.first) for row in self._served(commit, who))
 
     def _step(self, step, who):
         """Follows the calls that end and begin with a step."""
         for call in self.ends.get(step, ()):
             self.heap.look(call)
             if self.within.get(who) is call:
-                del self.within[who]
+                self.within[who] = self.around.pop(call.first, None)
                 yield from self._of_heap(call)
+                yield from self._answered(call)
         pc = self.trace.pcs[step]
         if pc != NO_PC and self.own.is_code(pc):
             self.at[who] = pc
             self.functions.setdefault(who, self.names.function(pc))
         if step in self.begins:
-            self.within[who] = self.begins[step]
+            self.around[step], self.within[who] = self.within.get(who), self.begins[step]
             self._look_at_free(self.begins[step])
 
+    def _answered(self, call):
+        """What a wait until a time answered, or a lock that was only tried."""
+        answer = answer_name(call)
+        if answer:
+            yield Row("answers", "%s: %s" % (call.name, answer), "", self.place_of(call.at), rank=KEY)
+
     def _of_heap(self, call):
+        if call.name in TAKING_BACK and call.arguments[0] and (call.name not in GIVING or call.result):
+            rank = KEY if self._is_of_others(call) else SHARED
+            yield Row("frees", self.word(call.arguments[0]).removeprefix("freed "), "", self.place_of(call.at), rank=rank)
         if call.name in GIVING:
-            yield Row("allocates", self.word(call.result), "%08X" % call.result, self.place_of(call.at))
-        elif call.name in TAKING_BACK and call.arguments[0]:
-            yield Row("frees", self.word(call.arguments[0]).removeprefix("freed "), "", self.place_of(call.at))
+            yield Row("allocates", self.word(call.result), "%08X" % call.result, self.place_of(call.at), rank=OWN)
+
+    def _is_of_others(self, call):
+        """Whether other threads have used the block that a call frees, or use it later."""
+        block = self.heap.block(call.arguments[0])
+        return block is not None and any(self.is_shared(addr) for addr in range(block.addr, block.addr + max(4, block.size), 4))
 
     # ------------------------------------------------------------ accesses
 
@@ -122,29 +149,51 @@ class Story:
             return
         elif a.pc != NO_PC and self.own.is_code(a.pc):
             if self.own.is_data(a.addr) or self.is_shared(a.addr):
-                yield Row(verb(a.kind), self.word(a.addr), values(a), self.place_of(a.pc))
+                rank = SHARED if self.is_shared(a.addr) else OWN
+                yield Row(verb(a.kind), self.word(a.addr, a.width), values(a), self.place_of(a.pc), note=self._freed_by(a), rank=rank)
         elif call and call.first not in self.told and self._is_given(a, call):
             self.told.add(call.first)
-            yield Row("calls", self.call_text(call), "", self.place_of(call.at))
+            yield Row("calls", self.call_text(call), "", self.place_of(call.at), rank=SHARED)
 
     def _is_given(self, a, call):
         is_near = any(0 <= a.addr - given < REACH for given in call.arguments[:2])
         return call.name not in UNTOLD and is_near and (self.is_shared(a.addr) or call.name == "pthread_once")
 
     def _look_at_block(self, a, who, call):
-        block = self.block(a.addr)
-        if block and block.freed and not (call and call.name in GIVING + TAKING_BACK):
-            self._note_use(who, verb(a.kind), block, self.at.get(who, a.pc))
+        """What the library's own checks load isn't a use: they look at blocks in malloc and free, and once main has returned."""
+        if not (self.own.is_code(a.pc) or call and call.name not in CHECKING) or not self.own.is_heap(a.addr):
+            return
+        block, past = self.heap.block(a.addr), self.heap.before(a.addr + a.width - 1)
+        if block and block.freed:
+            self._note_use(who, "stores to" if a.kind in isa.STORES else "loads from", block, self.at.get(who, a.pc), a.step)
+        elif past and a.kind in isa.STORES:
+            self._note_use(who, PAST, past, self.at.get(who, a.pc), a.step)
 
     def _look_at_free(self, call):
         block = self.block(call.arguments[0])
         if block and block.freed and call.name in TAKING_BACK:
-            self._note_use(call.who, "frees", block, call.at)
+            self._note_use(call.who, "frees", block, call.at, call.first)
 
-    def _note_use(self, who, what, block, pc):
-        place = self.place_of(pc)
-        self.after_free.setdefault((block.addr, place), "%s %s the %s (%s), which %s has freed (%s)" % (
-            context_name(who), what, block_name(self.names, block), place, context_name(block.freed.who), self.place_of(block.freed.at)))
+    def _note_use(self, who, what, block, pc, step):
+        use = Use(who, what, block, pc, self.trace.commit_of(step), step)
+        self.misuses.setdefault((block.addr, block.freed and block.freed.first, what, self.place_of(pc)), use)
+
+    def _freed_by(self, a):
+        """Of an access to a block that was freed: by whom."""
+        block = self.block(a.addr)
+        return "<- %s has freed it" % context_name(block.freed.who) if block and block.freed else ""
+
+    def use_line(self, use):
+        """For example `thread 2 stores to the block of list.c:30 (commit 8, put, list.c:12), which thread 1 has freed (commit 6, ..)`."""
+        freed = use.block.freed
+        head = "%s %s the %s (commit %d, %s)" % (
+            context_name(use.who), use.what, block_name(self.names, use.block), use.commit.told, self.place_of(use.pc))
+        return head + (", which %s has freed (commit %d, %s)" % (
+            context_name(freed.who), self.trace.commit_of(freed.first).told, self.place_of(freed.at)) if freed else "")
+
+    def is_lock(self, addr):
+        """Whether a word is in a mutex or spin lock."""
+        return addr & ~3 in self.locks or self._is_in_lock(addr)
 
     def _is_in_lock(self, addr):
         return any(lock < addr < lock + LOCK_BYTES for lock in self.locks)
@@ -152,7 +201,8 @@ class Story:
     def _of_lock(self, a, who):
         if a.kind in (isa.SWAP, isa.SC):
             what = "gives back" if a.new == 0 else "takes" if a.old == 0 else "finds held"
-            yield Row(what, self.word(a.addr), "", self.place_of(self.at.get(who, a.pc)))
+            rank = KEY if what == "finds held" else SHARED
+            yield Row(what, self.word(a.addr), "", self.place_of(self.at.get(who, a.pc)), rank=rank)
 
     def is_shared(self, addr):
         """Whether several threads touch a word."""
@@ -169,26 +219,31 @@ class Story:
         if served.output and served.output[1] and served.output[0] == CONSOLE_CHANNEL:
             yield Row("prints", repr(served.output[1].decode("utf-8", "replace"))[1:-1], "", place)
         elif served.name == "spawn" and served.result < 64:
-            yield Row("starts", "thread %d" % served.result, "", place)
+            yield Row("starts", "thread %d" % served.result, "", place, rank=SHARED)
         elif served.name == "exit":
             yield Row("ends", "with %d" % served.arguments[0], "", "" if served.arguments[0] == 0 else place)
         elif served.name in ("fault", "break"):
             yield Row("faults", CAUSES.get(served.result, "cause %d" % served.result), "", place)
         elif served.name == "ended" and served.result == 1:
-            yield Row("joins", "thread %d" % served.arguments[0], "", place)
+            yield Row("joins", "thread %d" % served.arguments[0], "", place, rank=SHARED)
+        elif served.name == "clock":
+            yield Row("reads", CLOCK, "%08X" % served.result, place, rank=SHARED)
         elif served.name not in QUIET:
-            yield Row("asks", "the kernel: %s, answer %08X" % (served.name, served.result), "", place)
+            yield Row("asks", "the kernel: %s, answer %08X" % (served.name, served.result), "", place, rank=SHARED)
 
     # ------------------------------------------------------------ names
 
     def block(self, addr):
         return self.heap.block(addr) if self.own.is_heap(addr) else None
 
-    def word(self, addr):
+    def word(self, addr, width=4):
         block = self.block(addr)
         if block:
             return word_in_block(self.names, block, addr)
-        name = self.names.name(addr)
+        past = self.heap.before(addr) if self.own.is_heap(addr) else None
+        if past:
+            return "past the end of " + block_name(self.names, past)
+        name = self.names.name(addr, width)
         return "a stack, %08X" % addr if self.own.has_library and self.own.is_stack(addr) else name
 
     def place_of(self, pc):
@@ -200,7 +255,23 @@ class Story:
 
 
 def add(rows, row):
-    if rows and rows[-1]._replace(times=1) == row:
-        rows[-1] = row._replace(times=rows[-1].times + 1)
+    """Equal rows are one; and of looks at the clock at one place the last is told, as in a wait."""
+    last = rows[-1]._replace(times=1, step=row.step) if rows else None
+    if last == row or last and row.word == last.word == CLOCK and row.place == last.place:
+        rows[-1] = rows[-1]._replace(times=rows[-1].times + 1, value=row.value)
     else:
         rows.append(row)
+
+
+def hand_over(turns):
+    """A lock that one thread gives back and another one takes next is told however long the story is."""
+    last = {}  # of each lock: where its last row is, and whose it is
+    for turn in turns:
+        for j, row in enumerate(turn.rows):
+            if row.what not in ("takes", "gives back", "finds held"):
+                continue
+            rows, at, who = last.get(row.word, (None, 0, turn.who))
+            if who != turn.who and rows[at].what == "gives back":
+                rows[at] = rows[at]._replace(rank=KEY)
+                turn.rows[j] = row._replace(rank=KEY)
+            last[row.word] = turn.rows, j, turn.who

@@ -7,6 +7,7 @@ import os
 import re
 import struct
 
+from .fields import Fields
 from .statics import functions_of
 
 Symbol = namedtuple("Symbol", "addr size name is_code")
@@ -77,7 +78,7 @@ def _lines(data):
 
 class Names:
     def __init__(self, image):
-        self.file, self.size, self._table, self._locals = image.file, image.size, None, None
+        self.file, self.size, self._table, self._locals, self._fields = image.file, image.size, None, None, None
         try:
             found = _symbols(image.file)
         except (struct.error, ValueError, IndexError):  # a damaged table counts as no table
@@ -137,13 +138,22 @@ class Names:
             return "%08X" % pc
         return ", ".join(filter(None, (function, line))) if line else "%s, %08X" % (function, pc)
 
-    def name(self, addr):
-        """An address of data in words: `counter`, `stacks+0x40`, or its number."""
+    @property
+    def fields(self):
+        """Of which parts variables are made."""
+        if self._fields is None:
+            self._fields = Fields(self.file if b".debug_info" in self.file else b"")
+        return self._fields
+
+    def name(self, addr, width=4):
+        """So many bytes of data in words: `counter`, `queue.count`, `ring[3].seq`, `stacks+0x40`, or their address."""
         symbol = self.symbol(addr)
-        if symbol is None:
-            return "%08X" % addr
-        away = addr - symbol.addr
-        return self._local_names().get(symbol, symbol.name) + ("+0x%X" % away if away else "")
+        return self.whole_name(addr) + self.fields.path(symbol.addr, addr - symbol.addr, width) if symbol else "%08X" % addr
+
+    def whole_name(self, addr):
+        """The variable that an address is in, or the address."""
+        symbol = self.symbol(addr)
+        return "%08X" % addr if symbol is None else self._local_names().get(symbol, symbol.name)
 
     def _local_names(self):
         """Of static variables in functions, which compilers call `pool.4`, names for people: `sell::pool` if it is known which function
@@ -163,8 +173,7 @@ class Names:
 
     def words(self, text):
         """The addresses of all words of a symbol, or of the one word that a WORD means."""
-        first, symbol = self.word(text), self._named(text)
-        size = symbol.size if symbol else 4
+        first, (_, size) = self.word(text), self._place(text)
         return range(first, min(first + max(4, size), self.size), 4)
 
     def _named(self, text):
@@ -177,15 +186,31 @@ class Names:
             raise NoWord(text, "there are several: " + ", ".join(sorted(names[s] for s in found)))
         return found[0] if found else None
 
+    def _place(self, text):
+        """(address, bytes) of a variable, of a part of one as `queue.count` or `ring[3].seq`, or of a hexadecimal number; 4 bytes if
+        there is an offset."""
+        base, plus, _ = text.partition("+")
+        symbol, part = self._named(base), re.match(r"([\w:$]+)((?:\.[A-Za-z_]\w*|\[\d+\])+)$", base)
+        if symbol:
+            return symbol.addr, 4 if plus else symbol.size
+        if part and self._named(part[1]):
+            return self._part(text, self._named(part[1]), part[2], plus)
+        if re.fullmatch(r"(0[xX])?[0-9A-Fa-f]{1,8}", base):
+            return int(base, 16), 4
+        raise NoWord(text, "there is no such symbol, and it isn't a hexadecimal number")
+
+    def _part(self, text, symbol, path, plus):
+        found = self.fields.part(symbol.addr, path)
+        if found is None:
+            raise NoWord(text, "%s has no part %s, or the image doesn't say so" % (symbol.name, path))
+        away, size = found
+        if not plus and (size < 4 or (symbol.addr + away) % 4):
+            raise NoWord(text, "it is no word: it has %d bytes, from %08X on" % (size, symbol.addr + away))
+        return symbol.addr + away, 4 if plus else size
+
     def word(self, text):
-        """The address that a WORD means: a symbol or a hexadecimal number, then perhaps `+OFFSET`, decimal or 0x.."""
-        base, plus, offset = text.partition("+")
-        if self._named(base):
-            addr = self._named(base).addr
-        elif re.fullmatch(r"(0[xX])?[0-9A-Fa-f]{1,8}", base):
-            addr = int(base, 16)
-        else:
-            raise NoWord(text, "there is no such symbol, and it isn't a hexadecimal number")
+        """The address that a WORD means: a variable, a part of one or a hexadecimal number, then perhaps `+OFFSET`, decimal or 0x.."""
+        (addr, _), (_, plus, offset) = self._place(text), text.partition("+")
         if plus:
             if not re.fullmatch(r"0[xX][0-9A-Fa-f]{1,8}|[0-9]{1,8}", offset):
                 raise NoWord(text, "the offset isn't a number")

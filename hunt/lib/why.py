@@ -113,13 +113,47 @@ def explained(image, memory, log, is_hang=False):
 def switch_lines(trace, is_bad=None):
     """Two lines or so for each switch at which a load became stale and was used, or at which others saw what was half done. If there
     are none, those at which the load had been announced, or a thread found another value than its own; or else those at which others
-    saw what would be done only after the log's end. If the run is bad, which is looked up if it isn't said, and has few forced switches, what came of each other one."""
+    saw what would be done only after the log's end. If the run is bad, which is looked up if it isn't said, and has few forced switches,
+    what came of each other one."""
+    return found_lines(trace, found_switches(trace, is_bad))
+
+
+def found_switches(trace, is_bad=None):
+    """(Trace, what was found) of each."""
     told = [(trace, found) for found in _used(trace)] or [(longer, early) for early, longer in early_at_end(trace)]
     if ends_badly(trace) if is_bad is None else is_bad:
         told = told + [(trace, found) for found in _others(trace, told)]
-    groups = _folded(sorted(told, key=lambda pair: _step(pair[1])))
+    return sorted(told, key=lambda pair: _step(pair[1]))
+
+
+def found_lines(trace, told):
+    """These in words, those at the same places as one."""
+    groups = _folded(told)
     lines = [line for group in groups[:MOST_TOLD] for line in _group_lines(trace, group)]
     return lines + (["%d more like these" % (len(groups) - MOST_TOLD)] if len(groups) > MOST_TOLD else [])
+
+
+def steps_of(found):
+    """The steps of what was found, in its trace."""
+    if isinstance(found, Printing):
+        return {commit.first for commit in found if commit}
+    use = getattr(found, "use", None)
+    pairs = [pair for pair in _pairs(found) if pair] + ([(use.commit, use.access)] if use and use.access else [])
+    return {a.step for _, a in pairs} | ({use.commit.first} if use and use.commit else set())
+
+
+def is_of(own, found):
+    """Whether a thread is left in the program's own code, and what another one does meanwhile is there too."""
+    return isinstance(found, Printing) or all(own.is_code(a.pc) for _, a in _left(found))
+
+
+def _pairs(found):
+    """The accesses that it is made of, as (Commit, Access)."""
+    if isinstance(found, Crossing):
+        return [found.last, found.own, found.other]
+    if isinstance(found, Early):
+        return [found.first, found.load, found.second]
+    return [found.load, found.stores[-1]] if isinstance(found, Stale) else [found.own, found.others[-1], found.load]
 
 
 def _others(trace, told):
@@ -196,21 +230,21 @@ def _stale_lines(trace, stale, _):
     load, last = stale.load, stale.stores[-1]
     more = ", after %d more" % (len(stale.stores) - 1) if len(stale.stores) > 1 else ""
     yield "%s is left with %s = %s (%s); %s stores %s (%s%s)," % (
-        _who(trace, load), trace.names.name(load[1].addr), _value(load[1]), _at(trace, load),
+        _who(trace, load), trace.names.name(load[1].addr, load[1].width), _value(load[1]), _at(trace, load),
         _who(trace, last), _value(last[1]), _at(trace, last), more)
     how = "goes on with %s" % _value(load[1]) if stale.use.instead is None else "doesn't check again"
     yield "    and %s %s: it %s" % (_who(trace, load), how, _use(trace, stale.use))
     for own, other in taken_over(trace, load, _moment(trace, stale.use)):
         yield "    meanwhile %s stores %s to %s (%s), where %s had stored %s" % (
-            _who(trace, other), _value(other[1]), trace.names.name(other[1].addr), _at(trace, other), _who(trace, own),
+            _who(trace, other), _value(other[1]), trace.names.name(other[1].addr, other[1].width), _at(trace, other), _who(trace, own),
             _value(own[1]))
 
 
 def _early_lines(trace, early, when=None):
     first, load, second = early.first, early.load, early.second
     yield "%s is left after it stores %s to %s (%s), before it stores %s to %s (%s)," % (
-        _who(trace, first), _value(first[1]), trace.names.name(first[1].addr), _at(trace, first), _value(second[1]),
-        trace.names.name(second[1].addr), _at(trace, second, when))
+        _who(trace, first), _value(first[1]), trace.names.name(first[1].addr, first[1].width), _at(trace, first), _value(second[1]),
+        trace.names.name(second[1].addr, second[1].width), _at(trace, second, when))
     yield "    and %s loads %s from there too early (%s): it %s" % (
         _who(trace, load), _value(load[1]), _at(trace, load), _use(trace, early.use))
 
@@ -265,16 +299,18 @@ def _chain(trace, commit):
 
 def _does(trace, pair):
     how = "stores %s to %s" if pair[1].kind in isa.STORES else "loads %s of %s"
-    return how % (_value(pair[1]), trace.names.name(pair[1].addr))
+    return how % (_value(pair[1]), trace.names.name(pair[1].addr, pair[1].width))
 
 
 def _use(trace, use):
     if use.access:
-        return "stores %s to %s (%s)" % (_value(use.access), trace.names.name(use.access.addr),
+        return "stores %s to %s (%s)" % (_value(use.access), trace.names.name(use.access.addr, use.access.width),
                                      _at(trace, (use.commit, use.access)))
     if use.commit is None:
         return "never looks again"
     served = use.commit.served
+    if printed(use.commit):
+        return "prints " + _print(trace, use.commit)
     what = "faults, cause %d" % served.result if served.name in ("fault", "break") else "calls " + what_served(use.commit).replace(" answers ", ", which answers ")
     return "%s (commit %d, %s)" % (what, use.commit.told, place(trace, _chain(trace, use.commit)[0]))
 

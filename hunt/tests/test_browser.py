@@ -111,6 +111,8 @@ class Shown(unittest.TestCase):
                 self.browser.tell("view.per = near")
                 self.browser.key("Home")
                 for commit in range(min(3, len(trace.commits))):
+                    self.browser.tell("revealLane(lanes[laneOf[%d]])" % commit)  # of many lanes some are below what is shown
+                    self.browser.settle()
                     self.browser.point(*self.browser.tell(
                         "[x(slotAt[%d]) + 4, lanes[laneOf[%d]].y + 5 + main.getBoundingClientRect().top - at('scroll').scrollTop]"
                         % (commit, commit)))

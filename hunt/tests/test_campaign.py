@@ -12,6 +12,7 @@ from unittest import mock
 import support
 from campaign import far, machines, plans, rates
 from campaign.conduct import Conductor, Keeping, Stop
+from campaign.enough import LOOKS, Enough, last_commit
 from campaign.ends import console_sum, ended_of, threads_text
 from campaign.identity import Identity
 from campaign.pool import Done
@@ -73,6 +74,24 @@ class Ends(unittest.TestCase):
                              (whole.threads, whole.console, whole.rows, whole.commits, ended.is_complete), recorded.name)
             self.assertEqual(bool(console_sum(ended)), bool(whole.console))
             self.assertEqual(len(threads_text(ended).split()), len(whole.threads))
+
+
+class Events(unittest.TestCase):
+    REPORT = b"events 9000\ng 700 0 0 chunk 16\ng 900 0 1 exit 0\ng 950 1 0 chunk 3\nend\n"
+
+    def test_last_commit(self):
+        self.assertEqual([last_commit(self.REPORT, sphere) for sphere in (0, 1, 2)], [900, 950, None])
+
+    def test_first_events(self):
+        """With twice as many as were needed, if that saves half."""
+        enough = Enough()
+        for _ in range(LOOKS - 1):
+            enough.look(0, self.REPORT, 0)
+        self.assertEqual((enough.wants(0, 3999), enough.first(0, 9000)), (True, None))
+        enough.look(0, self.REPORT.replace(b"g 900", b"g 1000"), 0)
+        self.assertEqual([enough.wants(0, 3999), enough.wants(0, 4000), enough.wants(1, 3999)], [False, True, True])
+        self.assertEqual([enough.first(0, events) for events in (9000, 4000, 3999, None)], [2000, 2000, None, None])
+        self.assertIsNone(enough.first(1, 9000))
 
 
 class Orders(unittest.TestCase):
@@ -207,6 +226,8 @@ class Rates(unittest.TestCase):
         self.assertEqual([rate[:3] for rate in rates.by_value(rows)],
                          [("chunk=16", 30, 4), ("chunk=32", 30, 0), ("depth=1", 40, 3), ("depth=2", 20, 1)])
         self.assertEqual([rate.name for rate in rates.by_setting(rows)], [rows[0][0], rows[1][0], rows[2][0]])
+        alike = ["chunk=%d" % chunk for chunk in (16, 64, 128)]
+        self.assertEqual([rate.name for rate in rates.by_setting([(name, 9, 0) for name in alike])], alike)
 
 
 if __name__ == "__main__":

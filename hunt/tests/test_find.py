@@ -18,11 +18,12 @@ from unittest import mock
 import support
 from lib.account import program
 from lib.finding import read_program
+from lib.folded import MOST_ROWS, folded
 from lib.hangs import waits
 from lib.logs import write_log
-from lib.story import Row
+from lib.story import KEY, OWN, SHARED, Row, Turn
 from lib.storylines import row_lines
-from lib.trace import open_trace
+from lib.trace import Context, open_trace
 from lib.waiting import waiting_lines
 from test_guide import HAS_LINES
 
@@ -97,8 +98,9 @@ class Lines(InScratch):
 
     def test_freed_block(self):
         _, said, _ = self.found("usedafterfree.elf")
-        self.assertIn("thread 2 loads the block of usedafterfree.c:13 (read_latest, usedafterfree.c:37), which thread 1 has freed "
-                      "(replace, usedafterfree.c:25)\n", said)
+        self.assertRegex(said, r"thread 2 loads from the block of usedafterfree.c:13 \(commit \d+, read_latest, usedafterfree.c:37\), "
+                               r"which thread 1 has freed \(commit \d+, replace, usedafterfree.c:25\)\n")
+        self.assertNotIn("loads from the block of usedafterfree.c:13 (main", said)  # as the library does when it looks at the heap
         self.assertRegex(said, r"frees +block of usedafterfree.c:13 +replace, usedafterfree.c:25\n")
 
 
@@ -119,6 +121,16 @@ class Found(InScratch):
             (self.out / "replay.toml").write_text(plan.replace("cores = 4", "cores = %d" % cores))
             subprocess.run([*program(), "run", "replay.toml"], cwd=self.out, check=True, stdout=subprocess.DEVNULL)
             self.assertEqual((self.out / "replayed.account").read_bytes(), walked)
+
+    def test_what_a_replay_shows(self):
+        for name in ("account.elf", "deadlock.elf"):
+            _, said, _ = self.found(name)
+            printed = subprocess.run([*program(), "run", "replay.toml"], cwd=self.out, check=True, capture_output=True, text=True).stdout
+            line = re.search(r"which prints `(s 0 complete \d+)`, since", said)[1]
+            self.assertIn(line, printed.splitlines())
+            command, states = re.search(r"^  (grep .*) shows how the threads ended: (.*)$", said, re.M).groups()
+            shown = subprocess.run(command, shell=True, cwd=self.out, check=True, capture_output=True, text=True).stdout
+            self.assertEqual(", ".join("`%s`" % row for row in shown.splitlines()), states)
 
     def test_json(self):
         status, said, _ = self.found("deadlock.elf", "--json")
@@ -210,6 +222,44 @@ class Folders(InScratch):
         self.assertEqual(self.out.read_text(), "a file")
 
 
+class Folded(unittest.TestCase):
+    def turn(self, *ranks):
+        """A turn with a row of each rank; the step of a row is its place."""
+        return Turn(Context(1, 0), "work", [Row("loads", "w%d" % j, rank=rank, step=j) for j, rank in enumerate(ranks)], False)
+
+    def shown(self, *turns, steps=()):
+        return [(turn is not None, [row if isinstance(row, int) else row.step for row in rows] if turn else rows)
+                for turn, rows in folded(list(turns), frozenset(steps))]
+
+    def test_a_short_story_is_told_whole(self):
+        self.assertEqual(self.shown(self.turn(*[OWN] * MOST_ROWS)), [(True, list(range(MOST_ROWS)))])
+
+    def test_what_is_a_threads_own_is_left_out_first(self):
+        self.assertEqual(self.shown(self.turn(SHARED, *[OWN] * 60, SHARED, KEY)), [(True, [0, 60, 61, 62])])
+
+    def test_two_rows_beside_a_switch_and_what_matters_are_told(self):
+        ranks = [SHARED] * 60
+        ranks[20] = KEY
+        self.assertEqual(self.shown(self.turn(*ranks), steps=[30]), [(True, [0, 1, 18, 20, 9, 30, 27, 58, 59])])
+
+    def test_turns_in_the_middle_are_left_out(self):
+        turns = [self.turn(SHARED, SHARED)] * 40
+        turns[20] = Turn(Context(2, 0), "work", [Row("frees", "b", rank=KEY, step=99)], False)
+        shown = self.shown(*turns, steps=[99])
+        self.assertEqual([rows for is_turn, rows in shown if not is_turn], [8, 7])
+        self.assertEqual(shown[13], (True, [99]))
+
+
+class Clock(unittest.TestCase):
+    def test_code_that_reads_a_clock(self):
+        """calls.elf makes each call of the kernel, and copies.elf loads the devices' second word alone. In the images of tests the library has
+        the waits until a time, and nothing comes there."""
+        for image, wanted in (("examples/calls/calls.elf", True), ("examples/input/copies.elf", False), ("examples/race/race.elf", False)):
+            self.assertEqual(read_program(support.TOP / image, 1 << 16).has_clock, wanted, image)
+        for image in IMAGES.glob("*.elf"):
+            self.assertFalse(read_program(image).has_clock, image)
+
+
 class Columns(unittest.TestCase):
     def test_a_long_word_is_cut_and_widens_nothing(self):
         rows = [Row("loads", "count", "00000001", "work, a.c:3"), Row("prints", "x" * 100, "", "work, a.c:4"),
@@ -248,7 +298,7 @@ class Sources(InScratch):
     @unittest.skipUnless(HAS_LINES, NO_LINES)
     def test_block_freed_twice(self):
         _, said, _ = find(EXAMPLES / "doublefree.c", "--out", self.out)
-        self.assertRegex(said, r"thread \d frees the block of doublefree.c:30 \(close_connection, doublefree.c:18\), which thread \d has freed ")
+        self.assertRegex(said, r"thread \d frees the block of doublefree.c:30 \(commit \d+, close_connection, doublefree.c:18\), which thread \d has freed ")
 
     def test_words_for_the_compiler(self):
         status, said, errors = find("-DMENDED", EXAMPLES / "account.c", "-O1", "--out", self.out)
@@ -270,7 +320,7 @@ class Sources(InScratch):
                              "static int *other(void) { static int count; return &count; }\n"
                              "int main(void) { mine()[1] = 3; *other() += 2; return *other(); }\n")
         _, said, _ = find(source, "--out", self.out, "-O1", "--bad", "word mine::count+4 = 3 and word other::count = 2")
-        self.assertRegex(said, r"stores +mine::count\+0x4 +00000003 over")
+        self.assertRegex(said, r"stores +mine::count\[1\] +00000003 over")
         self.assertRegex(said, r"stores +other::count +00000002 over")
         _, _, errors = find(source, "--out", self.out, "--bad", "word count = 3")
         self.assertIn("there are several: mine::count, other::count", errors)

@@ -50,6 +50,8 @@ def shown(text):
 def without_lines(text):
     """A line without source lines and addresses of code, and with single spaces."""
     text = re.sub(r"(\w+), (\w+\.\w+:\d+|[0-9A-F]{8})", r"\1", text)
+    if not HAS_LINES:  # nor are parts of variables known
+        text = re.sub(r"\b(blocks|room|results)(\[\d\]|\.[a-z]+|\+0x[0-9A-F]+)+", r"\1", text)
     return re.sub(r" +", " ", re.sub(r"\b(\w+) to \1\b", r"\1", text)).strip()
 
 

@@ -12,8 +12,12 @@ from pathlib import Path
 from unittest import mock
 
 import support
+from campaign import enough
 from campaign.conduct import FILES
+from campaign.plans import read_plan
+from campaign.program import find_program
 from campaign.store import NAME, Store
+from campaign.trying import BAD, Campaign, Trier
 from campaigns import COUNT_IS_WRONG, HAS_COMPILER, NO_COMPILER, NOT_BUILT, RACE, SEEDS, SLEEP, Scratch, rows_in, said
 from killing import kill_and_resume
 from lib.account import program
@@ -84,13 +88,39 @@ class Campaigns(Scratch):
 
     @unittest.skipUnless(HAS_COMPILER, NO_COMPILER)
     def test_hang_that_comes_early(self):
-        """The run has come to it after a few of many events; then these are what is kept, with a log that its plan records again."""
+        """The run has come to it after a few of many events; these are what is kept, with a log that its plan records again."""
         self.copy(SLEEP / "plan.toml", SLEEP / "sleep.elf", events=400_000)
         _, text = said("plan.toml", "--bad", "hang", "--seeds", "38-39", "--keep", "kept")
         self.assertIn("2 tries: 1 good, 1 bad, 0 live, 0 hung\n", text)
         self.assertEqual([row[3] for row in self.kept()], [400_000, 25_000])
         subprocess.run([*program(), "run", "kept/seed-39.toml"], check=True, stdout=subprocess.DEVNULL)
         self.assertEqual(Path("sleep.log").read_bytes(), Path("kept/seed-39.log").read_bytes())
+
+    @unittest.skipUnless(HAS_COMPILER, NO_COMPILER)
+    def test_hang_needs_no_more_events(self):
+        """Its loops were walked, so a run with four times as many events wouldn't tell more."""
+        self.copy(SLEEP / "plan.toml", SLEEP / "sleep.elf", events=100_000)
+        plan = read_plan("plan.toml")
+        with mock.patch.dict(os.environ, DELOREAN=" ".join(program())):
+            trier = Trier(Campaign(find_program(), plan, [{}], ["hang"], 1_600_000), self.folder)
+            with mock.patch.object(trier, "run", wraps=trier.run) as run:
+                result = trier.tried(0, 39)
+        self.assertEqual((result.outcome, result.events), (BAD, 25_000))
+        self.assertEqual([call.args[2] for call in run.call_args_list], [100_000, 6_250, 25_000])
+
+    @unittest.skipUnless(HAS_COMPILER, NO_COMPILER)
+    def test_fewer_events_where_they_are_enough(self):
+        """A campaign has the same tries and logs, whether it begins them with fewer events or not; hangs are among them."""
+        self.copy(SLEEP / "plan.toml", SLEEP / "sleep.elf", events=400_000)
+        for folder, looks in (("fewer", 2), ("all", 1000)):
+            with mock.patch.object(enough, "LOOKS", looks):
+                said("plan.toml", "--bad", "hang", "--seeds", "36-42", "--jobs", 1, "--keep", folder)
+        self.assertEqual(self.kept("fewer"), self.kept("all"))
+        self.assertEqual(rows_in("fewer"), rows_in("all"))
+        self.assertIn((39, "bad", 25_000), [row[1:4] for row in self.kept("fewer")])
+        for name in os.listdir("all"):
+            if name != NAME:
+                self.assertEqual(Path("fewer", name).read_bytes(), Path("all", name).read_bytes(), name)
 
     def test_varied(self):
         self.copy(RACE / "plan.toml", RACE / "race.elf")
@@ -102,14 +132,24 @@ class Campaigns(Scratch):
 
     def test_walk_that_says_otherwise(self):
         self.copy(RACE / "plan.toml", RACE / "race.elf")
+        status, text = self.said_by_liar("plan.toml", "--bad", COUNT_IS_WRONG, "--seeds", "1-3", "--keep", "kept")
+        self.assertEqual(status, 3, text)
+        self.assertIn("seeds: seed 3: the walk of the log has another account than the run\n", text)
+        self.assertEqual((os.listdir("kept"), [row[1] for row in self.kept()]), ([NAME], [1, 2]))
+
+    @unittest.skipUnless(HAS_COMPILER, NO_COMPILER)
+    def test_walk_of_a_hang_that_says_otherwise(self):
+        self.copy(SLEEP / "plan.toml", SLEEP / "sleep.elf", events=400_000)
+        status, text = self.said_by_liar("plan.toml", "--bad", "hang", "--seeds", "39", "--keep", "kept")
+        self.assertEqual((status, text.startswith("seeds: seed 39: the walk of the log has another account")), (3, True), text)
+
+    def said_by_liar(self, *words):
+        """What the command says with a program whose walks say that nothing was done."""
         liar = self.folder / "liar"
         liar.write_text('#!/bin/sh\n[ "$1" != walk ] || { echo "end complete 0"; exit; }\nexec %s "$@"\n' % " ".join(program()))
         liar.chmod(0o755)
         with mock.patch.dict(os.environ, DELOREAN=str(liar)):
-            status, text = said("plan.toml", "--bad", COUNT_IS_WRONG, "--seeds", "1-3", "--keep", "kept")
-        self.assertEqual(status, 3, text)
-        self.assertIn("seeds: seed 3: the walk of the log has another account than the run\n", text)
-        self.assertEqual((os.listdir("kept"), [row[1] for row in self.kept()]), ([NAME], [1, 2]))
+            return said(*words)
 
     def test_goes_on(self):
         self.copy(RACE / "plan.toml", RACE / "race.elf")
@@ -146,7 +186,10 @@ class Campaigns(Scratch):
                 (("plan.toml", "--bad", "fault", "--vary", "chunk=8"),
                  "seed 1, chunk=8: refused plan 4: the plan, line 3: `chunk` is 8, but it has to be 16"),
                 (("plan.toml", "--bad", "fault", "--sphere", "1"), "sphere 1 of the plan isn't recorded"),
-                (("plan.toml", "--bad", "fault", "--resume"), "--resume needs --keep, the folder of the campaign")):
+                (("plan.toml", "--bad", "fault", "--resume"), "--resume needs --keep, the folder of the campaign"),
+                (("plan.toml", "--bad", "fault", "--slurm", "x"), "--slurm needs --keep, the folder of the campaign"),
+                (("plan.toml", "--bad", "fault", "--keep", "k", "--slurm", "x", "--stop-after", "1"),
+                 "--slurm and --stop-after don't go together")):
             status, text = said(*words)
             self.assertEqual(status, 2, words)
             self.assertIn("seeds: ", text)
@@ -234,6 +277,14 @@ class Reports(Scratch):
         self.assertIn("\n  a thread is left before 0000009C, 00000400\n", text)
         self.assertIn("\n  a thread is left before 000000E0, 00000404\n", text)
         self.assertEqual(len(re.findall(r"kept/bug-[12].log: .* 1 forced; walked", text)), 2, text)
+
+    def test_hung_runs(self):
+        self.copy(SLEEP / "plan.toml", SLEEP / "sleep.elf")
+        said("plan.toml", "--bad", "fault", "--seeds", "38-39", "--keep", "kept")
+        status, text = said("report", "kept", "--seconds", 0)
+        self.assertIn("seeds 38 to 39: 2 tries, 1 good, 0 bad, 0 live, 1 hung\n", text)
+        self.assertIn("\nno run was bad; so, with 95%, at most 65.8% of runs are\n", text)
+        self.assertIn("\n1 run hung, which isn't counted as bad here; with --bad hang it is\n", text)
 
     def test_one_bug_with_several_ends(self):
         self.copy(RACE / "plan.toml", RACE / "race.elf")

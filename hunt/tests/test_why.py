@@ -43,7 +43,7 @@ class Examples(unittest.TestCase):
     def test_words(self):
         for plan, word, *_ in STALE:
             _, trace = traced(plan)
-            self.assertEqual(trace.names.name(stale_uses(trace)[0].word), word, plan)
+            self.assertEqual(stale_uses(trace)[0].word, trace.names.word(word), plan)
 
     @unittest.skipUnless(HAS_LINES, NO_LINES)
     def test_source_lines(self):

@@ -11,6 +11,7 @@ from lib.symbols import Names as Symbols
 from lib.symbols import NoWord
 from lib.trace import Trace
 from lib.words import aba, last_store, lost, shared_words, uses
+from test_guide import HAS_LINES, NO_LINES
 
 
 def commits(find):
@@ -149,8 +150,22 @@ class Names(unittest.TestCase):
         for text, wanted in (("counter", counter), ("counter+4", counter + 4), ("600", 0x600), ("0x600", 0x600),
                              ("00000600", 0x600), ("600+0x10", 0x610), ("counter+3", counter)):
             self.assertEqual(names.word(text), wanted, text)
-        self.assertEqual(names.name(names.word("stacks+0x10")), "stacks+0x10")
+        self.assertEqual(names.name(names.word("stacks+0x10")), "stacks[0].words[4]" if HAS_LINES else "stacks+0x10")
         for text in ("count", "counter+x", "counter-4", "", "1000", "F0000000", "counter+0x1000", "600 "):
+            with self.assertRaises(NoWord, msg=text):
+                names.word(text)
+
+    @unittest.skipUnless(HAS_LINES, NO_LINES)
+    def test_parts(self):
+        names = support.traced("aba, plan.toml").names
+        blocks = names.by_name["blocks"].addr
+        for text, away in (("blocks[3].below", 0x18), ("blocks[2].owner", 0x14), ("blocks[2]", 0x10), ("blocks[2]+4", 0x14)):
+            self.assertEqual(names.word(text), blocks + away, text)
+        self.assertEqual(list(names.words("blocks[2]")), [blocks + 0x10, blocks + 0x14])
+        self.assertEqual([names.name(blocks + away, width) for away, width in ((0x18, 4), (0x14, 4), (0x14, 1), (0x10, 8))],
+                         ["blocks[3].below", "blocks[2].owner", "blocks[2].owner", "blocks[2]"])
+        self.assertEqual([names.name(blocks + 0x15, 1), names.whole_name(blocks + 0x15)], ["blocks[2].owner+0x1", "blocks"])
+        for text in ("blocks[9]", "blocks.below", "blocks[2].none", "blocks[3].below.x", "top.x", "blocks[", "blocks[2"):
             with self.assertRaises(NoWord, msg=text):
                 names.word(text)
 

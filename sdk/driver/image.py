@@ -19,8 +19,8 @@ def _quoted(text):
 
 
 def settings(words):
-    """What the library takes from the command, as assembler: the words of main, whether waits may return without a signal, and how long an
-    event is."""
+    """What the library takes from the command, as assembler: the words of main, whether waits may return without a signal, how long an
+    event is, and whether freed blocks are kept."""
     name = Path(words.output).name.removesuffix(".elf")
     texts = [name, *words.arguments]
     lines = ['.file "settings.S"', ".data", ".balign 4", ".globl __argument_count, __arguments"]
@@ -28,7 +28,8 @@ def settings(words):
     lines += [" .word argument_%d" % j for j in range(len(texts))] + [" .word 0"]
     lines += ["argument_%d: .asciz %s" % (j, _quoted(text)) for j, text in enumerate(texts)]
     lines += [".section .rodata", ".balign 4", ".globl __spurious", "__spurious: .word %d" % words.spurious,
-              ".globl __event_time", "__event_time: .word %d" % words.numbers["event-time"]]
+              ".globl __event_time", "__event_time: .word %d" % words.numbers["event-time"],
+              ".globl __keep_freed", "__keep_freed: .word %d" % words.keep_freed]
     return "\n".join(lines) + "\n"
 
 

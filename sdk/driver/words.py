@@ -14,6 +14,7 @@ Compiles and links a C program that uses pthreads and the C library, for delorea
   --threads N     threads at once, with the first (15; up to 63 with logs of version 2)
   --event-time N  microseconds of an event, a power of ten (1)
   --spurious      each wait for a condition variable may return once without a signal
+  --keep-freed    malloc gives out no block again, so what is stored to a freed one is found whenever it comes
   --clang         clang with lld, also if gcc is there"""
 
 WITH_VALUE = {"-I", "-D", "-U", "-include", "-imacros", "-isystem", "-iquote", "-idirafter", "-MF", "-MT", "-MQ", "-x", "-L", "-l"}
@@ -46,6 +47,7 @@ class Words:
         "stack": 2048, "heap": 32768, "threads": 15, "events": 0, "cores": 4, "chunk": 16, "seed": 1, "event-time": 1})
     plan: str | None = None
     spurious: bool = False
+    keep_freed: bool = False
     clang: bool = False
 
 
@@ -74,8 +76,8 @@ def _one(words, word, rest):
     name, equals, value = word[2:].partition("=")
     if word.startswith("--") and (name in words.numbers or name in ("plan", "args")):
         _own(words, name, value if equals else _next(word, rest))
-    elif word in ("--spurious", "--clang"):
-        setattr(words, word[2:], True)
+    elif word in ("--spurious", "--keep-freed", "--clang"):
+        setattr(words, word[2:].replace("-", "_"), True)
     elif word == "-o":
         words.output = _next(word, rest)
     elif word in WITH_VALUE:

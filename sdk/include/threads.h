@@ -1,4 +1,4 @@
-/* C11 threads, each call by the one of pthread.h; macros if it has the line of the caller. */
+/* C11 threads, each call by the one of pthread.h; those that wait, or that others wait for, are macros too. */
 #ifndef DELOREAN_THREADS_H
 #define DELOREAN_THREADS_H
 
@@ -45,29 +45,49 @@ static inline int mtx_init(mtx_t *mutex, int kind) {
     return __delorean_thrd(pthread_mutex_init(mutex, &a));
 }
 
+static inline thrd_t thrd_current(void) { return pthread_self(); }
+static inline int thrd_equal(thrd_t a, thrd_t b) { return pthread_equal(a, b); }
+static inline int thrd_detach(thrd_t thread) { return __delorean_thrd(pthread_detach(thread)); }
+static inline void thrd_yield(void) { (void)sched_yield(); }
+static inline int thrd_sleep(const struct timespec *span, struct timespec *left) { return nanosleep(span, left); }
+static inline void mtx_destroy(mtx_t *mutex) { (void)pthread_mutex_destroy(mutex); }
+static inline int cnd_init(cnd_t *cond) { return __delorean_thrd(pthread_cond_init(cond, NULL)); }
+static inline void cnd_destroy(cnd_t *cond) { (void)pthread_cond_destroy(cond); }
+static inline int tss_create(tss_t *key, tss_dtor_t destructor) { return __delorean_thrd(pthread_key_create(key, destructor)); }
+static inline void *tss_get(tss_t key) { return (void *)pthread_getspecific(key); }
+static inline int tss_set(tss_t key, void *value) { return __delorean_thrd(pthread_setspecific(key, value)); }
+static inline void tss_delete(tss_t key) { (void)pthread_key_delete(key); }
+
+/* These are functions, for whoever takes their address; calls of them are the macros below, which have the line of the caller. */
+static inline int thrd_create(thrd_t *thread, thrd_start_t function, void *argument) {
+    return __delorean_thrd(pthread_create(thread, NULL, (void *(*)(void *))function, argument));
+}
+_Noreturn static inline void thrd_exit(int code) { pthread_exit((void *)(intptr_t)code); }
+static inline int mtx_lock(mtx_t *mutex) { return __delorean_thrd(pthread_mutex_lock(mutex)); }
+static inline int mtx_trylock(mtx_t *mutex) { return __delorean_thrd(pthread_mutex_trylock(mutex)); }
+static inline int mtx_timedlock(mtx_t *mutex, const struct timespec *until) {
+    return __delorean_thrd(pthread_mutex_timedlock(mutex, until));
+}
+static inline int mtx_unlock(mtx_t *mutex) { return __delorean_thrd(pthread_mutex_unlock(mutex)); }
+static inline int cnd_signal(cnd_t *cond) { return __delorean_thrd(pthread_cond_signal(cond)); }
+static inline int cnd_broadcast(cnd_t *cond) { return __delorean_thrd(pthread_cond_broadcast(cond)); }
+static inline int cnd_wait(cnd_t *cond, mtx_t *mutex) { return __delorean_thrd(pthread_cond_wait(cond, mutex)); }
+static inline int cnd_timedwait(cnd_t *cond, mtx_t *mutex, const struct timespec *until) {
+    return __delorean_thrd(pthread_cond_timedwait(cond, mutex, until));
+}
+static inline void call_once(once_flag *flag, void (*function)(void)) { (void)pthread_once(flag, function); }
+
 #define thrd_create(thread, function, argument) \
     __delorean_thrd(pthread_create((thread), NULL, (void *(*)(void *))(thrd_start_t)(function), (argument)))
 #define thrd_exit(code) pthread_exit((void *)(intptr_t)(code))
-#define thrd_current() pthread_self()
-#define thrd_equal(a, b) pthread_equal((a), (b))
-#define thrd_detach(thread) __delorean_thrd(pthread_detach(thread))
-#define thrd_yield() ((void)sched_yield())
-#define thrd_sleep(span, left) nanosleep((span), (left))
 #define mtx_lock(mutex) __delorean_thrd(pthread_mutex_lock(mutex))
 #define mtx_trylock(mutex) __delorean_thrd(pthread_mutex_trylock(mutex))
 #define mtx_timedlock(mutex, until) __delorean_thrd(pthread_mutex_timedlock((mutex), (until)))
 #define mtx_unlock(mutex) __delorean_thrd(pthread_mutex_unlock(mutex))
-#define mtx_destroy(mutex) ((void)pthread_mutex_destroy(mutex))
-#define cnd_init(cond) __delorean_thrd(pthread_cond_init((cond), NULL))
 #define cnd_signal(cond) __delorean_thrd(pthread_cond_signal(cond))
 #define cnd_broadcast(cond) __delorean_thrd(pthread_cond_broadcast(cond))
 #define cnd_wait(cond, mutex) __delorean_thrd(pthread_cond_wait((cond), (mutex)))
 #define cnd_timedwait(cond, mutex, until) __delorean_thrd(pthread_cond_timedwait((cond), (mutex), (until)))
-#define cnd_destroy(cond) ((void)pthread_cond_destroy(cond))
-#define tss_create(key, destructor) __delorean_thrd(pthread_key_create((key), (destructor)))
-#define tss_get(key) pthread_getspecific(key)
-#define tss_set(key, value) __delorean_thrd(pthread_setspecific((key), (value)))
-#define tss_delete(key) ((void)pthread_key_delete(key))
 #define call_once(flag, function) ((void)pthread_once((flag), (function)))
 
 int timespec_get(struct timespec *, int);

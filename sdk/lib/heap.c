@@ -3,7 +3,8 @@
    on the order of threads; if that is used up, from a common part, by one atomic addition.
 
    After the bytes that were asked for comes a guard, and what is freed is filled with words that are no addresses. Both are looked at when
-   the block is freed or given out again, and when the program ends. */
+   the block is freed or given out again, and when the program ends. With delorean-cc --keep-freed no block is given out again, so
+   whatever is stored to a freed one is still there when the program ends. */
 #include "program.h"
 #include "wait.h"
 
@@ -27,6 +28,7 @@ enum { HEAD = 8, LEAST_GUARD = 4, MOST_GUARD = 16, SMALL = 8, CLASS_BITS = 12, M
 
 extern char __heap[], __heap_end[];
 extern unsigned __next_slot;
+extern const unsigned __keep_freed;
 int __is_over(struct thread *);
 static unsigned common_taken;
 
@@ -143,7 +145,7 @@ void *malloc(size_t size) {
         return NULL;
     }
     unsigned c = class_of(size);
-    struct heap_block *b = freed_before(c);
+    struct heap_block *b = __keep_freed ? NULL : freed_before(c);
     if (b == NULL)
         b = fresh(room_of(c));
     b->size = size;

@@ -93,6 +93,9 @@ class Driver(Case):
         ("int open(); int main(void) { return open(); }", "delorean-cc: open: there are no files"),
         ("int fork(); int main(void) { return fork(); }", "delorean-cc: fork: there is one process"),
         ("int helper(void) { return 0; }", "delorean-cc: no source has a main"),
+        ("int main(void) { unsigned __int128 x = 5; return (int)x; }", "delorean-cc: there is no __int128 on a machine of 32 bits"),
+        ("#include <threads.h>\nstruct lock { int (*mtx_lock)(mtx_t *); };\nint main(void) { struct lock l = {mtx_lock}; mtx_t m; "
+         "return l.mtx_lock(&m); }", "delorean-cc: thrd_create, mtx_lock and the like are macros too"),
         ("_Thread_local _Alignas(64) int x; int main(void) { return x; }", "aligned to more than 16 bytes"),
     ]
 

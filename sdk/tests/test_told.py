@@ -2,6 +2,7 @@
 
 from pathlib import Path
 import os
+import re
 import sys
 import tempfile
 import unittest
@@ -42,9 +43,74 @@ class Told(unittest.TestCase):
         self.assertRegex(second, r'^    and thread \d prints "\]\\n" .*, lineparts.c:11\) only then$')
 
     def test_a_store_that_comes_too_late(self):
-        first, second = self.told("timedout")["why"]
+        first, second, third = self.told("timedout")["why"]
+        self.assertRegex(third, r"^thread 0 \(main\) fails with what it finds: a stack, \w+ = 00000000 \(commit \d+, main, timedout.c:38\), "
+                                r"which thread 1 has stored \(commit \d+, receiver, timedout.c:18\)$")
         self.assertRegex(first, r"; thread 1 loads 00000000 of message \(commit \d+, receiver, timedout.c:18\),$")
         self.assertRegex(second, r"thread 0 stores 00000007 there only then \(commit \d+, main, timedout.c:33\)$")
+
+    def test_what_a_wait_until_a_time_answered(self):
+        order = self.told("timedout")["order"]
+        self.assertTrue(any(re.search(r"answers +pthread_cond_timedwait: ETIMEDOUT +receiver, timedout.c:17$", row) for row in order), order)
+
+    def test_a_verdict_that_rests_on_the_clock(self):
+        covered = self.find("timedout", "-DMENDED", "--tick", "50")[1]["covered"]
+        self.assertIn("with however many switches, if the clock goes on by 50 each time that it is read (--tick): all states", covered[0])
+        self.assertNotIn("clock", self.find("parts", "-DMENDED")[1]["covered"][0])
+
+    def test_a_store_to_a_freed_block(self):
+        """It is told at its own line, also if another thread has got the block's bytes since."""
+        for words, forced in (((), 2), (("--keep-freed",), 1)):
+            told = self.told("reuse", *words)
+            self.assertEqual(told["forced"], forced)
+            self.assertRegex(told["broken"][0], r"^thread 2 \(raises\) stored to the freed block of reuse.c:38: raises, reuse.c:31; "
+                                                r"freed by thread 1 \(closes\): closes, reuse.c:15$")
+            self.assertRegex(told["why"][0], r"^thread 2 stores to the block of reuse.c:38 \(commit \d+, raises, reuse.c:31\), which thread 1 "
+                                             r"has freed \(commit \d+, closes, reuse.c:15\)$")
+            self.assertTrue(any(re.search(r"stores +freed block of .* raises, reuse.c:31  <- thread 1 has freed it$", row)
+                                for row in told["order"]), told["order"])
+
+    def test_who_has_freed_it(self):
+        """Also if that was realloc, or the library at a thread's end."""
+        told = self.told("grow")
+        self.assertEqual(told["broken"], [
+            "thread 1 (adds) stored to the freed block of grow.c:27: adds, grow.c:21; freed by thread 2 (adds): append, grow.c:10"])
+        self.assertTrue(any(re.search(r"frees +block of grow.c:27 +append, grow.c:10$", row) for row in told["order"]), told["order"])
+        self.assertRegex(self.told("destructor")["why"][0], r"^thread 2 loads from the block of destructor.c:10 \(commit \d+, user, "
+                         r"destructor.c:24\), which thread 1 has freed \(commit \d+, __destroy_specifics, keys.c:\d+\)$")
+
+    def test_parts_of_variables(self):
+        told = self.told("parts")
+        order = "\n".join(told["order"])
+        for row in (r"takes +queue\.lock ", r"stores +queue\.tail ", r"stores +queue\.ring\[2\]\.sequence ", r"stores +queue\.ring\[2\]\.kind "):
+            self.assertRegex(order, row)
+        _, found = self.find("parts", "--bad", "word queue.ring[2].sequence = 5 and word take::taken[1] = 6", "-DMENDED")
+        self.assertRegex("\n".join(found["found"]["order"]), r"stores +take::taken\[1\] +00000006 over 00000000 ")
+
+    def test_who_could_have_woken_it(self):
+        """Nothing is stale here: the signal has come before the wait."""
+        why = self.told("parts")["why"]
+        self.assertTrue(any(re.search(r"^thread 1 \(take\) waits for condition queue.filled \(take, parts.c:21\); thread 2 signalled it "
+                                      r"before that \(commit \d+, put, parts.c:33\), and nobody has since$", line) for line in why), why)
+
+    def test_what_a_thread_that_fails_had_found(self):
+        why = self.told("ordered")["why"]
+        self.assertTrue(any(re.search(r"^thread 2 \(second\) fails with what it finds: stage = 00000001 \(commit \d+, second, ordered.c:25\), "
+                                      r"which thread 1 has stored \(commit \d+, first, ordered.c:15\)$", line) for line in why), why)
+
+    def test_an_order_is_cut_to_what_matters(self):
+        order = self.told("ordered")["order"]
+        self.assertLess(len(order), 40)
+        self.assertTrue(any(re.search(r"^ +\.\. \d+ more$", row) for row in order), order)
+        for row in ("frees +block of ordered.c:35", "gives back +lock +first", "takes +lock +second", "stores +stage +00000001", "loads +stage"):
+            self.assertTrue(any(re.search(row, line) for line in order), row)
+
+    def test_the_heap_is_looked_at_though_a_thread_was_not_joined(self):
+        """In the orders in which it has ended by then. In the others it is left out, and nothing is said of the heap."""
+        told = self.told("unjoined")
+        self.assertIn("malloc: written past the end of the block at ", told["console"])
+        self.assertEqual(told["broken"], ["thread 1 (write_past) stored past the end of the block of unjoined.c:15: write_past, unjoined.c:18"])
+        self.assertEqual((told["threads"][1]["state"], told["threads"][1]["code"]), ("ended", 0))
 
 
 if __name__ == "__main__":

@@ -1,14 +1,22 @@
 //! The program: it hands its words, the real files and the standard output to the one call `delorean`, and ends with its status.
 #![tactic(auto)]
 
-ghost use Rattle.std.specs.Prelude.{◌≡◌, ◌≢◌, [], drop, map, string_bytes, IfOk, IfErr, OnErr, IsErr};
+ghost use Rattle.std.specs.Prelude.{◌≡◌, ◌≢◌, ℕ, List, [], Some, true, drop, map, string_bytes, IfOk, IfErr, OnErr, IsErr};
 ghost use Rattle.std.specs.IoError.{error_kind};
 ghost use Rattle.std.specs.Vec.Iter.{into_iter_items};
+ghost use Rattle.dl_files.specs.Contents.{Contents};
+ghost use Rattle.dl_files.specs.Told.{held, seen_by};
+ghost use Rattle.dl_words.specs.Commands.{CommandValues, Run, command_of};
 ghost use Rattle.spec_program.specs.declared.status.Status.{Status};
+ghost use Rattle.spec_program.specs.Asked.{IsDone, outcome_of, reads_of};
+ghost use Rattle.spec_program.specs.Ends.{Stands, is_done};
+ghost use Rattle.spec_program.specs.Headline.{Headline};
+ghost use Rattle.spec_program.specs.Outside.{outside};
+ghost use Rattle.dl_commands.specs.Texts.{texts};
 ghost use Rattle.delorean.specs.Answers.{Answers};
 
 use dl_commands::delorean;
-use dl_files::{Files, RealFiles, Sink, StdSink};
+use dl_files::{Output, OutputSink, RealFiles, StdSink, System, SystemFiles};
 use spec_program::status::Status;
 use std::alloc::{AllocError, Global};
 use std::env::Args;
@@ -24,14 +32,37 @@ fn main(rt: HostRuntime) -> ExitCode {
     ExitCode::from(status_of(ended).code())
 }
 
-// Runs `delorean` over these files and this sink.
-fn run_over<F: Files, O: Sink>(
+// Runs the program over the files of a system and an output.
+fn run_over<S: System, O: Output>(
     alloc: Global,
     args: io::Result<Args<Global>>,
-    files: &mut F,
-    out: &mut O,
+    files: &mut SystemFiles<S>,
+    out: &mut OutputSink<O>,
 ) -> io::Result<Status> {
-    run(alloc, args, |words| delorean(alloc, words, files, out))
+    run(alloc, args, |words| delorean_over(alloc, words, files, out))
+}
+
+// The program's one call, over a system and an output that may tell what they hold: what it promises of files and a sink, it
+// promises of these.
+fn delorean_over<S: System, O: Output>(
+    alloc: Global,
+    words: &[&str],
+    files: &mut SystemFiles<S>,
+    out: &mut OutputSink<O>,
+) -> Status
+    ensures headline { (plan : List ℕ) (m : Contents)
+        → command_of (texts words.now) ≡ Some (Run plan) → held files.old.told ≡ Some m → is_done result ≡ true
+        → Headline plan m (held files.new.told) out.old.taken out.new.taken result }
+    ensures done { (command : CommandValues) (m : Contents)
+        → command_of (texts words.now) ≡ Some command → held files.old.told ≡ Some m → is_done result ≡ true
+        → IsDone command m (held files.new.told) out.old.taken out.new.taken result }
+    ensures stands { (m : Contents) → held files.old.told ≡ Some m
+        → Stands (outcome_of (texts words.now) m) (reads_of (texts words.now) m) m
+        (outside (seen_by files.old.told files.old.counts) out.old.taken out.old.faults)
+        (outside (seen_by files.new.told files.new.counts) out.new.taken out.new.faults)
+        result }
+{
+    delorean(alloc, words, files, out)
 }
 
 // Calls the program with the words of the process, and answers its status.

@@ -1,5 +1,5 @@
 -- However a command is done or stops, what it leaves is what its status says.
-use Rattle.std.proofs.Common.{◌≡◌, ◌⊎◌, ℕ, Bool, true, false, true≢false, if◌then◌else◌, List, [], slice_get, Option, Some, None, Result, Ok, Err, inl, inr, refl, sym, ◌∙◌, ap, subst, arith, append-nil}
+use Rattle.std.proofs.Common.{◌≡◌, ◌⊎◌, ℕ, zero, suc, Bool, true, false, true≢false, if◌then◌else◌, List, [], ◌∷◌, map, Contains, slice_get, Option, Some, None, Result, Ok, Err, inl, inr, refl, sym, ◌∙◌, ap, subst, arith, append-nil}
 use Rattle.std.proofs.lemmas.Option.{none-some}
 use Rattle.dl_files.specs.Contents.{Contents, IsLast}
 use Rattle.dl_files.specs.Seen.{Seen, IsKept, IsUnread, FailsOnce}
@@ -7,11 +7,12 @@ use Rattle.dl_words.specs.Commands.{CommandValues, Run, command_of}
 use Rattle.spec_program.specs.declared.status.Status.{Status}
 use Rattle.spec_program.specs.declared.status.Refusal.{Refusal}
 use Rattle.spec_program.specs.Statuses.{code_of, status_of}
-use Rattle.spec_program.specs.Lines.{absent_line, fault_line}
+use Rattle.spec_program.specs.Lines.{absent_line, fault_line, usage_line}
 use Rattle.spec_program.specs.Outside.{Outside, outside}
 use Rattle.spec_program.specs.Writes.{Write, written}
 use Rattle.spec_program.specs.Stages.{Refused, ◌>>◌}
-use Rattle.spec_program.specs.Tasks.{Task, setup_in, task_named}
+use Rattle.spec_program.specs.Files.{PlanRead}
+use Rattle.spec_program.specs.Tasks.{Task, setup_in, task_named, task_read}
 use Rattle.spec_program.specs.commands.Drill as drill
 use Rattle.spec_program.specs.commands.Run.{HasRun}
 use Rattle.spec_program.specs.Outcomes.{Finish, Outcome, status_in}
@@ -24,7 +25,8 @@ use Rattle.dl_gather.specs.declared.halt.Halt.{Halt}
 use Rattle.dl_commands.specs.declared.job.Job.{Job}
 use Rattle.dl_commands.specs.Jobs.{finish_of, writes_of, IsJobOf, IsRunOf, IsTaskJob}
 use Rattle.dl_gather.specs.declared.task.Task as gather
-use Rattle.dl_gather.specs.Halts.{Halts, IsFault, IsRefusal}
+use Rattle.dl_gather.specs.Halts.{Halts, IsAbsentSaid, IsFault, IsRefusal, IsUsage}
+use Rattle.dl_gather.specs.Names.{IsNamed}
 use Rattle.dl_gather.specs.Tasks.{IsTaskOf}
 use Rattle.dl_machine.specs.Setups.{setup_in as machine_of}
 use Rattle.dl_plan.specs.Values.{PlanValues}
@@ -33,6 +35,7 @@ use Rattle.spec_protocol.specs.declared.event.Event.{Event}
 use Rattle.spec_protocol.specs.machine.Machine as protocol
 use Rattle.dl_commands.specs.Ended.{IsLineSaid, IsRefusalSaid, Said, Stopped}
 use Rattle.dl_commands.specs.Performed.{IsCut, IsPerformed}
+use Rattle.dl_commands.specs.Untold.{IsSomeRun}
 use Rattle.dl_commands.proofs.Failing.{none_failed, read_failed}
 
 memory_stands : (o : Outcome) (reads : List (List ℕ)) (m : Contents) (before after : Outside) (s : Status) → s ≡ Status.Memory → IsShort o reads m before after → Stands o reads m before after s
@@ -125,6 +128,20 @@ task_run p asked task job of run = (
       (subst (λ (x : protocol.Setup). IsRunOf p x of.is.events job) (sym of.setup) (subst (λ (x : List Event). IsRunOf p (machine_of task.setup) x job) (sym of.events) run)),
 )
 
+-- and so it is the run of some task that the plan has
+pub some_run : (p : PlanValues) (read : PlanRead) (task : gather.Task) (job : Job) → IsTaskOf p (task_read p read) task → IsRunOf p (machine_of task.setup) (events_in task.schedule) job
+    → IsSomeRun p (finish_of job)
+some_run p read task job of run =
+    let made : IsRunOf p (setup_in of.is) of.is.events job =
+    subst (λ (x : protocol.Setup). IsRunOf p x of.is.events job) (sym of.setup) (subst (λ (x : List Event). IsRunOf p (machine_of task.setup) x job) (sym of.events) run)
+    in
+    record {
+      read = read;
+      task = of.is;
+      asked = of.asks;
+      does = λ i. Ok (record { diverged = sym made.diverged i; writes = sym made.writes i; text = sym made.text i });
+    }
+
 -- a run comes to what its task is to come to
 pub run_is : (task : Result Task Refused) (job : Job) → IsTaskJob task job → IsJobOf (task >> λ t. ran t.plan (setup_in t) t.events) job
 run_is task job (t, is, run) =
@@ -203,7 +220,8 @@ refused_stands Refusal.Absent text reads m before after e n took = record { stat
 none_written : (ws : List Write) (m : Contents) (known : Option Contents) → known ≡ Some m → Partly ws m known
 none_written ws m known e = (0, omega arith, inl e)
 
-took_none : (text : List ℕ) (old new : Option (List ℕ)) → new ≡ old → Took text old new
+-- nothing is the first bytes of any text
+pub took_none : (text : List ℕ) (old new : Option (List ℕ)) → new ≡ old → Took text old new
 took_none text None new e = (0, omega arith, e)
 took_none text (Some t) new e = (0, omega arith, e ∙ ap Some (sym (append-nil t)))
 
@@ -222,15 +240,17 @@ absent_is Refusal.Source e = absurd (omega (arith, ap code_of e))
 absent_is Refusal.Absent e = refl
 
 -- at a refusal the read of an absent name failed, or no call did
-refused_at : (task : Contents → Outcome) (old new : Seen) (why : Refusal) (line : List ℕ) (known : Option Contents) → old.known ≡ known → IsRefusal task why line old new
-    → ((name : List ℕ) × (line ≡ absent_line name) × IsUnread name old new) ⊎ (new ≡ old)
-refused_at task old new why line (Some m) e refused = inr (refused.known m e).1
-refused_at task old new Refusal.Usage line None e refused = inr (refused.other (λ x. omega (arith, ap (λ (w : Refusal). code_of (status_of w)) x)))
-refused_at task old new Refusal.Plan line None e refused = inr (refused.other (λ x. omega (arith, ap (λ (w : Refusal). code_of (status_of w)) x)))
-refused_at task old new Refusal.Image line None e refused = inr (refused.other (λ x. omega (arith, ap (λ (w : Refusal). code_of (status_of w)) x)))
-refused_at task old new Refusal.Grammar line None e refused = inr (refused.other (λ x. omega (arith, ap (λ (w : Refusal). code_of (status_of w)) x)))
-refused_at task old new Refusal.Source line None e refused = inr (refused.other (λ x. omega (arith, ap (λ (w : Refusal). code_of (status_of w)) x)))
-refused_at task old new Refusal.Absent line None e refused = inl (refused.unknown e refl)
+refused_at : (task : Contents → Outcome) (reads : Contents → List (List ℕ)) (old new : Seen) (why : Refusal) (line : List ℕ) (known : Option Contents) → old.known ≡ known → IsRefusal task reads why line old new
+    → ((said : IsAbsentSaid reads line old new) × IsUnread said.name old new) ⊎ (new ≡ old)
+refused_at task reads old new why line (Some m) e refused = inr (refused.known m e).1
+refused_at task reads old new Refusal.Usage line None e refused = inr (refused.other (λ x. omega (arith, ap (λ (w : Refusal). code_of (status_of w)) x)))
+refused_at task reads old new Refusal.Plan line None e refused = inr (refused.other (λ x. omega (arith, ap (λ (w : Refusal). code_of (status_of w)) x)))
+refused_at task reads old new Refusal.Image line None e refused = inr (refused.other (λ x. omega (arith, ap (λ (w : Refusal). code_of (status_of w)) x)))
+refused_at task reads old new Refusal.Grammar line None e refused = inr (refused.other (λ x. omega (arith, ap (λ (w : Refusal). code_of (status_of w)) x)))
+refused_at task reads old new Refusal.Source line None e refused = inr (refused.other (λ x. omega (arith, ap (λ (w : Refusal). code_of (status_of w)) x)))
+refused_at task reads old new Refusal.Absent line None e refused =
+    let said = refused.absent refl in
+    inl (said, said.unread e)
 
 -- A command halts before anything is written: the files were seen as `old` and then as `new`. The sink had taken so much, and
 -- then so much, and so its count of faults.
@@ -291,8 +311,8 @@ module _ (old new : Seen) (before after : Option (List ℕ)) (from to : ℕ) whe
 
   -- at most one of its reads failed
   pub halted_once : (task : Contents → Outcome) (reads : Contents → List (List ℕ)) (h : Halt) → Halts task reads old new h → FailsOnce old new
-  halted_once task reads (Halt.Refused why text) halts = elim (refused_at task old new why text.items old.known refl halts) [
-    | inl absent ↦ read_failed absent.0 old new absent.2
+  halted_once task reads (Halt.Refused why text) halts = elim (refused_at task reads old new why text.items old.known refl halts) [
+    | inl absent ↦ read_failed absent.0.name old new absent.1
     | inr same ↦ unfailed same
   ]
   halted_once task reads (Halt.Fault text) halts = read_failed halts.0 old new halts.2.unread
@@ -312,20 +332,20 @@ module _ (old new : Seen) (before after : Option (List ℕ)) (from to : ℕ) whe
   ]
   halted_line task reads Halt.OutOfMemory s halts stopped e = absurd (true≢false (sym e ∙ ap is_refusal stopped.0))
 
-  -- a name that is said to be absent, where no contents are known, is the last fault's
+  -- a name that is said to be absent is one of those to be read, and where no contents are known, the last fault's
   pub halted_absent : (task : Contents → Outcome) (reads : Contents → List (List ℕ)) (h : Halt) (s : Status) → Halts task reads old new h → Stopped h before after from to s
-      → old.known ≡ None → s ≡ Status.Absent → (name : List ℕ) × IsLast new.last name × IsLineSaid (absent_line name) before after from to
-  halted_absent task reads (Halt.Refused why text) s halts stopped none e = elim stopped.0 [
+      → s ≡ Status.Absent → (name : List ℕ) × IsNamed old.known reads name × (old.known ≡ None → IsLast new.last name) × IsLineSaid (absent_line name) before after from to
+  halted_absent task reads (Halt.Refused why text) s halts stopped e = elim stopped.0 [
     | inl due ↦
-        let absent = halts.unknown none (absent_is why (sym due.0 ∙ e)) in
-        (absent.0, absent.2.named, subst (λ (t : List ℕ). IsLineSaid t before after from to) absent.1 (stopped.1, due.1))
+        let said = halts.absent (absent_is why (sym due.0 ∙ e)) in
+        (said.name, said.named, (λ none. (said.unread none).named), subst (λ (t : List ℕ). IsLineSaid t before after from to) said.line_is (stopped.1, due.1))
     | inr memory ↦ absurd (no_memory_absent s memory.0 e)
   ]
-  halted_absent task reads (Halt.Fault text) s halts stopped none e = elim stopped.0 [
+  halted_absent task reads (Halt.Fault text) s halts stopped e = elim stopped.0 [
     | inl due ↦ absurd (no_fault_absent s due.0 e)
     | inr memory ↦ absurd (no_memory_absent s memory.0 e)
   ]
-  halted_absent task reads Halt.OutOfMemory s halts stopped none e = absurd (no_memory_absent s stopped.0 e)
+  halted_absent task reads Halt.OutOfMemory s halts stopped e = absurd (no_memory_absent s stopped.0 e)
 
 -- ---- a fault, and the line on it
 
@@ -340,30 +360,44 @@ no_refusal_fault Refusal.Grammar e = omega (arith, ap code_of e)
 no_refusal_fault Refusal.Source e = omega (arith, ap code_of e)
 no_refusal_fault Refusal.Absent e = omega (arith, ap code_of e)
 
--- the line on the last fault is said
-abbrev pub FaultSaid : (last old new : Option (List ℕ)) → (from to : ℕ) → Type 0
-FaultSaid last old new from to = (name : List ℕ) × IsLast last name × IsLineSaid (fault_line name) old new from to
+-- the line on the last fault is said, whose name is the command's own
+abbrev pub FaultSaid : (Own : List ℕ → Type 0) → (last old new : Option (List ℕ)) → (from to : ℕ) → Type 0
+FaultSaid Own last old new from to = (name : List ℕ) × Own name × IsLast last name × IsLineSaid (fault_line name) old new from to
+
+-- each name that is written is the command's own
+abbrev pub AreOwn : (Own : List ℕ → Type 0) → List Write → Type 0
+AreOwn Own ws = (name : List ℕ) → Contains (map (λ (w : Write). w.name) ws) name → Own name
+
+written_at : (ws : List Write) (i : ℕ) (w : Write) → slice_get ws i ≡ Some w → Contains (map (λ (v : Write). v.name) ws) w.name
+written_at [] i w e = absurd cc
+written_at (v ∷ ws) zero w e = let same : v ≡ w = cc in (0, omega arith, ap (λ (u : Write). u.name) same)
+written_at (v ∷ ws) (suc i) w e = let rest = written_at ws i w e in (suc rest.0, omega (arith, rest.1), rest.2)
+
+-- and so is that of the write that failed
+pub cut_own : (Own : List ℕ → Type 0) (ws : List Write) (name : List ℕ) (old new : Outside) (s : Status) → AreOwn Own ws → IsCut ws name old new s → Own name
+cut_own Own ws name old new s own cut =
+    own name (subst (Contains (map (λ (v : Write). v.name) ws)) cut.due.3 (written_at ws cut.due.0 cut.due.1 cut.due.2))
 
 -- a command that ends by a fault of a write says the line on it
-pub performed_fault : (d : Bool) (ws : List Write) (text : List ℕ) (old new : Outside) (s : Status) → IsPerformed d ws text old new s → s ≡ Status.Fault
-    → FaultSaid new.last old.taken new.taken old.sink_faults new.sink_faults
-performed_fault d ws text old new s (inl w) e = absurd (subst (Said d text old.taken new.taken old.sink_faults new.sink_faults) e w.said)
-performed_fault d ws text old new s (inr (inl (name, b))) e = elim b.said.0 [
-  | inl due ↦ (name, b.named, (b.said.1, due.1))
+pub performed_fault : (Own : List ℕ → Type 0) (d : Bool) (ws : List Write) (text : List ℕ) (old new : Outside) (s : Status) → AreOwn Own ws → IsPerformed d ws text old new s → s ≡ Status.Fault
+    → FaultSaid Own new.last old.taken new.taken old.sink_faults new.sink_faults
+performed_fault Own d ws text old new s own (inl w) e = absurd (subst (Said d text old.taken new.taken old.sink_faults new.sink_faults) e w.said)
+performed_fault Own d ws text old new s own (inr (inl (name, b))) e = elim b.said.0 [
+  | inl due ↦ (name, cut_own Own ws name old new s own b, b.named, (b.said.1, due.1))
   | inr memory ↦ absurd (no_memory_fault s memory.0 e)
 ]
-performed_fault d ws text old new s (inr (inr u)) e = absurd (no_memory_fault s u.status e)
+performed_fault Own d ws text old new s own (inr (inr u)) e = absurd (no_memory_fault s u.status e)
 
 -- where memory ran out after a fault, the first bytes of the line on it are said
-abbrev pub IsShortSaid : (last old new : Option (List ℕ)) → Type 0
-IsShortSaid last old new = (name : List ℕ) × IsLast last name × (Took (fault_line name) old new ⊎ Took (absent_line name) old new)
+abbrev pub IsShortSaid : (Own : List ℕ → Type 0) → (last old new : Option (List ℕ)) → Type 0
+IsShortSaid Own last old new = (name : List ℕ) × Own name × IsLast last name × (Took (fault_line name) old new ⊎ Took (absent_line name) old new)
 
 -- so of a write
-pub performed_short : (d : Bool) (ws : List Write) (text : List ℕ) (old new : Outside) (s : Status) → IsPerformed d ws text old new s → (new.faults ≡ old.faults → ⊥)
-    → IsShortSaid new.last old.taken new.taken
-performed_short d ws text old new s (inl w) failed = absurd (failed w.counted)
-performed_short d ws text old new s (inr (inl (name, b))) failed = (name, b.named, inl b.said.1)
-performed_short d ws text old new s (inr (inr u)) failed = absurd (failed u.counted)
+pub performed_short : (Own : List ℕ → Type 0) (d : Bool) (ws : List Write) (text : List ℕ) (old new : Outside) (s : Status) → AreOwn Own ws → IsPerformed d ws text old new s → (new.faults ≡ old.faults → ⊥)
+    → IsShortSaid Own new.last old.taken new.taken
+performed_short Own d ws text old new s own (inl w) failed = absurd (failed w.counted)
+performed_short Own d ws text old new s own (inr (inl (name, b))) failed = (name, cut_own Own ws name old new s own b, b.named, inl b.said.1)
+performed_short Own d ws text old new s own (inr (inr u)) failed = absurd (failed u.counted)
 
 -- ---- a command that stopped
 
@@ -393,25 +427,32 @@ module _ (before after : Option (List ℕ)) (from to : ℕ) (s : Status) where
 
   -- where it halted by a fault of a read, it says the line on it
   pub stopped_fault : (task : Contents → Outcome) (reads : Contents → List (List ℕ)) (old new : Seen) (h : Halt)
-      → Halts task reads old new h → Stopped h before after from to s → s ≡ Status.Fault → FaultSaid new.last before after from to
+      → Halts task reads old new h → Stopped h before after from to s → s ≡ Status.Fault → FaultSaid (IsNamed old.known reads) new.last before after from to
   stopped_fault task reads old new (Halt.Refused why text) halts stopped e = elim stopped.0 [
     | inl due ↦ absurd (no_refusal_fault why (sym due.0 ∙ e))
     | inr memory ↦ absurd (no_memory_fault s memory.0 e)
   ]
   stopped_fault task reads old new (Halt.Fault text) halts stopped e = elim stopped.0 [
-    | inl due ↦ (halts.0, halts.2.unread.named, subst (λ (t : List ℕ). IsLineSaid t before after from to) halts.1 (stopped.1, due.1))
+    | inl due ↦ (halts.0, halts.2.named, halts.2.unread.named, subst (λ (t : List ℕ). IsLineSaid t before after from to) halts.1 (stopped.1, due.1))
     | inr memory ↦ absurd (no_memory_fault s memory.0 e)
   ]
   stopped_fault task reads old new Halt.OutOfMemory halts stopped e = absurd (no_memory_fault s stopped.0 e)
 
   -- where memory ran out after a read that failed, the first bytes of the line on it are said
   pub stopped_short : (task : Contents → Outcome) (reads : Contents → List (List ℕ)) (old new : Seen) (h : Halt)
-      → Halts task reads old new h → Stopped h before after from to s → (new.faults ≡ old.faults → ⊥) → IsShortSaid new.last before after
-  stopped_short task reads old new (Halt.Refused why text) halts stopped failed = elim (refused_at task old new why text.items old.known refl halts) [
-    | inl absent ↦ (absent.0, absent.2.named, inr (subst (λ (t : List ℕ). Took t before after) absent.1 stopped.1))
+      → Halts task reads old new h → Stopped h before after from to s → (new.faults ≡ old.faults → ⊥) → IsShortSaid (IsNamed old.known reads) new.last before after
+  stopped_short task reads old new (Halt.Refused why text) halts stopped failed = elim (refused_at task reads old new why text.items old.known refl halts) [
+    | inl absent ↦ (absent.0.name, absent.0.named, absent.1.named, inr (subst (λ (t : List ℕ). Took t before after) absent.0.line_is stopped.1))
     | inr same ↦ absurd (failed (ap (λ (x : Seen). x.faults) same))
   ]
   stopped_short task reads old new (Halt.Fault text) halts stopped failed =
-      (halts.0, halts.2.unread.named, inl (subst (λ (t : List ℕ). Took t before after) halts.1 stopped.1))
+      (halts.0, halts.2.named, halts.2.unread.named, inl (subst (λ (t : List ℕ). Took t before after) halts.1 stopped.1))
   stopped_short task reads old new Halt.OutOfMemory (inl same) stopped failed = absurd (failed (ap (λ (x : Seen). x.faults) same))
-  stopped_short task reads old new Halt.OutOfMemory (inr (name, f)) stopped failed = (name, f.unread.named, inl (took_none (fault_line name) before after stopped.1))
+  stopped_short task reads old new Halt.OutOfMemory (inr (name, f)) stopped failed = (name, f.named, f.unread.named, inl (took_none (fault_line name) before after stopped.1))
+
+  -- words that mean no command have stopped it with the line on usage
+  pub stopped_usage : (command : Option CommandValues) (h : Halt) → IsUsage command h → Stopped h before after from to s → command ≡ None → Took usage_line before after
+  stopped_usage command (Halt.Refused why text) usage stopped none =
+      subst (λ (t : List ℕ). Took t before after) (usage.1 (usage.0.1 none)) stopped.1
+  stopped_usage command (Halt.Fault text) usage stopped none = absurd (usage none)
+  stopped_usage command Halt.OutOfMemory usage stopped none = took_none usage_line before after stopped.1

@@ -5,4 +5,5 @@ pub mod Growing
 pub mod Planned
 pub mod Putting
 pub mod Storing
+pub mod Untold
 pub mod Walks

@@ -4,4 +4,5 @@ pub mod Performed
 pub mod Products
 pub mod Stops
 pub mod Texts
+pub mod Untold
 pub mod Walks

@@ -1,10 +1,12 @@
 //! `asm SOURCE NAME`: the file of a source under a name.
 ghost use Rattle.std.specs.Prelude.{◌≡◌, Ok, Some, IfOk, IfErr, OnOk};
 ghost use Rattle.dl_files.specs.Contents.{Contents};
+ghost use Rattle.dl_words.specs.Commands.{Asm};
 ghost use Rattle.spec_program.specs.commands.Asm.{outcome, outcome_in, reads};
 ghost use Rattle.spec_program.specs.Sources.{assembled};
 ghost use Rattle.dl_gather.specs.Halts.{Halts, IsNotUsage, Refuses};
-ghost use Rattle.dl_commands.specs.Jobs.{IsJobOf};
+ghost use Rattle.dl_commands.specs.Jobs.{IsJobOf, finish_of};
+ghost use Rattle.dl_commands.specs.Untold.{MayFinish};
 
 use crate::job::{Job, filed};
 use dl_asm::{AsmError, assemble};
@@ -22,6 +24,8 @@ pub fn assemble_source<F: Files>(
 ) -> Result<Job, Halt>
     ensures job { IfOk result (λ job. (m : Contents) → (F.seen files.old).known ≡ Some m
         → IsJobOf (outcome m source.now name.now) job) }
+    ensures may { IfOk result (λ job.
+        MayFinish (F.seen files.old).known (Asm source.now name.now) (finish_of job)) }
     ensures halt { IfErr result (Halts (λ m. outcome m source.now name.now) (λ m. reads source.now)
         (F.seen files.old) (F.seen files.new)) }
     ensures usage { IfErr result IsNotUsage }

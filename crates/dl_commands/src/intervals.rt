@@ -1,12 +1,14 @@
 //! `interval IMAGE MEMORY LOG EVERY I J`: the commits of a log from one number up to another, and the state after them.
 ghost use Rattle.std.specs.Prelude.{◌≡◌, ◌≤◌, Some, IfOk, IfErr, OnOk};
 ghost use Rattle.dl_files.specs.Contents.{Contents};
+ghost use Rattle.dl_words.specs.Commands as commands;
 ghost use Rattle.dl_words.specs.Commands.{interval_view};
 ghost use Rattle.spec_program.specs.commands.Interval.{finish, outcome};
 ghost use Rattle.spec_program.specs.Operands.{playback_reads};
 ghost use Rattle.dl_gather.specs.Halts.{Halts, IsNotUsage};
 ghost use Rattle.dl_gather.specs.Inputs.{playback_view};
 ghost use Rattle.dl_commands.specs.Jobs.{IsJobOf, finish_of};
+ghost use Rattle.dl_commands.specs.Untold.{MayFinish};
 
 use crate::job::{Job, said};
 use dl_entry::{End, OutOfMemory};
@@ -24,6 +26,8 @@ pub fn tell_interval<F: Files>(
 ) -> Result<Job, Halt>
     ensures job { IfOk result (λ job. (m : Contents) → (F.seen files.old).known ≡ Some m
         → IsJobOf (outcome m (interval_view asked.now)) job) }
+    ensures may { IfOk result (λ job.
+        MayFinish (F.seen files.old).known (commands.Interval (interval_view asked.now)) (finish_of job)) }
     ensures halt { IfErr result (Halts (λ m. outcome m (interval_view asked.now))
         (λ m. playback_reads (interval_view asked.now).playback) (F.seen files.old) (F.seen files.new)) }
     ensures usage { IfErr result IsNotUsage }

@@ -1,9 +1,11 @@
 //! `migrate LOG NAME`: a log in version 2 under a name.
 ghost use Rattle.std.specs.Prelude.{◌≡◌, Some, IfOk, IfErr, OnOk};
 ghost use Rattle.dl_files.specs.Contents.{Contents};
+ghost use Rattle.dl_words.specs.Commands.{Migrate};
 ghost use Rattle.spec_program.specs.commands.Migrate.{finish, outcome, reads};
 ghost use Rattle.dl_gather.specs.Halts.{Halts, IsNotUsage};
 ghost use Rattle.dl_commands.specs.Jobs.{IsJobOf, finish_of};
+ghost use Rattle.dl_commands.specs.Untold.{MayFinish};
 
 use crate::job::{Job, logged};
 use dl_entry::OutOfMemory;
@@ -17,6 +19,8 @@ use std::alloc::Global;
 pub fn migrate<F: Files>(alloc: Global, files: &mut F, log: &str, name: &str) -> Result<Job, Halt>
     ensures job { IfOk result (λ job. (m : Contents) → (F.seen files.old).known ≡ Some m
         → IsJobOf (outcome m log.now name.now) job) }
+    ensures may { IfOk result (λ job.
+        MayFinish (F.seen files.old).known (Migrate log.now name.now) (finish_of job)) }
     ensures halt { IfErr result (Halts (λ m. outcome m log.now name.now) (λ m. reads log.now)
         (F.seen files.old) (F.seen files.new)) }
     ensures usage { IfErr result IsNotUsage }

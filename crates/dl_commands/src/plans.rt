@@ -3,10 +3,12 @@ ghost use Rattle.std.specs.Prelude.{◌≡◌, Some, IfOk, IfErr, OnOk};
 ghost use Rattle.dl_files.specs.Contents.{Contents};
 ghost use Rattle.dl_plan.specs.Files.{input_names};
 ghost use Rattle.dl_plan.specs.Values.{IsPlan, plan_view};
+ghost use Rattle.dl_words.specs.Commands.{Run};
 ghost use Rattle.spec_program.specs.commands.Run.{HasRun, outcome, reads};
 ghost use Rattle.spec_program.specs.Tasks.{task_named, task_planned};
 ghost use Rattle.dl_gather.specs.Halts.{Halts, IsNotUsage};
-ghost use Rattle.dl_commands.specs.Jobs.{IsJobOf, IsTaskJob};
+ghost use Rattle.dl_commands.specs.Jobs.{IsJobOf, IsTaskJob, finish_of};
+ghost use Rattle.dl_commands.specs.Untold.{IsSomeRun, MayFinish};
 
 use crate::job::Job;
 use crate::running::run;
@@ -21,6 +23,8 @@ pub fn run_plan<F: Files>(alloc: Global, files: &mut F, plan: &str) -> Result<Jo
         → IsJobOf (outcome m plan.now) job) }
     ensures limits { IfOk result (λ job. (m : Contents) → (F.seen files.old).known ≡ Some m
         → HasRun plan.now m) }
+    ensures may { IfOk result (λ job.
+        MayFinish (F.seen files.old).known (Run plan.now) (finish_of job)) }
     ensures halt { IfErr result (Halts (λ m. outcome m plan.now) (λ m. reads m plan.now)
         (F.seen files.old) (F.seen files.new)) }
     ensures usage { IfErr result IsNotUsage }
@@ -32,6 +36,8 @@ pub fn run_plan<F: Files>(alloc: Global, files: &mut F, plan: &str) -> Result<Jo
 fn run_named<F: Files>(alloc: Global, files: &mut F, name: &str) -> Result<Job, Halt>
     ensures job { IfOk result (λ job. (m : Contents) → (F.seen files.old).known ≡ Some m
         → IsTaskJob (task_named m name.now) job) }
+    ensures may { IfOk result (λ job.
+        MayFinish (F.seen files.old).known (Run name.now) (finish_of job)) }
     ensures halt { IfErr result (Halts (λ m. task_named m name.now) (λ m. reads m name.now)
         (F.seen files.old) (F.seen files.new)) }
     ensures usage { IfErr result IsNotUsage }
@@ -46,6 +52,7 @@ fn run_loaded<F: Files>(alloc: Global, files: &mut F, plan: &Plan) -> Result<Job
     requires { IsPlan (plan_view plan.now) }
     ensures job { IfOk result (λ job. (m : Contents) → (F.seen files.old).known ≡ Some m
         → IsTaskJob (task_planned m (plan_view plan.now)) job) }
+    ensures may { IfOk result (λ job. IsSomeRun (plan_view plan.now) (finish_of job)) }
     ensures halt { IfErr result (Halts (λ m. task_planned m (plan_view plan.now))
         (λ m. input_names (plan_view plan.now)) (F.seen files.old) (F.seen files.new)) }
     ensures usage { IfErr result IsNotUsage }

@@ -5,8 +5,9 @@ ghost use Rattle.dl_words.specs.Commands.{Drill, Run, command_of, command_view};
 ghost use Rattle.spec_program.specs.Asked.{outcome_for, outcome_of, reads_for, reads_of};
 ghost use Rattle.spec_program.specs.commands.Run.{HasRun};
 ghost use Rattle.dl_gather.specs.Halts.{Halts, IsNotUsage, IsUsage};
-ghost use Rattle.dl_commands.specs.Jobs.{IsDrill, IsJobOf};
+ghost use Rattle.dl_commands.specs.Jobs.{IsDrill, IsJobOf, finish_of};
 ghost use Rattle.dl_commands.specs.Texts.{texts};
+ghost use Rattle.dl_commands.specs.Untold.{MayFinish, MayFinishIf};
 
 use crate::assembling::assemble_source;
 use crate::drilling::drill_number;
@@ -33,6 +34,8 @@ pub fn prepare<F: Files>(alloc: Global, words: &[&str], files: &mut F) -> Result
     ensures limits { (plan : List ℕ) (m : Contents) → command_of (texts words.now) ≡ Some (Run plan)
         → (F.seen files.old).known ≡ Some m → IsOk result → HasRun plan m }
     ensures command { IsOk result → command_of (texts words.now) ≢ None }
+    ensures may { IfOk result (λ job.
+        MayFinishIf (F.seen files.old).known (command_of (texts words.now)) (finish_of job)) }
     ensures halt { IfErr result (Halts (outcome_of (texts words.now)) (reads_of (texts words.now))
         (F.seen files.old) (F.seen files.new)) }
     ensures usage { IfErr result (IsUsage (command_of (texts words.now))) }
@@ -56,6 +59,8 @@ fn compute_command<F: Files>(
         → IsJobOf (outcome_for m (command_view command.entry)) job) }
     ensures limits { (plan : List ℕ) (m : Contents) → command_view command.entry ≡ Run plan
         → (F.seen files.old).known ≡ Some m → IsOk result → HasRun plan m }
+    ensures may { IfOk result (λ job.
+        MayFinish (F.seen files.old).known (command_view command.entry) (finish_of job)) }
     ensures halt { IfErr result (Halts (λ m. outcome_for m (command_view command.entry))
         (λ m. reads_for m (command_view command.entry)) (F.seen files.old) (F.seen files.new)) }
     ensures usage { IfErr result IsNotUsage }

@@ -1,6 +1,7 @@
 //! `watch`, `who` and `when`: a log played on its image, and what is asked about one word of the memory.
 ghost use Rattle.std.specs.Prelude.{◌≡◌, ◌++◌, Some, IfOk, IfErr, OnOk};
 ghost use Rattle.dl_files.specs.Contents.{Contents};
+ghost use Rattle.dl_words.specs.Commands as commands;
 ghost use Rattle.dl_words.specs.Commands.{query_view};
 ghost use Rattle.spec_query.specs.Texts.{end_text};
 ghost use Rattle.spec_program.specs.commands.Query.{answer, finish, outcome, stores};
@@ -8,6 +9,7 @@ ghost use Rattle.spec_program.specs.Operands.{playback_reads};
 ghost use Rattle.dl_gather.specs.Halts.{Halts, IsNotUsage};
 ghost use Rattle.dl_gather.specs.Inputs.{playback_view};
 ghost use Rattle.dl_commands.specs.Jobs.{IsJobOf, finish_of};
+ghost use Rattle.dl_commands.specs.Untold.{MayFinish};
 
 use crate::job::{Job, said};
 use crate::walking::whole_end;
@@ -23,6 +25,8 @@ use std::alloc::Global;
 pub fn answer_query<F: Files>(alloc: Global, files: &mut F, query: &Query<'_>) -> Result<Job, Halt>
     ensures job { IfOk result (λ job. (m : Contents) → (F.seen files.old).known ≡ Some m
         → IsJobOf (outcome m (query_view query.now)) job) }
+    ensures may { IfOk result (λ job.
+        MayFinish (F.seen files.old).known (commands.Query (query_view query.now)) (finish_of job)) }
     ensures halt { IfErr result (Halts (λ m. outcome m (query_view query.now))
         (λ m. playback_reads (query_view query.now).playback) (F.seen files.old) (F.seen files.new)) }
     ensures usage { IfErr result IsNotUsage }

@@ -1,6 +1,7 @@
 //! `strata IMAGE MEMORY LOG NAME`: a log cut into strata on its image, as a file under a name.
 ghost use Rattle.std.specs.Prelude.{◌≡◌, Some, IfOk, IfErr, OnOk, length};
 ghost use Rattle.dl_files.specs.Contents.{Contents};
+ghost use Rattle.dl_words.specs.Commands as commands;
 ghost use Rattle.dl_words.specs.Commands.{playback_view as named};
 ghost use Rattle.spec_strata.specs.Bytes.{strata_bytes};
 ghost use Rattle.spec_program.specs.commands.Strata.{finish, outcome};
@@ -10,6 +11,7 @@ ghost use Rattle.spec_program.specs.Outcomes.{filed as filed_so};
 ghost use Rattle.dl_gather.specs.Halts.{Halts, IsNotUsage};
 ghost use Rattle.dl_gather.specs.Inputs.{playback_view};
 ghost use Rattle.dl_commands.specs.Jobs.{IsJobOf, finish_of};
+ghost use Rattle.dl_commands.specs.Untold.{MayFinish};
 
 use crate::job::{Job, filed, said};
 use dl_entry::{End, OutOfMemory};
@@ -29,6 +31,8 @@ pub fn cut_log<F: Files>(
 ) -> Result<Job, Halt>
     ensures job { IfOk result (λ job. (m : Contents) → (F.seen files.old).known ≡ Some m
         → IsJobOf (outcome m (named playback.now) name.now) job) }
+    ensures may { IfOk result (λ job.
+        MayFinish (F.seen files.old).known (commands.Strata (named playback.now) name.now) (finish_of job)) }
     ensures halt { IfErr result (Halts (λ m. outcome m (named playback.now) name.now)
         (λ m. playback_reads (named playback.now)) (F.seen files.old) (F.seen files.new)) }
     ensures usage { IfErr result IsNotUsage }

@@ -1,9 +1,11 @@
 //! `tail NAME`: the last part of a recording, played from its base on, as an account.
 ghost use Rattle.std.specs.Prelude.{◌≡◌, Some, IfOk, IfErr, OnOk};
 ghost use Rattle.dl_files.specs.Contents.{Contents};
+ghost use Rattle.dl_words.specs.Commands as commands;
 ghost use Rattle.spec_program.specs.commands.Tail.{end_of as end_in, finish, outcome, reads};
 ghost use Rattle.dl_gather.specs.Halts.{Halts, IsNotUsage};
 ghost use Rattle.dl_commands.specs.Jobs.{IsJobOf, finish_of};
+ghost use Rattle.dl_commands.specs.Untold.{MayFinish};
 
 use crate::job::{Job, said};
 use dl_account::{CommitLists, account_text};
@@ -18,6 +20,8 @@ use std::alloc::Global;
 pub fn play_tail<F: Files>(alloc: Global, files: &mut F, name: &str) -> Result<Job, Halt>
     ensures job { IfOk result (λ job. (m : Contents) → (F.seen files.old).known ≡ Some m
         → IsJobOf (outcome m name.now) job) }
+    ensures may { IfOk result (λ job.
+        MayFinish (F.seen files.old).known (commands.Tail name.now) (finish_of job)) }
     ensures halt { IfErr result (Halts (λ m. outcome m name.now) (λ m. reads name.now)
         (F.seen files.old) (F.seen files.new)) }
     ensures usage { IfErr result IsNotUsage }

@@ -1,5 +1,5 @@
 //! The program's one call.
-ghost use Rattle.std.specs.Prelude.{◌≡◌, ◌⊎◌, ℕ, List, None, Some, true, false};
+ghost use Rattle.std.specs.Prelude.{◌≡◌, ◌⊎◌, ℕ, List, None, Some, Ok, true, false};
 ghost use Rattle.dl_files.specs.Contents.{Contents, IsLast};
 ghost use Rattle.dl_files.specs.Count.{Rose};
 ghost use Rattle.dl_files.specs.Seen.{FailsOnce};
@@ -9,12 +9,14 @@ ghost use Rattle.spec_program.specs.Asked.{IsDone, outcome_of, reads_of};
 ghost use Rattle.spec_program.specs.Ends.{Stands, Took, TookAll, is_done, is_refusal, is_of_files, is_of_sink};
 ghost use Rattle.spec_program.specs.Headline.{Headline};
 ghost use Rattle.spec_program.specs.Lines.{absent_line as absent_text, fault_line as fault_text, usage_line as usage_text};
-ghost use Rattle.spec_program.specs.Outcomes.{status_in, text_in};
+ghost use Rattle.spec_program.specs.Outcomes.{Finish, status_in, text_in};
 ghost use Rattle.spec_program.specs.Outside.{in_memory, outside};
 ghost use Rattle.dl_commands.specs.Ended.{IsLineSaid, IsRefusalSaid};
 ghost use Rattle.dl_commands.specs.Jobs.{writes_of};
 ghost use Rattle.dl_commands.specs.Performed.{IsPerformed};
 ghost use Rattle.dl_commands.specs.Texts.{texts};
+ghost use Rattle.dl_commands.specs.Untold.{IsOwn, MayFinishIf, MaySay};
+ghost use Rattle.dl_gather.specs.Names.{IsNamed};
 
 use crate::ending::{fail, say, stop};
 use crate::job::Job;
@@ -67,28 +69,36 @@ pub fn delorean<F: Files, O: Sink>(
     ensures whole { (m : Contents) → (F.seen files.old).known ≡ Some m
         → is_refusal result ≡ true → (Rose (O.count out.old) (O.count out.new) → ⊥)
         → TookAll (text_in (outcome_of (texts words.now) m)) (O.taken out.old) (O.taken out.new) }
-    ensures fault_said { result ≡ Status.Fault → (name : List ℕ) × IsLast (F.seen files.new).last name
+    ensures fault_said { result ≡ Status.Fault → (name : List ℕ) × IsOwn (texts words.now) (F.seen files.old).known name
+        × IsLast (F.seen files.new).last name
         × IsLineSaid (fault_text name) (O.taken out.old) (O.taken out.new) (O.count out.old) (O.count out.new) }
 
     // What each answer shows, also where no contents are known.
     ensures files_steady { is_of_files result ≡ false → (F.seen files.new).faults ≡ (F.seen files.old).faults }
     ensures sink_steady { is_of_sink result ≡ false → O.count out.new ≡ O.count out.old }
-    ensures said { (text : List ℕ) × Took text (O.taken out.old) (O.taken out.new) }
+    ensures may { is_done result ≡ true → (finish : Finish)
+        × MayFinishIf (F.seen files.old).known (command_of (texts words.now)) finish
+        × (result ≡ status_in (Ok finish)) × TookAll finish.text (O.taken out.old) (O.taken out.new) }
+    ensures said { (text : List ℕ) × MaySay (texts words.now) (F.seen files.old).known text
+        × Took text (O.taken out.old) (O.taken out.new) }
     ensures usage_said { result ≡ Status.Usage → Took usage_text (O.taken out.old) (O.taken out.new) }
     ensures usage_whole { result ≡ Status.Usage → (Rose (O.count out.old) (O.count out.new) → ⊥)
         → TookAll usage_text (O.taken out.old) (O.taken out.new) }
     ensures usage { result ≡ Status.Usage → command_of (texts words.now) ≡ None }
     ensures no_command { command_of (texts words.now) ≡ None
         → (result ≡ Status.Usage) ⊎ (result ≡ Status.Memory) }
+    ensures no_command_said { command_of (texts words.now) ≡ None
+        → Took usage_text (O.taken out.old) (O.taken out.new) }
     ensures fault { result ≡ Status.Fault → Rose (F.seen files.old).faults (F.seen files.new).faults }
     ensures sink { result ≡ Status.Sink → Rose (O.count out.old) (O.count out.new) }
     ensures absent { (F.seen files.old).known ≡ None → result ≡ Status.Absent
         → Rose (F.seen files.old).faults (F.seen files.new).faults }
-    ensures absent_said { (F.seen files.old).known ≡ None → result ≡ Status.Absent
-        → (name : List ℕ) × IsLast (F.seen files.new).last name
+    ensures absent_said { result ≡ Status.Absent
+        → (name : List ℕ) × IsNamed (F.seen files.old).known (reads_of (texts words.now)) name
+        × ((F.seen files.old).known ≡ None → IsLast (F.seen files.new).last name)
         × IsLineSaid (absent_text name) (O.taken out.old) (O.taken out.new) (O.count out.old) (O.count out.new) }
     ensures memory_said { result ≡ Status.Memory → ((F.seen files.new).faults ≡ (F.seen files.old).faults → ⊥)
-        → (name : List ℕ) × IsLast (F.seen files.new).last name
+        → (name : List ℕ) × IsOwn (texts words.now) (F.seen files.old).known name × IsLast (F.seen files.new).last name
         × (Took (fault_text name) (O.taken out.old) (O.taken out.new) ⊎ Took (absent_text name) (O.taken out.old) (O.taken out.new)) }
 
     // The line of a refusal has the form of its kind.

@@ -1,13 +1,14 @@
 //! `walk IMAGE MEMORY LOG`: a log played on its image, as an account.
 ghost use Rattle.std.specs.Prelude.{◌≡◌, Some, IfOk, IfErr, OnOk};
 ghost use Rattle.dl_files.specs.Contents.{Contents};
-ghost use Rattle.dl_words.specs.Commands.{playback_view as named};
+ghost use Rattle.dl_words.specs.Commands.{Walk, playback_view as named};
 ghost use Rattle.spec_play.specs.declared.WalkEnd.{WalkEnd};
 ghost use Rattle.spec_program.specs.commands.Walk.{finish, outcome};
 ghost use Rattle.spec_program.specs.Operands.{playback_reads};
 ghost use Rattle.dl_gather.specs.Halts.{Halts, IsNotUsage};
 ghost use Rattle.dl_gather.specs.Inputs.{playback_view};
 ghost use Rattle.dl_commands.specs.Jobs.{IsJobOf, finish_of};
+ghost use Rattle.dl_commands.specs.Untold.{MayFinish};
 ghost use Rattle.dl_commands.specs.Walks.{HasEnded};
 
 use crate::job::{Job, said};
@@ -27,6 +28,8 @@ pub fn walk_log<F: Files>(
 ) -> Result<Job, Halt>
     ensures job { IfOk result (λ job. (m : Contents) → (F.seen files.old).known ≡ Some m
         → IsJobOf (outcome m (named playback.now)) job) }
+    ensures may { IfOk result (λ job.
+        MayFinish (F.seen files.old).known (Walk (named playback.now)) (finish_of job)) }
     ensures halt { IfErr result (Halts (λ m. outcome m (named playback.now)) (λ m. playback_reads (named playback.now))
         (F.seen files.old) (F.seen files.new)) }
     ensures usage { IfErr result IsNotUsage }

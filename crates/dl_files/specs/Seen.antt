@@ -4,6 +4,7 @@ use Rattle.std.specs.FinMap.{get}
 use Rattle.dl_files.specs.Contents.{Contents, IsLast, IsThere, SameBut}
 use Rattle.dl_files.specs.Count.{Rose, next}
 use Rattle.dl_files.specs.declared.error.FileError.{FileError}
+use Rattle.dl_files.specs.declared.faults.Faults.{Faults}
 
 -- what the files hold, if they tell it; how many calls failed, and the name of the last that did, if it is told; if they
 -- don't tell what they hold, how many reads failed, and how many calls may have changed a file; and whether the last call
@@ -19,6 +20,11 @@ pub record Seen : Type 0 where
 -- files that tell what they hold, and have had that many faults, the last of them not in changing a file
 abbrev pub telling : Contents → (faults : ℕ) → (last : Option (List ℕ)) → Seen
 telling m faults last = record { known = Some m; faults = faults; last = last; unread = 0; changes = 0; unwritten = false }
+
+-- which of the counts of faults is seen: files that tell what they hold leave out names that aren't there
+abbrev pub faults_in : Option Contents → Faults → ℕ
+faults_in None faults = faults.all
+faults_in (Some _) faults = faults.failed
 
 -- of files that tell nothing, how many calls failed, how many of those did for another reason than that a name is absent, how many
 -- were reads, how many calls may have changed a file, and whether the last of these failed

@@ -1,9 +1,9 @@
 //! Files by name, which are read and written whole or piece by piece.
-ghost use Rattle.std.specs.Prelude.{◌≡◌, ◌≢◌, ℕ, ◌≤◌, [], length, max, take, None, IfOk, IfErr, OnOk};
+ghost use Rattle.std.specs.Prelude.{◌≡◌, ◌≢◌, ℕ, ◌≤◌, [], length, max, take, IfOk, IfErr, OnOk};
 ghost use Rattle.dl_files.specs.Contents.{Begins, Holds, HoldsAt, with_file, with_more};
-ghost use Rattle.dl_files.specs.Seen.{Seen, IsWritten, ReadStops, WriteStops};
+ghost use Rattle.dl_files.specs.Seen.{Seen, IsWritten, ReadStops, WriteStops, faults_in};
 
-use crate::{Beginning, FileError};
+use crate::{Beginning, Faults, FileError};
 use std::alloc::Global;
 
 /// Files by name. They may tell their contents and the name of their last fault, and count faults.
@@ -13,11 +13,11 @@ pub trait Files {
     // The size of the largest piece, of files that keep it.
     ghost largest: { Self → ℕ };
 
-    /// How many faults there were, of files that tell nothing also by names that aren't there. The count never falls, and
-    /// counts as risen in every call once it is `u64::MAX`.
-    fn faults(&self) -> u64
-        ensures counted { (seen self.now).faults ≤ result }
-        ensures untold { (seen self.now).known ≡ None → result ≡ (seen self.now).faults };
+    /// How many faults there were. Files that tell what they hold show those that aren't by names that aren't there, and
+    /// other files show all.
+    fn faults(&self) -> Faults
+        ensures exact { faults_in (seen self.now).known result ≡ (seen self.now).faults }
+        ensures within { result.failed ≤ result.all };
 
     /// The bytes of the file `name`, in memory from `alloc`.
     fn read(&mut self, alloc: Global, name: &str) -> Result<Vec<u8>, FileError>

@@ -7,7 +7,7 @@ ghost use Rattle.dl_files.specs.Seen.{telling};
 
 use crate::part::copy_part;
 use crate::store::Store;
-use crate::{FileError, Files};
+use crate::{Faults, FileError, Files};
 use std::alloc::Global;
 use std::marker::Model;
 
@@ -51,10 +51,11 @@ impl Files for GoodFiles {
 
     ghost largest = { λ _. 0 };
 
-    fn faults(&self) -> u64
-        ensures { result ≡ 0 }
+    fn faults(&self) -> Faults
+        ensures all { result.all ≡ 0 }
+        ensures failed { result.failed ≡ 0 }
     {
-        0
+        Faults { all: 0, failed: 0 }
     }
 
     fn read(&mut self, alloc: Global, name: &str) -> Result<Vec<u8>, FileError>

@@ -5,6 +5,7 @@
 mod beginning;
 mod calls;
 mod error;
+mod faults;
 mod files;
 mod good_files;
 mod good_sink;
@@ -22,6 +23,7 @@ mod system;
 
 pub use beginning::Beginning;
 pub use error::{FileError, SinkError};
+pub use faults::Faults;
 pub use files::Files;
 pub use good_files::GoodFiles;
 pub use good_sink::GoodSink;

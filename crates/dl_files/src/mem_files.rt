@@ -8,7 +8,7 @@ ghost use Rattle.dl_files.specs.Seen.{telling};
 use crate::calls::Calls;
 use crate::part::copy_part;
 use crate::store::Store;
-use crate::{FileError, Files, GoodFiles};
+use crate::{Faults, FileError, Files, GoodFiles};
 use std::alloc::{AllocError, Global};
 use std::marker::Model;
 
@@ -94,10 +94,16 @@ impl Files for MemFiles {
 
     ghost largest = { λ files. files.largest };
 
-    fn faults(&self) -> u64
-        ensures { result ≡ self.now.calls.faults }
+    // No absent name is a fault.
+    fn faults(&self) -> Faults
+        ensures all { result.all ≡ self.now.calls.faults }
+        ensures failed { result.failed ≡ self.now.calls.faults }
     {
-        self.calls.faults()
+        let failed = self.calls.faults();
+        Faults {
+            all: failed,
+            failed,
+        }
     }
 
     fn read(&mut self, alloc: Global, name: &str) -> Result<Vec<u8>, FileError>

@@ -7,7 +7,7 @@ ghost use Rattle.dl_files.specs.Seen.{uncounted, with_absent, with_change, with_
 ghost use Rattle.dl_files.specs.Told.{CantRead, Fits, IsOpenedOnce, IsReadAs, Reads, Refuses, Spoils, held, opening, seen_by};
 
 use crate::opened::{append_file, read_file, read_part, write_file};
-use crate::{Beginning, FileError, Files, Os, System};
+use crate::{Beginning, Faults, FileError, Files, Os, System};
 use std::alloc::Global;
 use std::marker::Model;
 use std::{io, rt};
@@ -137,13 +137,15 @@ impl<S: System> Files for SystemFiles<S> {
 
     ghost largest = { λ _. 0 };
 
-    fn faults(&self) -> u64
-        ensures faults { result ≡ self.now.counts.faults }
-        ensures counted { (seen_by self.now.told self.now.counts).faults ≤ result }
-        ensures untold { (seen_by self.now.told self.now.counts).known ≡ None
-            → result ≡ (seen_by self.now.told self.now.counts).faults }
+    fn faults(&self) -> Faults
+        ensures all { result.all ≡ self.now.counts.faults }
+        ensures failed { result.failed ≡ self.now.counts.failed }
+        ensures within { result.failed ≤ result.all }
     {
-        self.faults
+        Faults {
+            all: self.faults,
+            failed: self.failed,
+        }
     }
 
     fn read(&mut self, alloc: Global, name: &str) -> Result<Vec<u8>, FileError>

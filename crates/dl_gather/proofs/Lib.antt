@@ -3,6 +3,7 @@ pub mod Begins
 pub mod Loading
 pub mod Memories
 pub mod Named
+pub mod Names
 pub mod Recordable
 pub mod SettingUp
 pub mod Spheres

@@ -12,6 +12,7 @@ use Rattle.dl_gather.specs.declared.inputs.SphereInputs.{SphereInputs}
 use Rattle.dl_gather.specs.Inputs.{sphere_view as sphere_inputs}
 use Rattle.dl_gather.specs.Reads.{read_for_sphere}
 use Rattle.dl_gather.proofs.Stages.{after, one_more, none_made}
+use Rattle.dl_gather.proofs.Names.{named_at}
 use Rattle.dl_gather.proofs.Stopping.{IsPart, sphere_there}
 
 -- those that are read come first in what is read of all
@@ -52,5 +53,6 @@ sphere_part known ss i d done h read turns = record {
       λ m e name missing.
       none_made (spheres_read m (map sphere_view ss)) (map sphere_inputs done) name (sphere_read m (sphere_view (get_or ss i d))) (λ s. spheres_read m (map sphere_view (drop (i + 1) ss)) >> λ rest. Ok (s ∷ rest))
       (at_next m ss i d done h (read m e)) missing;
+  named = λ name is. named_at read_for_sphere sphere_view ss i d name h is;
   next = λ m e name next. next_turns m ss i d h (turns m e) name (next_before m (read_for_sphere (sphere_view (get_or ss i d))) (flat_map read_for_sphere (map sphere_view (drop (i + 1) ss))) name next);
 }

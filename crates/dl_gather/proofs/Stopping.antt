@@ -1,5 +1,5 @@
 -- A part that could not be read, or is refused, stops the whole that it is of.
-use Rattle.std.proofs.Common.{◌≡◌, ℕ, List, Option, Some, None, option_to_list, IsSome, Result, Ok, Err, ok_or, inl, inr, refl, sym, ◌∙◌, ap, subst}
+use Rattle.std.proofs.Common.{◌≡◌, ℕ, List, Contains, Option, Some, None, option_to_list, IsSome, Result, Ok, Err, ok_or, inl, inr, refl, sym, ◌∙◌, ap, subst}
 use Rattle.std.specs.Prelude.{IfErr, IsErrAnd}
 use Rattle.std.specs.FinMap.{get}
 use Rattle.dl_files.specs.Contents.{Contents}
@@ -14,7 +14,9 @@ use Rattle.spec_program.proofs.Turns.{AreThere}
 use Rattle.dl_gather.specs.declared.halt.Halt.{Halt}
 use Rattle.dl_gather.specs.Forms.{IsLineOf}
 use Rattle.dl_gather.specs.Halts.{Halts, IsFault, IsMissing, Unread, Refuses}
+use Rattle.dl_gather.specs.Names.{IsNamed}
 use Rattle.dl_gather.specs.Reads.{read_for_schedule, read_for_role, read_for_sphere}
+use Rattle.dl_gather.proofs.Names.{holds_always, may_hold}
 
 -- ---- one stage after another
 
@@ -35,14 +37,23 @@ halt_carried (Err x) h P is p = subst P (sym is) p
 
 -- ---- parts
 
--- what is absent in the part is so in the whole, and the turns of the part's names are turns in the whole
+-- what is absent in the part is so in the whole, the names of the part are names of the whole, and their turns are turns in it
 pub record IsPart {A B : Type 0} (known : Option Contents) (names all : List (List ℕ)) (part : Contents → Result A (List ℕ)) (whole : Contents → Result B (List ℕ)) : Type 0 where
   pub absent : (m : Contents) → known ≡ Some m → (name : List ℕ) → part m ≡ Err name → whole m ≡ Err name
+  pub named : (name : List ℕ) → Contains names name → Contains all name
   pub next : (m : Contents) → known ≡ Some m → (name : List ℕ) → IsReadNext names m name → IsReadNext all m name
 
-part_fault : (names all : List (List ℕ)) (name : List ℕ) (old new : Seen) → ((m : Contents) → old.known ≡ Some m → IsReadNext names m name → IsReadNext all m name)
-    → IsFault (λ _. names) name old new → IsFault (λ _. all) name old new
-part_fault names all name old new next f = record { unread = f.unread; next = λ m e. next m e (f.next m e) }
+-- a fault of a part's read is one of the whole's
+fault_in : (reads all : Contents → List (List ℕ)) (name : List ℕ) (old new : Seen) → (IsNamed old.known reads name → IsNamed old.known all name)
+    → ((m : Contents) → old.known ≡ Some m → IsReadNext (reads m) m name → IsReadNext (all m) m name) → IsFault reads name old new → IsFault all name old new
+fault_in reads all name old new named next f = record { unread = f.unread; named = named f.named; next = λ m e. next m e (f.next m e) }
+
+part_fault : {A B : Type 0} (names all : List (List ℕ)) (part : Contents → Result A (List ℕ)) (whole : Contents → Result B (List ℕ)) (name : List ℕ) (old new : Seen)
+    → IsPart old.known names all part whole → IsFault (λ _. names) name old new → IsFault (λ _. all) name old new
+part_fault names all part whole name old new p f =
+    fault_in (λ _. names) (λ _. all) name old new
+    (λ is. may_hold old.known (λ _. Contains names name) (λ _. Contains all name) (λ _. p.named name) is)
+    (λ m e. p.next m e name) f
 
 -- where a part can't be read, the whole can't either, for the same reason
 pub unread_in : {A B : Type 0} (old new : Seen) (names all : List (List ℕ)) (part : Contents → Result A (List ℕ)) (whole : Contents → Result B (List ℕ)) (h : Halt)
@@ -51,11 +62,12 @@ unread_in old new names all part whole (Halt.Refused why text) p u = (
   u.0,
   u.1,
   u.2,
-  record { known = λ m e. (p.absent m e u.1 (u.3.known m e).0, (u.3.known m e).1); unknown = u.3.unknown },
+  p.named u.1 u.3,
+  record { known = λ m e. (p.absent m e u.1 (u.4.known m e).0, (u.4.known m e).1); unknown = u.4.unknown },
 )
-unread_in old new names all part whole (Halt.Fault text) p u = (u.0, u.1, part_fault names all u.0 old new (λ m e. p.next m e u.0) u.2)
+unread_in old new names all part whole (Halt.Fault text) p u = (u.0, u.1, part_fault names all part whole u.0 old new p u.2)
 unread_in old new names all part whole Halt.OutOfMemory p (inl same) = inl same
-unread_in old new names all part whole Halt.OutOfMemory p (inr (name, f)) = inr (name, part_fault names all name old new (λ m e. p.next m e name) f)
+unread_in old new names all part whole Halt.OutOfMemory p (inr (name, f)) = inr (name, part_fault names all part whole name old new p f)
 
 -- a part that is missing has left all as it was, or its read failed
 missing_kept : {A : Type 0} (part : Contents → Result A (List ℕ)) (name : List ℕ) (old new : Seen) (known : Option Contents) → old.known ≡ known → IsMissing part name old new → IsKept old new
@@ -72,45 +84,60 @@ missing_kept part name old new (Some m) e u =
 pub file_refused : {A B : Type 0} (o : Result A (List ℕ)) (f : A → Result B Refused) (name : List ℕ) → o ≡ Err name → (refusing absent o >> f) ≡ Err (absent name)
 file_refused o f name is = ap (λ x. refusing absent x >> f) is
 
+read_fault : (names : List (List ℕ)) (reads : Contents → List (List ℕ)) (name : List ℕ) (old new : Seen) → ((m : Contents) → Contains names name → Contains (reads m) name)
+    → ((m : Contents) → IsReadNext names m name → IsReadNext (reads m) m name) → IsFault (λ _. names) name old new → IsFault reads name old new
+read_fault names reads name old new named next f =
+    fault_in (λ _. names) reads name old new (λ is. may_hold old.known (λ _. Contains names name) (λ m. Contains (reads m) name) named is) (λ m e. next m) f
+
 -- a part that can't be read stops the stage that it is of
 pub unread_halts : {A B : Type 0} (names : List (List ℕ)) (reads : Contents → List (List ℕ)) (part : Contents → Result A (List ℕ)) (stage : Contents → Result B Refused) (old new : Seen) (h : Halt)
-    → ((m : Contents) (name : List ℕ) → part m ≡ Err name → stage m ≡ Err (absent name)) → ((m : Contents) (name : List ℕ) → IsReadNext names m name → IsReadNext (reads m) m name)
-    → Unread names part old new h → Halts stage reads old new h
-unread_halts names reads part stage old new (Halt.Refused why text) errs next u = record {
-  known = λ m e. (errs m u.1 (u.3.known m e).0 ∙ (λ i. Err (record { why = sym u.0 i; line = sym u.2 i })), (u.3.known m e).1);
-  unknown = λ e is. (u.1, u.2, u.3.unknown e);
+    → ((m : Contents) (name : List ℕ) → part m ≡ Err name → stage m ≡ Err (absent name)) → ((m : Contents) (name : List ℕ) → Contains names name → Contains (reads m) name)
+    → ((m : Contents) (name : List ℕ) → IsReadNext names m name → IsReadNext (reads m) m name) → Unread names part old new h → Halts stage reads old new h
+unread_halts names reads part stage old new (Halt.Refused why text) errs named next u = record {
+  known = λ m e. (errs m u.1 (u.4.known m e).0 ∙ (λ i. Err (record { why = sym u.0 i; line = sym u.2 i })), (u.4.known m e).1);
+  absent =
+      λ is. record {
+        name = u.1;
+        line_is = u.2;
+        named = holds_always old.known (λ m. Contains (reads m) u.1) (λ m. named m u.1 u.3);
+        unread = u.4.unknown;
+      };
   other = λ n. absurd (n u.0);
-  kept = missing_kept part u.1 old new old.known refl u.3;
+  kept = missing_kept part u.1 old new old.known refl u.4;
   form = subst (λ (w : Refusal). IsLineOf w text.items) (sym u.0) (u.1, u.2);
 }
-unread_halts names reads part stage old new (Halt.Fault text) errs next u =
-    (u.0, u.1, record { unread = u.2.unread; next = λ m e. next m u.0 (u.2.next m e) })
-unread_halts names reads part stage old new Halt.OutOfMemory errs next (inl same) = inl same
-unread_halts names reads part stage old new Halt.OutOfMemory errs next (inr (name, f)) =
-    inr (name, record { unread = f.unread; next = λ m e. next m name (f.next m e) })
+unread_halts names reads part stage old new (Halt.Fault text) errs named next u =
+    (u.0, u.1, read_fault names reads u.0 old new (λ m. named m u.0) (λ m. next m u.0) u.2)
+unread_halts names reads part stage old new Halt.OutOfMemory errs named next (inl same) = inl same
+unread_halts names reads part stage old new Halt.OutOfMemory errs named next (inr (name, f)) =
+    inr (name, read_fault names reads name old new (λ m. named m name) (λ m. next m name) f)
 
 -- where a stage halts, so does the whole that it is a part of
 pub halts_in : {A B : Type 0} (reads all : Contents → List (List ℕ)) (stage : Contents → Result A Refused) (whole : Contents → Result B Refused) (old new : Seen) (h : Halt)
-    → ((m : Contents) → old.known ≡ Some m → (r : Refused) → stage m ≡ Err r → whole m ≡ Err r) → ((m : Contents) → old.known ≡ Some m → (name : List ℕ) → IsReadNext (reads m) m name → IsReadNext (all m) m name)
+    → ((m : Contents) → old.known ≡ Some m → (r : Refused) → stage m ≡ Err r → whole m ≡ Err r) → ((name : List ℕ) → IsNamed old.known reads name → IsNamed old.known all name)
+    → ((m : Contents) → old.known ≡ Some m → (name : List ℕ) → IsReadNext (reads m) m name → IsReadNext (all m) m name)
     → Halts stage reads old new h → Halts whole all old new h
-halts_in reads all stage whole old new (Halt.Refused why text) errs next u = record {
+halts_in reads all stage whole old new (Halt.Refused why text) errs named next u = record {
   known = λ m e. (errs m e _ (u.known m e).0, (u.known m e).1);
-  unknown = u.unknown;
+  absent =
+      λ is.
+      let said = u.absent is in
+      record { name = said.name; line_is = said.line_is; named = named said.name said.named; unread = said.unread };
   other = u.other;
   kept = u.kept;
   form = u.form;
 }
-halts_in reads all stage whole old new (Halt.Fault text) errs next u =
-    (u.0, u.1, record { unread = u.2.unread; next = λ m e. next m e u.0 (u.2.next m e) })
-halts_in reads all stage whole old new Halt.OutOfMemory errs next (inl same) = inl same
-halts_in reads all stage whole old new Halt.OutOfMemory errs next (inr (name, f)) =
-    inr (name, record { unread = f.unread; next = λ m e. next m e name (f.next m e) })
+halts_in reads all stage whole old new (Halt.Fault text) errs named next u =
+    (u.0, u.1, fault_in reads all u.0 old new (named u.0) (λ m e. next m e u.0) u.2)
+halts_in reads all stage whole old new Halt.OutOfMemory errs named next (inl same) = inl same
+halts_in reads all stage whole old new Halt.OutOfMemory errs named next (inr (name, f)) =
+    inr (name, fault_in reads all name old new (named name) (λ m e. next m e name) f)
 
 -- where the first stage of a whole halts, so does the whole
 pub stage_halts : {A B : Type 0} (reads : Contents → List (List ℕ)) (stage : Contents → Result A Refused) (rest : A → Result B Refused) (old new : Seen) (h : Halt)
     → Halts stage reads old new h → Halts (λ m. stage m >> rest) reads old new h
 stage_halts reads stage rest old new h halts =
-    halts_in reads reads stage (λ m. stage m >> rest) old new h (λ m e r is. err_then (stage m) rest r is) (λ m e x next. next) halts
+    halts_in reads reads stage (λ m. stage m >> rest) old new h (λ m e r is. err_then (stage m) rest r is) (λ x is. is) (λ m e x next. next) halts
 
 -- ---- the command
 

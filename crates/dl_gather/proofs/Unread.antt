@@ -1,5 +1,5 @@
 -- A file that could not be read stops what is read of it.
-use Rattle.std.proofs.Common.{◌≡◌, ℕ, List, [], ◌∷◌, Option, Some, None, IsSome, Result, Ok, Err, ok_or, inl, inr, refl, sym, ◌∙◌, ap, subst}
+use Rattle.std.proofs.Common.{◌≡◌, ℕ, List, [], ◌∷◌, Contains, Option, Some, None, IsSome, Result, Ok, Err, ok_or, inl, inr, refl, sym, ◌∙◌, ap, subst}
 use Rattle.std.specs.Prelude.{IfSome, IfNone}
 use Rattle.std.specs.FinMap.{get}
 use Rattle.dl_event.specs.Script.{script_of}
@@ -11,6 +11,8 @@ use Rattle.spec_program.specs.Files.{read_at, log_at, script_at}
 use Rattle.spec_program.specs.Stages.{◌>>◌}
 use Rattle.dl_gather.specs.declared.halt.Halt.{Halt}
 use Rattle.dl_gather.specs.Halts.{HaltsAt, IsFault, IsMissing, IsStarved, Unread}
+use Rattle.dl_gather.specs.Names.{IsNamed}
+use Rattle.dl_gather.proofs.Names.{holds_always, itself}
 
 if_some : (known : Option Contents) (P : Contents → Type 0) (m : Contents) → IfSome known P → known ≡ Some m → P m
 if_some None P m h e = absurd cc
@@ -26,9 +28,13 @@ missing part name old new absent a = record {
   unknown = λ e. if_none old.known (IsUnread name old new) a.unknown e;
 }
 
+own_name : (known : Option Contents) (name : List ℕ) → IsNamed known (λ _. name ∷ []) name
+own_name known name = holds_always known (λ _. Contains (name ∷ []) name) (λ _. itself name [])
+
 fault_at : (name : List ℕ) (old new : Seen) → IsThere old.known name → IsUnread name old new → IsFault (λ _. name ∷ []) name old new
 fault_at name old new there u = record {
   unread = u;
+  named = own_name old.known name;
   next = λ m e. (if_some old.known (λ (x : Contents). IsSome (get x name)) m there e, inl refl);
 }
 
@@ -39,6 +45,7 @@ starved_absent None name old new is a = inr (
   name,
   record {
     unread = if_none old.known (IsUnread name old new) a.unknown is;
+    named = own_name old.known name;
     next = λ m e. let no : None ≡ Some m = sym is ∙ e in absurd cc;
   },
 )
@@ -47,7 +54,7 @@ starved_absent None name old new is a = inr (
 pub unread_file : {A : Type 0} (name : List ℕ) (part : Contents → Result A (List ℕ)) (old new : Seen) (error : FileError) (halt : Halt)
     → ((m : Contents) → get m name ≡ None → part m ≡ Err name) → ReadStops name old new error → HaltsAt name error halt → Unread (name ∷ []) part old new halt
 unread_file name part old new error (Halt.Refused why text) absent stops h =
-    (h.1, name, h.2, missing part name old new absent (subst (ReadStops name old new) h.0 stops))
+    (h.1, name, h.2, itself name [], missing part name old new absent (subst (ReadStops name old new) h.0 stops))
 unread_file name part old new error (Halt.Fault text) absent stops h =
     let failed : ReadStops name old new FileError.Failed = subst (ReadStops name old new) h.0 stops in
     (name, h.1, fault_at name old new failed.0 failed.1)

@@ -1,5 +1,5 @@
 -- Why a command stops before its end, and what that shows. The files were seen as `old` before, and as `new` after it.
-use Rattle.std.specs.Prelude.{◌≡◌, ◌≢◌, ◌↔◌, ◌⊎◌, ℕ, List, Option, Some, None, Result, Err}
+use Rattle.std.specs.Prelude.{◌≡◌, ◌≢◌, ◌↔◌, ◌⊎◌, ℕ, List, Contains, Option, Some, None, Result, Err}
 use Rattle.dl_files.specs.Contents.{Contents}
 use Rattle.dl_files.specs.declared.FileError.{FileError}
 use Rattle.dl_files.specs.Seen.{Seen, IsKept, IsUnread}
@@ -10,6 +10,7 @@ use Rattle.spec_program.specs.Lines.{usage_line, absent_line, fault_line}
 use Rattle.spec_program.specs.Stages.{Refused}
 use Rattle.dl_gather.specs.declared.halt.Halt.{Halt}
 use Rattle.dl_gather.specs.Forms.{IsLineOf}
+use Rattle.dl_gather.specs.Names.{IsNamed}
 
 -- a file of that name is absent or failed, and so it is said; memory may run out over the line
 abbrev pub HaltsAt : (name : List ℕ) → FileError → Halt → Type 0
@@ -19,9 +20,10 @@ HaltsAt name error Halt.OutOfMemory = Unit {0}
 
 -- ---- where a file stops it
 
--- the read of that name failed, when it was its turn
+-- the read of that name failed, which is one of those to be read, when it was its turn
 pub record IsFault (reads : Contents → List (List ℕ)) (name : List ℕ) (old new : Seen) : Type 0 where
   pub unread : IsUnread name old new
+  pub named : IsNamed old.known reads name
   pub next : (m : Contents) → old.known ≡ Some m → IsReadNext (reads m) m name
 
 -- memory ran out, and no file failed, or it ran out over the line on one that did
@@ -37,24 +39,32 @@ pub record IsMissing {A : Type 0} (part : Contents → Result A (List ℕ)) (nam
 -- first that is, or failed
 abbrev pub Unread : {A : Type 0} → (names : List (List ℕ)) → (part : Contents → Result A (List ℕ)) → (old new : Seen) → Halt → Type 0
 Unread names part old new (Halt.Refused why text) =
-    (why ≡ Refusal.Absent) × (name : List ℕ) × (text.items ≡ absent_line name) × IsMissing part name old new
+    (why ≡ Refusal.Absent) × (name : List ℕ) × (text.items ≡ absent_line name) × Contains names name × IsMissing part name old new
 Unread names part old new (Halt.Fault text) = (name : List ℕ) × (text.items ≡ fault_line name) × IsFault (λ _. names) name old new
 Unread names part old new Halt.OutOfMemory = IsStarved (λ _. names) old new
 
 -- ---- where a stage stops it
 
--- there is no such stage over the contents, for what is refused; where none are known, a name that is said to be absent is the
--- last fault's
-pub record IsRefusal {A : Type 0} (stage : Contents → Result A Refused) (why : Refusal) (line : List ℕ) (old new : Seen) : Type 0 where
+-- a name is said to be absent that is one of those to be read; where no contents are known, its read failed
+pub record IsAbsentSaid (reads : Contents → List (List ℕ)) (line : List ℕ) (old new : Seen) : Type 0 where
+  pub name : List ℕ
+  pub line_is : line ≡ absent_line name
+  pub named : IsNamed old.known reads name
+  pub unread : old.known ≡ None → IsUnread name old new
+
+-- there is no such stage over the contents, for what is refused
+pub record IsRefusal
+    {A : Type 0} (stage : Contents → Result A Refused) (reads : Contents → List (List ℕ)) (why : Refusal) (line : List ℕ) (old new : Seen)
+    : Type 0 where
   pub known : (m : Contents) → old.known ≡ Some m → (stage m ≡ Err (record { why = why; line = line })) × (new ≡ old)
-  pub unknown : old.known ≡ None → why ≡ Refusal.Absent → (name : List ℕ) × (line ≡ absent_line name) × IsUnread name old new
+  pub absent : why ≡ Refusal.Absent → IsAbsentSaid reads line old new
   pub other : why ≢ Refusal.Absent → new ≡ old
   pub kept : IsKept old new
   pub form : IsLineOf why line
 
 -- a stage is refused, or one of the files that it reads failed
 abbrev pub Halts : {A : Type 0} → (stage : Contents → Result A Refused) → (reads : Contents → List (List ℕ)) → (old new : Seen) → Halt → Type 0
-Halts stage reads old new (Halt.Refused why text) = IsRefusal stage why text.items old new
+Halts stage reads old new (Halt.Refused why text) = IsRefusal stage reads why text.items old new
 Halts stage reads old new (Halt.Fault text) = (name : List ℕ) × (text.items ≡ fault_line name) × IsFault reads name old new
 Halts stage reads old new Halt.OutOfMemory = IsStarved reads old new
 

@@ -5,6 +5,7 @@ ghost use Rattle.dl_plan.specs.Values.{IsPlan, plan_view};
 ghost use Rattle.spec_program.specs.commands.Run.{reads};
 ghost use Rattle.spec_program.specs.Tasks.{plan_at};
 ghost use Rattle.dl_gather.specs.Halts.{Halts, IsNotUsage};
+ghost use Rattle.dl_gather.specs.Names.{MayHold};
 
 use crate::halt::Halt;
 use crate::lines::plan_line;
@@ -18,6 +19,7 @@ use std::alloc::Global;
 pub fn load_plan<F: Files>(alloc: Global, files: &mut F, name: &str) -> Result<Plan, Halt>
     ensures plan { IfOk result (λ p. (m : Contents) → (F.seen files.old).known ≡ Some m
         → plan_at m name.now ≡ Ok (plan_view p)) }
+    ensures read { IfOk result (λ p. MayHold (F.seen files.old).known (λ m. plan_at m name.now ≡ Ok (plan_view p))) }
     ensures limits { IfOk result (λ p. IsPlan (plan_view p)) }
     ensures halt { IfErr result (Halts (λ m. plan_at m name.now)
         (λ m. reads m name.now) (F.seen files.old) (F.seen files.new)) }

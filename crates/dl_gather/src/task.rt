@@ -7,6 +7,7 @@ ghost use Rattle.dl_plan.specs.Values.{IsPlan, plan_view};
 ghost use Rattle.dl_run.specs.Schedules.{AreFew, events_in};
 ghost use Rattle.dl_sphere.specs.Setups.{HasBegun, IsRecordableIf, setup_of as sphere_setup};
 ghost use Rattle.spec_program.specs.Built.{setup_of};
+ghost use Rattle.spec_program.specs.Files.{PlanRead};
 ghost use Rattle.spec_program.specs.Tasks.{task_planned, task_read};
 ghost use Rattle.dl_gather.specs.Halts.{Halts, IsNotUsage, Refuses};
 ghost use Rattle.dl_gather.specs.Inputs.{AreOf, inputs_view};
@@ -38,6 +39,8 @@ pub fn load_task<F: Files>(alloc: Global, files: &mut F, plan: &Plan) -> Result<
     requires { IsPlan (plan_view plan.now) }
     ensures task { IfOk result (λ task. (m : Contents) → (F.seen files.old).known ≡ Some m
         → IsTaskOf (plan_view plan.now) (task_planned m (plan_view plan.now)) task) }
+    ensures read { IfOk result (λ task. (read : PlanRead)
+        × IsTaskOf (plan_view plan.now) (task_read (plan_view plan.now) read) task) }
     ensures within { IfOk result (λ task. IsWithin task.setup) }
     ensures count { IfOk result (λ task. length task.setup.spheres ≡ length (plan_view plan.now).spheres) }
     ensures few { IfOk result (λ task. AreFew (events_in task.schedule)) }

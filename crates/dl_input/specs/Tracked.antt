@@ -50,7 +50,8 @@ taken_at thread index entries = marked thread index (raised_at entries thread in
 abbrev pub tracked_since : (starts : List ℕ) → List Tracked → List Tracked
 tracked_since starts entries = filter (λ s. nat_le (slice_index starts s.thread) s.index) entries
 
--- the interrupts by thread and index, and whether there is room for one more
+-- the interrupts by thread and index, how many were ever noted, and whether there is room for one more
 pub record Noted : Type 0 where
   pub entries : List Tracked
+  pub count : ℕ
   pub room : Bool

@@ -1,5 +1,5 @@
 //! Interrupts by thread and index.
-ghost use Rattle.std.specs.Prelude.{◌≡◌, ◌^◌, ◌<◌, ◌++◌, [], None, length, map, option_map, slice_get, IfOk, IsOk, IsTrue, OnOk};
+ghost use Rattle.std.specs.Prelude.{◌≡◌, ◌+◌, ◌^◌, ◌<◌, ◌++◌, [], None, length, map, option_map, slice_get, IfOk, IsOk, IsTrue, OnOk};
 ghost use Rattle.std.specs.Prelude.{OnErr};
 ghost use Rattle.dl_entry.specs.Numbers.{most_threads};
 ghost use Rattle.std.specs.List.{list_all};
@@ -36,6 +36,7 @@ impl Model for Interrupts {
 
     ghost view = { λ i. record {
       entries = tracked_from 0 i.moments.lanes;
+      count = i.count;
       room = i.moments.room && nat_lt i.count (2 ^ 32 - 1);
     } };
 
@@ -45,7 +46,8 @@ impl Model for Interrupts {
 impl Interrupts {
     /// No interrupt.
     pub fn new(alloc: Global) -> Result<Interrupts, OutOfMemory>
-        ensures { IfOk result (λ interrupts. interrupts.entries ≡ []) }
+        ensures entries { IfOk result (λ interrupts. interrupts.entries ≡ []) }
+        ensures count { IfOk result (λ interrupts. interrupts.count ≡ 0) }
     {
         Ok(Interrupts {
             moments: Moments::new(alloc)?,
@@ -56,6 +58,7 @@ impl Interrupts {
     /// Makes room for one more interrupt.
     pub fn reserve(&mut self) -> Result<(), OutOfMemory>
         ensures entries { self.new.entries ≡ self.old.entries }
+        ensures count { self.new.count ≡ self.old.count }
         ensures ok { OnOk result (IsTrue self.new.room) }
         ensures room { IsTrue self.old.room → IsOk result }
     {
@@ -70,7 +73,9 @@ impl Interrupts {
         requires thread { thread < most_threads }
         requires fresh { raised_at self.old.entries thread index ≡ None }
         ensures ok { OnOk result (self.new.entries ≡ insert_tracked (new_tracked thread index value) self.old.entries) }
+        ensures count { OnOk result (self.new.count ≡ self.old.count + 1) }
         ensures err { OnErr result (self.new.entries ≡ self.old.entries) }
+        ensures count_still { OnErr result (self.new.count ≡ self.old.count) }
         ensures few { length self.new.entries < 2 ^ 32 }
         ensures room { IsTrue self.old.room → IsOk result }
     {
@@ -103,6 +108,7 @@ impl Interrupts {
     /// Takes the interrupt of a moment, if there is one.
     pub fn take(&mut self, thread: u8, index: u32)
         ensures entries { self.new.entries ≡ taken_at thread index self.old.entries }
+        ensures count { self.new.count ≡ self.old.count }
         ensures room { self.new.room ≡ self.old.room }
     {
         if let Some(raised) = self.moments.at(thread, index) {
@@ -117,6 +123,7 @@ impl Interrupts {
     /// Drops each thread's interrupts below its start, by the number of the thread; a thread without a start keeps all.
     pub fn forget(&mut self, starts: &[u32])
         ensures entries { self.new.entries ≡ tracked_since starts.now self.old.entries }
+        ensures count { self.new.count ≡ self.old.count }
         ensures room { IsTrue self.old.room → IsTrue self.new.room }
     {
         self.moments.forget(starts);

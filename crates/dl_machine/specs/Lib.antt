@@ -6,5 +6,6 @@ pub mod Held
 pub mod Requests
 pub mod Transfers
 pub mod Events
+pub mod Begun
 pub mod Setups
 pub mod Runs

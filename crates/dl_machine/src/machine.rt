@@ -1,7 +1,8 @@
 //! The machine.
-ghost use Rattle.std.specs.Prelude.{◌≡◌, ◌≤◌, ◌<◌, ◌^◌, ◌∷◌, ◌++◌, [], List, false, IfOk, IsOk, OnErr, OnOk, length, option_map};
+ghost use Rattle.std.specs.Prelude.{◌≡◌, ◌≤◌, ◌<◌, ◌^◌, ◌∷◌, ◌++◌, [], List, true, false, IfOk, IsOk, OnErr, OnOk, length, option_map};
 ghost use Rattle.spec_engine.specs.Flights.{at};
 ghost use Rattle.spec_protocol.specs.declared.event.Event.{Event};
+ghost use Rattle.spec_protocol.specs.machine.Epochs.{epochs_begun};
 ghost use Rattle.spec_protocol.specs.machine.Machine.{Setup as SetupOf, happens, world_of};
 ghost use Rattle.spec_protocol.specs.machine.Serial.{serial};
 ghost use Rattle.spec_protocol.specs.machine.World.{sphere_at};
@@ -42,6 +43,7 @@ impl<G: Sig> Model for Machine<G> {
 }
 
 impl<G: Sig> Machine<G> {
+    ghost use Rattle.dl_machine.specs.Begun.{HasBegunSome, IsOneDue};
     ghost use Rattle.dl_machine.specs.Cores.{seen};
     ghost use Rattle.dl_machine.specs.Ready.{HasRoom};
     ghost use Rattle.dl_machine.specs.Events.{IsWanted, wants_memory};
@@ -66,38 +68,43 @@ impl<G: Sig> Machine<G> {
         let _ = &self.state;
     }
 
-    /// In each recorded sphere in which an epoch is due, it begins. If memory runs out, it may have begun in some of them; the
-    /// machine still shows the same events. A machine does this before each ask, interrupt and DMA; once a run is
-    /// over, it is done once more, so that each sphere has a base.
+    /// In each recorded sphere in which an epoch is due, it begins. If memory runs out, they have begun in the first few spheres
+    /// or in none, and one is still due; the machine still shows the same events. A machine does this before each ask, interrupt
+    /// and DMA; once a run is over, it is done once more, so that each sphere has a base.
     pub fn begin_epochs(&mut self) -> Result<(), OutOfMemory>
         ensures begun { OnOk result (NoneIsDue self.new) }
+        ensures all { OnOk result (self.new ≡ epochs_begun self.old) }
         ensures alike { AreAlike self.new self.old }
         ensures run { (s : SetupOf) (es : List Event) → IsRun s es self.old → IsRun s es self.new }
         ensures same { NoneIsDue self.old → self.new ≡ self.old }
+        ensures partly { OnErr result (HasBegunSome self.old self.new) }
+        ensures wanted { OnErr result (IsOneDue self.new) }
+        ensures needless { NoneIsDue self.old → IsOk result }
     {
         self.state.begin_epochs()
     }
 
     /// Takes one event. Before an ask, an interrupt or a DMA, the epochs begin that are due. If memory runs out, all is as
-    /// before, but some of these epochs may have begun.
+    /// before, but these epochs may have begun in some spheres; then either one is still due, or the event itself wanted memory.
     #[inline(always)]
     pub fn apply(&mut self, event: Event) -> Result<Reply, OutOfMemory>
         requires events { self.old.counts.events < 2 ^ 63 }
         requires commits { HasRoom self.old }
         ensures done { IfOk result (λ r. r ≡ (happens self.old event).reply) }
         ensures world { OnOk result (NoneIsDue self.old → self.new ≡ (happens self.old event).world) }
+        ensures still { wants_memory event ≡ false → OnOk result (self.new ≡ (happens self.old event).world) }
+        ensures begun { wants_memory event ≡ true → OnOk result (self.new ≡ (happens (epochs_begun self.old) event).world) }
         ensures alike { OnOk result (AreAlike self.new (happens self.old event).world) }
         ensures run { OnOk result ((s : SetupOf) (es : List Event) → IsRun s es self.old → IsRun s (es ++ event ∷ []) self.new) }
         ensures refused { OnErr result (NoneIsDue self.old → self.new ≡ self.old) }
+        ensures refused_partly { OnErr result (HasBegunSome self.old self.new) }
         ensures refused_alike { OnErr result (AreAlike self.new self.old) }
         ensures refused_run { OnErr result ((s : SetupOf) (es : List Event) → IsRun s es self.old → IsRun s es self.new) }
         ensures plenty { wants_memory event ≡ false → IsOk result }
-        ensures wanted { OnErr result (NoneIsDue self.old → IsWanted event (happens self.old event).reply) }
+        ensures wanted { OnErr result (NoneIsDue self.new → IsWanted event (happens self.old event).reply) }
     {
         self.state.prepare(event)?;
-        let reply = self.state.act(event)?;
-        self.state.count(reply);
-        Ok(reply)
+        self.state.take(event)
     }
 
     /// The serialisation points so far. The plain and recorded spheres and the devices are those of doing them one at a time.

@@ -1,7 +1,7 @@
 //! The state of the machine, with one method for each event.
 ghost use Rattle.std.specs.Prelude.{◌≡◌, ◌<◌, ◌%◌, ◌^◌, List, false, true, IfOk, IfSome, IsOk, OnErr, OnOk, All, length, option_map};
 ghost use Rattle.spec_engine.specs.Flights.{IsInside, at};
-ghost use Rattle.spec_protocol.specs.machine.Machine.{act, world_of, Setup as SetupOf};
+ghost use Rattle.spec_protocol.specs.machine.Machine.{act, happens, world_of, Setup as SetupOf};
 ghost use Rattle.spec_protocol.specs.declared.event.Event.{Event as EventOf};
 ghost use Rattle.spec_protocol.specs.promises.Alike.{AreAlike};
 ghost use Rattle.spec_protocol.specs.promises.Kept.{NoneIsDue, Shows};
@@ -99,6 +99,24 @@ impl<G: Sig> State<G> {
             Some(flight) => Some(flight.sphere),
             None => None,
         }
+    }
+
+    // Takes one event, and counts it with its reply. If it may want memory, no epoch is due.
+    #[inline(always)]
+    pub(crate) fn take(&mut self, event: Event) -> Result<Reply, OutOfMemory>
+        requires ready { IsReady self.old }
+        requires room { HasRoom self.old }
+        requires begun { wants_memory event ≡ true → NoneIsDue self.old }
+        requires events { self.old.counts.events < 2 ^ 63 }
+        ensures reply { IfOk result (λ r. r ≡ (happens self.old event).reply) }
+        ensures world { OnOk result (self.new ≡ (happens self.old event).world) }
+        ensures err { OnErr result (self.new ≡ self.old) }
+        ensures plenty { wants_memory event ≡ false → IsOk result }
+        ensures wanted { OnErr result (IsWanted event (happens self.old event).reply) }
+    {
+        let reply = self.act(event)?;
+        self.count(reply);
+        Ok(reply)
     }
 
     // What the event answers and leaves, before it is counted. Numbers are taken modulo how many there are.

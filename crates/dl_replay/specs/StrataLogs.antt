@@ -1,6 +1,7 @@
 -- What strata keep, in place of a log in order-only.
-use Rattle.std.specs.Prelude.{ℕ, false, List}
+use Rattle.std.specs.Prelude.{ℕ, false, List, replicate}
 use Rattle.std.specs.List.{flat_map}
+use Rattle.dl_entry.specs.Numbers.{most_threads}
 use Rattle.spec_log.specs.declared.sizes.Sizes.TheVariants.{Short}
 use Rattle.spec_log.specs.Noting.{Kept}
 use Rattle.spec_strata.specs.declared.stratum.Stratum.{Stratum}
@@ -26,12 +27,12 @@ strata_logged s count x sizes =
     record { logged = record { kept = kept_of s count x.all sizes; room = false }; strata = x.standing }
 
 -- what a log of their order keeps before the first commit
-abbrev pub kept_begun : StrataParts → (done : List ℕ) → Kept
-kept_begun v done =
+abbrev pub kept_begun : StrataParts → Kept
+kept_begun v =
     record {
       s = v.s;
       count = commits_in_all v.strata;
       order = flat_map order_of v.strata;
       sizes = Short v.sizes;
-      done = done;
+      done = replicate most_threads 0;
     }

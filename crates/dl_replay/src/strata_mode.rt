@@ -34,7 +34,7 @@ impl Model for StrataLog {
 impl StrataLog {
     /// Strata of which nothing is done.
     pub fn new(alloc: Global, strata: &Rc<ReadyStrata>) -> Result<StrataLog, OutOfMemory>
-        ensures kept { IfOk result (λ log. log.logged.kept ≡ kept_begun strata.now.value log.logged.kept.done) }
+        ensures kept { IfOk result (λ log. log.logged.kept ≡ kept_begun strata.now.value) }
         ensures strata { IfOk result (λ log. log.strata ≡ stratum_begun strata.now.value.strata 0) }
     {
         let parts = strata.parts();

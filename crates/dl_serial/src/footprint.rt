@@ -1,4 +1,6 @@
 //! The footprint of a chunk: the words that it looks at or stores to.
+ghost use Rattle.std.specs.Prelude.{◌≡◌, []};
+
 use dl_entry::OutOfMemory;
 use std::alloc::Global;
 
@@ -12,7 +14,10 @@ pub struct Footprint {
 
 impl Footprint {
     /// Of no chunk yet.
-    pub fn new(alloc: Global) -> Footprint {
+    pub fn new(alloc: Global) -> Footprint
+        ensures looked { result.looked.items ≡ [] }
+        ensures stored { result.stored.items ≡ [] }
+    {
         Footprint {
             looked: Vec::new(alloc),
             stored: Vec::new(alloc),

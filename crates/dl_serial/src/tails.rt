@@ -4,12 +4,14 @@ ghost use Rattle.dl_entry.specs.declared.End.{End};
 ghost use Rattle.dl_entry.specs.declared.Why.{Why};
 ghost use Rattle.spec_play.specs.declared.WalkEnd.{WalkEnd};
 ghost use Rattle.spec_play.specs.Resuming.{IsBounded};
+ghost use Rattle.spec_play.specs.States.{state_of};
 ghost use Rattle.spec_play.specs.Walks.{walked_at};
 ghost use Rattle.spec_tail.specs.Later.{walk_end_left, walked_left};
 ghost use Rattle.spec_tail.specs.Playing.{begun as begun_by, counted_from, walk_end_from, walked as walked_in_all, walked_since};
 ghost use Rattle.dl_kernel.specs.States.{state_in};
 ghost use Rattle.dl_serial.specs.Starts.{CanGoOn};
-ghost use Rattle.dl_serial.specs.Tails.{AreBelow, commits_at, played_from, raised_in, state_from_base};
+ghost use Rattle.dl_serial.specs.Tails.{AreBelow, commits_at, played_from, raised_in, state_after};
+ghost use Rattle.dl_serial.specs.Tails.{state_from_base, state_since, used_in_tail};
 ghost use Rattle.dl_serial.specs.Walked.{walked_in};
 
 use crate::raising::{Raised, raise, with_commits};
@@ -24,18 +26,22 @@ use spec_play::{Used, WalkEnd};
 use std::alloc::Global;
 
 /// Plays a tail to its end: from the state at its base, the commits of its log. What is left has these commits, without
-/// their stores. The commits of threads and those up to the end are counted from the recording's start.
+/// their stores. The commits of threads, of the state and up to the end are counted from the recording's start. As used count
+/// the records of the tail's log that the play has taken, with the interrupts at the base.
 pub fn walk_tail(alloc: Global, tail: &Tail) -> Result<Walked, OutOfMemory>
     ensures walked { IfOk result (λ w. walked_in w ≡ walked_in_all tail.now) }
     ensures stores { IfOk result (λ w. w.stores ≡ []) }
+    ensures state { IfOk result (λ w. state_in w.state ≡ state_after tail.now) }
 {
     let log = log_later(alloc, tail)?;
     let raised = raise(tail);
     let count = raised.count;
     let refused = raised.refused;
-    let state = state_at_base(alloc, tail, raised, dmas_passed(tail, &log))?;
-    let walked = play_later(alloc, state, &log, refused)?;
+    let passed = dmas_passed(tail, &log);
+    let state = state_at_base(alloc, tail, raised, passed)?;
+    let mut walked = play_later(alloc, state, &log, refused)?;
     let left = has_more_left(tail, count, walked.state.used);
+    walked.state.used = used_of_tail(walked.state.used, count, passed);
     Ok(counted_from_start(alloc, tail, walked, left))
 }
 
@@ -69,7 +75,8 @@ fn play_later(alloc: Global, state: State, log: &Log, refused: bool) -> Result<W
     requires first { state.commits ≡ 0 }
     ensures walked { let y = played_from log.now (state_in state) refused in
         IfOk result (λ w. walked_in w ≡ walked_at log.now log.now.count y) }
-    ensures used { let y = played_from log.now (state_in state) refused in IfOk result (λ w. w.state.used ≡ y.used) }
+    ensures state { let y = played_from log.now (state_in state) refused in
+        IfOk result (λ w. state_in w.state ≡ state_of y) }
     ensures bounded { IfOk result (λ w. IsBounded log.now (state_in w.state)) }
 {
     if refused {
@@ -92,6 +99,20 @@ fn stopped(alloc: Global, state: State) -> Walked
 
 // ---- counted from the recording's start
 
+// How much of a tail's log is used, if so much of its log for later is: the interrupts at the base are, and the DMAs that
+// were passed over aren't.
+fn used_of_tail(used: Used, raised: u32, passed: u32) -> Used
+    requires few { raised + used.interrupts < 2 ^ 32 }
+    requires passed { passed ≤ used.dmas }
+    ensures { result ≡ used_in_tail raised passed used }
+{
+    Used {
+        interrupts: raised + used.interrupts,
+        dmas: used.dmas - passed,
+        ..used
+    }
+}
+
 // What a walk of the log for later leaves is what that of the tail does, once its commits are counted from the start.
 fn counted_from_start(alloc: Global, tail: &Tail, walked: Walked, left: bool) -> Walked
     requires few { walked.state.commits ≤ tail.now.log.count }
@@ -99,6 +120,7 @@ fn counted_from_start(alloc: Global, tail: &Tail, walked: Walked, left: bool) ->
     requires threads { AreBelow walked.state.commits walked.state.threads }
     ensures walked { walked_in result ≡ walked_since tail.now (walked_left left (walked_in walked)) }
     ensures stores { result.stores ≡ [] }
+    ensures state { state_in result.state ≡ state_since tail.now (state_in walked.state) }
 {
     let base = tail.parts().base;
     let mut state = walked.state;

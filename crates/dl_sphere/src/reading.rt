@@ -13,7 +13,7 @@ ghost use Rattle.dl_fly.specs.Slots.{set_slot};
 ghost use Rattle.dl_kernel.specs.InOrder.{listed};
 ghost use Rattle.dl_kernel.specs.States.{state_in};
 ghost use Rattle.dl_record.specs.Epochs.{base_state};
-ghost use Rattle.dl_replay.specs.Limits.{chunk_limit};
+ghost use Rattle.dl_replay.specs.Limits.{chunk_limit, chunk_limit_in};
 ghost use Rattle.dl_sphere.specs.Moving.{SaysOutcome};
 ghost use Rattle.dl_sphere.specs.Reading.{end_in, joins, pieces_in, log_in, SaysBytes};
 ghost use Rattle.dl_sphere.specs.Setups.{standard_in};
@@ -37,11 +37,13 @@ use spec_log::{Log, ModeName};
 
 impl Sphere {
     /// How many instructions a chunk of a thread may run that begins now: one of the thread's present commit, or one of the
-    /// commit after that.
+    /// commit after that. A thread that isn't there is answered as one that has done no commit.
     #[tactic(auto, unfolding(spec_sphere::specs::sphere::Spheres::limit_of, spec_sphere::specs::sphere::Spheres::limit_after))]
     pub fn limit(&self, thread: u8, after: bool) -> u32
         ensures value { (t : Parts) → slice_get self.now.sphere.threads thread ≡ Some t →
             result ≡ chunk_limit after self.now.s self.now.sphere.role thread t }
+        ensures absent { slice_get self.now.sphere.threads thread ≡ None →
+            result ≡ chunk_limit_in after self.now.sphere.role self.now.s thread 0 }
         ensures least { 1 ≤ result }
         ensures most { result ≤ standard_in self.now.s self.now.sphere.role }
     {

@@ -146,7 +146,8 @@ impl Recording {
         in_mode!(&self.recorders, recorder => recorder.is_due())
     }
 
-    // An epoch begins at this state, and the earliest is given up if there are then more than are kept.
+    // An epoch begins at this state, and the earliest is given up if there are then more than are kept. With room it isn't
+    // refused.
     pub(crate) fn begin_epoch(&mut self, state: State<Snapshot>) -> Result<(), OutOfMemory>
         requires due { IsTrue (due_in self.old.in_epochs.epochs (commits_of self.old.in_epochs)) }
         requires commits { state.commits ≡ commits_of self.old.in_epochs }
@@ -154,6 +155,7 @@ impl Recording {
         ensures ok { OnOk result (self.new.in_epochs ≡ epoch_begun (state_in state) self.old.in_epochs) }
         ensures commits { OnOk result (commits_of self.new.in_epochs ≡ commits_of self.old.in_epochs) }
         ensures err { OnErr result (self.new.in_epochs ≡ self.old.in_epochs) }
+        ensures room { IsTrue self.old.epoch_room → IsOk result }
     {
         in_mode!(&mut self.recorders, recorder => recorder.begin_epoch(state))
     }

@@ -1,5 +1,5 @@
 //! The sphere.
-ghost use Rattle.std.specs.Prelude.{◌≡◌, ◌^◌, ◌<◌, ◌≤◌, ◌∷◌, [], ℕ, Some, None, IfOk, IsSome, OnOk, OnErr, length, slice_get, true, false};
+ghost use Rattle.std.specs.Prelude.{◌≡◌, ◌^◌, ◌<◌, ◌≤◌, ◌∷◌, [], ℕ, Some, None, IfOk, IsOk, IsSome, OnOk, OnErr, length, slice_get, true, false};
 ghost use Rattle.spec_isa.specs.declared.thread.Parts.{Parts};
 ghost use Rattle.spec_engine.specs.declared.answers.How.{How};
 ghost use Rattle.spec_kernel.specs.Devices.{Devices};
@@ -188,6 +188,7 @@ impl Sphere {
         ensures ok { let memory = lays self.old.sphere.memory (flying number flights.now.slots) in
             OnOk result (self.new ≡ with_sphere (epoch_begun memory self.old.sphere) self.old) }
         ensures err { OnErr result (self.new ≡ self.old) }
+        ensures needless { has_due self.old.sphere ≡ false → IsOk result }
     {
         let Part::Recorded(recording) = &mut self.part else {
             return Ok(());

@@ -16,3 +16,4 @@ mod schedules;
 mod sequences;
 mod signatures;
 mod small;
+mod systems;

@@ -49,7 +49,7 @@ def races(source, *words):
         said = subprocess.run([TOP / "hunt/trace", "a.elf", memory, "a.log", "races"], cwd=scratch, check=True, capture_output=True,
                               text=True).stdout
     told = [line.split(": nothing orders")[0].split(" ")[0] for line in said.splitlines() if ": nothing orders" in line]
-    return list(dict.fromkeys("a stack or the heap" if re.fullmatch("[0-9A-F]{8}", word) else word.partition("+")[0] for word in told))
+    return list(dict.fromkeys("a stack or the heap" if re.fullmatch("[0-9A-F]{8}", word) else re.match(r"[\w:]+", word)[0] for word in told))
 
 
 def line_of(source):
@@ -60,7 +60,8 @@ def line_of(source):
 
 def named_in(found, line):
     """Where the line is told: `what failed`, `who waits`, `why` or `the order`; or None."""
-    texts = {"what failed": [place for thread in found["threads"] for place in thread["places"] or ()] + [found["console"]],
+    failed = [place for thread in found["threads"] for place in thread["places"] or ()]
+    texts = {"what failed": found["broken"] + failed + [found["console"]],
              "who waits": found["waits"], "why": found["why"], "the order": found["order"]}
     pattern = re.compile(re.escape(line) + r"(?!\d)")
     return next((where for where, lines in texts.items() if any(map(pattern.search, lines))), None)

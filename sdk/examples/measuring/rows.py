@@ -4,6 +4,8 @@ HEAD = """\
 | Program | Forced | Runs | Seconds | Told in | Mended: no order fails | Races | TSan | Helgrind | DRD | Plain |
 |---|---|---|---|---|---|---|---|---|---|---|"""
 
+TOOLS = 4  # columns of the other tools
+
 
 def found_cells(row):
     told = row["told"]
@@ -44,7 +46,16 @@ def line(cells):
     return "| " + " | ".join(map(str, cells)) + " |"
 
 
-def row_text(row, host):
-    cells = ["`%s`" % row["name"], *found_cells(row), twin_cell(row), races_cell(row)]
-    cells += [tool_cell(host, tool) for tool in ("tsan", "helgrind", "drd")] + [plain_cell(host)] if host else [""] * 4
-    return line(cells)
+def row_text(row, tools):
+    """tools: the cells of the other tools."""
+    return line(["`%s`" % row["name"], *found_cells(row), twin_cell(row), races_cell(row), *tools])
+
+
+def tool_cells(host):
+    return [tool_cell(host, tool) for tool in ("tsan", "helgrind", "drd")] + [plain_cell(host)]
+
+
+def tool_cells_of(page):
+    """Of each program those of a page that has the table."""
+    rows = [line.strip("| ").split(" | ") for line in page.splitlines() if line.startswith("| `")]
+    return {cells[0].strip("`"): cells[-TOOLS:] for cells in rows if len(cells) == len(HEAD.splitlines()[0].strip("| ").split(" | "))}

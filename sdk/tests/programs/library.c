@@ -63,6 +63,11 @@ static void jumps(void) {
         jump(n + 1);
     }
     printf("jumped %d times\n", count);
+    static sigjmp_buf with_mask;
+    int m = sigsetjmp(with_mask, 1);
+    if (m < 2)
+        siglongjmp(with_mask, m + 1);
+    printf("and %d\n", m);
 }
 
 static void errors(void) {

@@ -167,7 +167,10 @@ static void c11(void) {
     cnd_broadcast(&c11_cond);
     mtx_unlock(&c11_mutex);
     assert(thrd_join(a, &first) == thrd_success && thrd_join(b, &second) == thrd_success);
+    struct { void (*thrd_yield)(void); int (*lock)(mtx_t *), (*unlock)(mtx_t *); } own = {thrd_yield, mtx_lock, mtx_unlock};
+    own.thrd_yield();
     thrd_yield();
+    assert(own.lock(&c11_mutex) == thrd_success && mtx_trylock(&c11_mutex) == thrd_busy && own.unlock(&c11_mutex) == thrd_success);
     printf("c11 %d %d %d\n", first, second, onces);
 }
 

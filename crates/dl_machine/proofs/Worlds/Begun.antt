@@ -1,5 +1,5 @@
 -- Epochs begin in the spheres of a machine one by one.
-use Rattle.std.proofs.Common.{◌≡◌, ℕ, suc, ◌+◌, ◌<◌, ◌≤◌, false, nat_eq, List, [], ◌∷◌, ◌++◌, length, Result, Ok, Err, Option, Some, None, inl, inr, refl, sym, ap, ◌∙◌, subst, arith}
+use Rattle.std.proofs.Common.{◌≡◌, ℕ, suc, ◌+◌, ◌<◌, ◌≤◌, true, false, nat_eq, List, [], ◌∷◌, ◌++◌, length, Result, Ok, Err, Option, Some, None, inl, inr, refl, sym, ap, ◌∙◌, subst, arith}
 use Rattle.std.specs.Prelude.{OnErr, OnOk}
 use Rattle.std.proofs.lemmas.Bool.{cases_Bool, cases_eq, cases_lt, eqb-true}
 use Rattle.std.proofs.lemmas.List.{get_or_past}
@@ -10,7 +10,7 @@ use Rattle.spec_play.specs.Progress.{position}
 use Rattle.spec_isa.specs.Inside.{AreInside}
 use Rattle.spec_engine.specs.Flights.{Flight, at}
 use Rattle.spec_protocol.specs.declared.event.Event.{Event}
-use Rattle.spec_protocol.specs.machine.Epochs.{begun_at}
+use Rattle.spec_protocol.specs.machine.Epochs.{begun_at, epochs_begun}
 use Rattle.spec_sphere.specs.sphere.Epochs.{begun_if, begun_in, epoch_at, epoch_begun, trimmed_by}
 use Rattle.spec_protocol.specs.machine.Machine.{Setup}
 use Rattle.spec_engine.specs.Flying.{flying, words_of}
@@ -22,8 +22,10 @@ use Rattle.spec_sphere.specs.promises.Kept.{has_due}
 use Rattle.spec_protocol.proofs.Alike.Good.{spheres-alike}
 use Rattle.spec_protocol.proofs.Kept.One.{begun-one-alike, begun-one-ready, begun-one-shows, begun-others, begun-same}
 use Rattle.dl_sphere.specs.Setups.{standard_in}
+use Rattle.dl_machine.specs.Begun.{HasBegunSome, IsOneDue, begun_first}
 use Rattle.dl_machine.specs.Ready.{IsReady}
 use Rattle.dl_machine.specs.Runs.{HasRun, IsRun}
+use Rattle.dl_machine.proofs.Worlds.InTurn.{all_begun}
 use Rattle.dl_machine.proofs.Worlds.Ready.{flight_inside}
 
 -- what follows from what is said on success is said on success
@@ -94,10 +96,11 @@ pub record HaveBegun (from now : World) (i : ℕ) : Type 0 where
   pub alike : AreAlike now from
   pub same : NoneIsDue from → now ≡ from
   pub none : (j : ℕ) → j < i → has_due (sphere_at now j) ≡ false
+  pub first : now ≡ begun_first i from
 
 -- at first in none
 pub begun_none : (w : World) → HaveBegun w w 0
-begun_none w = record { run = λ s es run. run; alike = refl; same = λ none. refl; none = λ j l. absurd (omega (arith, l)) }
+begun_none w = record { run = λ s es run. run; alike = refl; same = λ none. refl; none = λ j l. absurd (omega (arith, l)); first = refl }
 
 -- they still show a run
 pub still_run : (from now : World) (i : ℕ) → HasRun from → HaveBegun from now i → HasRun now
@@ -123,6 +126,7 @@ begun_next from now next i r b inside is =
             | inl at_i ↦ subst (λ (n : ℕ). has_due (sphere_at (begun_at i now) n) ≡ false) (sym at_i) (begun-one-ready here.setup here.run.limits here.schedule now here.run.here i inside)
             | inr other ↦ ap has_due (begun-others now i j other) ∙ b.none j (omega (arith, l, other))
           ];
+      first = let more : suc i ≡ i + 1 = omega arith in ap (begun_at i) b.first ∙ ap (λ (n : ℕ). begun_first n from) more;
     })
 
 -- at last in all of them
@@ -132,3 +136,14 @@ begun_all from now i b all j =
       | inl there ↦ b.none j (omega (arith, there, all))
       | inr past ↦ ap has_due (get_or_past now.spheres j no_sphere past)
     ]
+
+-- as the definitions have it
+pub begun_whole : (from now : World) (i : ℕ) → HaveBegun from now i → length now.spheres ≤ i → now ≡ epochs_begun from
+begun_whole from now i b all = let many = spheres_kept from now i b in b.first ∙ all_begun i from (omega (arith, all, many))
+
+-- or memory runs out before
+pub begun_some : (from now new : World) (i : ℕ) → HaveBegun from now i → new ≡ now → HasBegunSome from new
+begun_some from now new i b same = record { many = i; begun = same ∙ b.first }
+
+pub one_due : (now new : World) (i : ℕ) → has_due (sphere_at now i) ≡ true → new ≡ now → IsOneDue new
+one_due now new i due same = record { sphere = i; due = ap (λ (w : World). has_due (sphere_at w i)) same ∙ due }

@@ -3,7 +3,8 @@ ghost use Rattle.std.specs.Prelude.{IsErrOf};
 ghost use Rattle.dl_files.specs.Count.{Rose};
 
 use dl_files::{
-    FileError, Files, GoodFiles, GoodSink, MemFiles, MemSink, RealFiles, Sink, SinkError, StdSink,
+    Faults, FileError, Files, GoodFiles, GoodSink, MemFiles, MemSink, RealFiles, Sink, SinkError,
+    StdSink,
 };
 use std::alloc::Global;
 use std::fs;
@@ -76,13 +77,13 @@ fn is_answer(got: &Result<Vec<u8>, FileError>, want: Result<&[u8], FileError>) -
     }
 }
 
-// A call, its name, what it answers, and the count of faults after it.
+// A call, its name, what it answers, and the count of all faults after it.
 type Step = (Call, &'static str, Result<&'static [u8], FileError>, u64);
 
 fn follow<F: Files>(rt: &impl Abort, alloc: Global, files: &mut F, steps: &[Step]) {
     for (call, name, want, faults) in steps {
         let got = answer(alloc, files, *call, name);
-        let is_so = is_answer(&got, *want) && files.faults() == *faults;
+        let is_so = is_answer(&got, *want) && files.faults().all == *faults;
         assert!(rt; is_so, "{name}, {faults} faults");
     }
 }
@@ -117,6 +118,7 @@ fn files_keep_what_is_written(rt: HostRuntime) -> Result<(), Fail> {
     let alloc = rt.alloc();
     let mut good = GoodFiles::new(alloc);
     keep_what_is_written(&rt, alloc, &mut good);
+    assert!(rt; good.faults() == Faults { all: 0, failed: 0 });
     assert!(rt; copy_good(alloc, &mut good, "dl_files_c", "a") == Ok(()));
     assert!(rt; copy_good(alloc, &mut good, "z", "a") == Err(FileError::Absent));
     let mut mem = MemFiles::new(alloc, GoodFiles::new(alloc), &[])?;
@@ -145,6 +147,7 @@ fn real_files_are_read_written_and_counted(rt: HostRuntime) -> Result<(), Fail> 
         fs::remove_file(&rt, name)?;
     }
     follow(&rt, alloc, &mut real, REFUSED);
+    assert!(rt; real.faults() == Faults { all: 7, failed: 5 });
     Ok(())
 }
 
@@ -185,6 +188,7 @@ fn listed_calls_of_files_fail(rt: HostRuntime) -> Result<(), Fail> {
     good.write("a", b"1")?;
     let mut files = MemFiles::new(alloc, good, &[1, 3, 7, 9, 11])?;
     follow(&rt, alloc, &mut files, LISTED);
+    assert!(rt; files.faults() == Faults { all: 5, failed: 5 });
     Ok(())
 }
 

@@ -12,3 +12,6 @@ returns-in_err-log-clause-halt g c =
     let new = g.F.Files.seen c.read_good_log.new.files in
     halt_carried c.from_residual.result c.in_err-log.field-0.0 (Halts (λ m. outcome m log name) (λ m. reads log) old new) c.from_residual.ensures.1
     (stage_halts (λ m. reads log) (λ m. good_log_at m log) _ old new c.in_err-log.field-0.0 c.in_err-log.ensures.halt)
+
+pub returns-clause-may : goal.returns-clause-may
+returns-clause-may g c = (c.in_ok-log.log, c.in_ok-migration.ensures)

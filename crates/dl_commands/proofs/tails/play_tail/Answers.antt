@@ -10,3 +10,6 @@ returns-in_err-tail-clause-halt g c =
     let new = g.F.Files.seen c.read_good_tail.new.files in
     halt_carried c.from_residual.result c.in_err-tail.field-0.0 (Halts (λ m. outcome m name) (λ m. reads name) old new) c.from_residual.ensures.1
     (stage_halts (λ m. reads name) (λ m. tail_at m name) _ old new c.in_err-tail.field-0.0 c.in_err-tail.ensures.halt)
+
+pub returns-clause-may : goal.returns-clause-may
+returns-clause-may g c = (c.in_ok-tail.tail, c.in_ok-tell_tail.ensures)

@@ -1,13 +1,16 @@
-use Rattle.std.proofs.Common.{◌∙◌, ap, refl, subst}
+use Rattle.std.proofs.Common.{◌∙◌, ap, inl, inr, refl, subst}
 use Rattle.dl_files.specs.Seen.{Seen, FailsOnce}
-use Rattle.dl_words.specs.Commands.{Run}
+use Rattle.dl_words.specs.Commands.{Run, command_of}
 use Rattle.spec_program.specs.Asked.{outcome_of, reads_of}
+use Rattle.spec_program.specs.Ends.{is_refusal}
 use Rattle.spec_program.specs.Outside.{outside}
-use Rattle.dl_commands.specs.Jobs.{writes_of}
+use Rattle.dl_commands.specs.Jobs.{finish_of, writes_of}
 use Rattle.dl_commands.specs.Performed.{IsPerformed}
 use Rattle.dl_commands.specs.Texts.{texts}
-use Rattle.dl_commands.proofs.Finishing.{done_is, drill_halted, drill_performed, performed_fault, performed_short, performed_stands, performed_unread, performed_unrefused, stopped_fault, stopped_short, halted_absent, halted_kept, halted_line, halted_once, halted_stands, stopped_undone}
-use Rattle.dl_commands.proofs.Growing.{performed_took, stopped_took}
+use Rattle.dl_commands.specs.Untold.{IsOwn, MaySay}
+use Rattle.dl_commands.proofs.Finishing.{done_is, drill_halted, drill_performed, performed_fault, performed_short, performed_stands, performed_unread, performed_unrefused, stopped_fault, stopped_short, halted_absent, halted_kept, halted_line, halted_once, halted_stands, stopped_undone, stopped_usage}
+use Rattle.dl_commands.proofs.Growing.{performed_done, performed_took, stopped_took}
+use Rattle.dl_commands.proofs.Untold.{own_if}
 use Rattle.dl_commands.proofs.top.delorean.Goals as goal
 
 -- ---- a command that is computed, and then done
@@ -32,17 +35,40 @@ returns-in-Ok-clause-drill g c = λ number asks.
     (done.0, done.1 ∙ ap (λ (s : Seen). s.faults) c.in-Ok.ensures.same, done.2 ∙ ap (λ (s : Seen). s.changes) c.in-Ok.ensures.same)
 
 pub returns-in-Ok-clause-fault_said : goal.returns-in-Ok-clause-fault_said
-returns-in-Ok-clause-fault_said g c = λ e. performed_fault _ _ _ _ _ c.perform.result c.perform.ensures.ends e
+returns-in-Ok-clause-fault_said g c = λ e.
+    let words = texts c.args.words.now in
+    let known = (g.F.Files.seen c.args.files.now).known in
+    performed_fault (IsOwn words known) _ _ _ _ _ c.perform.result (λ name is. inr (own_if known (command_of words) (finish_of c.in-Ok.job) c.in-Ok.ensures.may name is)) c.perform.ensures.ends e
 
 pub returns-in-Ok-clause-memory_said : goal.returns-in-Ok-clause-memory_said
 returns-in-Ok-clause-memory_said g c =
-    λ e failed. performed_short _ _ _ _ _ c.perform.result c.perform.ensures.ends (λ same. failed (same ∙ ap (λ (s : Seen). s.faults) c.in-Ok.ensures.same))
+    λ e failed.
+    let words = texts c.args.words.now in
+    let known = (g.F.Files.seen c.args.files.now).known in
+    performed_short (IsOwn words known) _ _ _ _ _ c.perform.result (λ name is. inr (own_if known (command_of words) (finish_of c.in-Ok.job) c.in-Ok.ensures.may name is)) c.perform.ensures.ends (λ same. failed (same ∙ ap (λ (s : Seen). s.faults) c.in-Ok.ensures.same))
 
 pub returns-in-Ok-clause-once : goal.returns-in-Ok-clause-once
 returns-in-Ok-clause-once g c = subst (λ (s : Seen). FailsOnce s (g.F.Files.seen c.perform.new.files)) c.in-Ok.ensures.same c.perform.ensures.once
 
 pub returns-in-Ok-clause-said : goal.returns-in-Ok-clause-said
-returns-in-Ok-clause-said g c = performed_took _ _ _ _ _ c.perform.result c.perform.ensures.ends
+returns-in-Ok-clause-said g c =
+    let words = texts c.args.words.now in
+    let known = (g.F.Files.seen c.args.files.now).known in
+    let job = c.in-Ok.job in
+    let may = c.in-Ok.ensures.may in
+    performed_took (MaySay words known) _ _ _ _ _ c.perform.result (inl (finish_of job, may, refl))
+    (λ name is. inr (inr (name, inr (own_if known (command_of words) (finish_of job) may name is), refl))) c.perform.ensures.ends
+
+pub returns-in-Ok-clause-may : goal.returns-in-Ok-clause-may
+returns-in-Ok-clause-may g c = λ done.
+    let whole = performed_done _ _ _ _ _ c.perform.result c.perform.ensures.ends done in
+    (finish_of c.in-Ok.job, c.in-Ok.ensures.may, whole.0, whole.1)
+
+pub returns-in-Ok-clause-no_command_said : goal.returns-in-Ok-clause-no_command_said
+returns-in-Ok-clause-no_command_said g c = λ none. absurd (c.in-Ok.ensures.command refl none)
+
+pub returns-in-Ok-clause-absent_said : goal.returns-in-Ok-clause-absent_said
+returns-in-Ok-clause-absent_said g c = λ e. absurd (performed_unrefused _ _ _ _ _ c.perform.result c.perform.ensures.ends (ap is_refusal e))
 
 pub returns-in-Ok-clause-line : goal.returns-in-Ok-clause-line
 returns-in-Ok-clause-line g c = λ e. absurd (performed_unrefused _ _ _ _ _ c.perform.result c.perform.ensures.ends e)
@@ -72,16 +98,29 @@ returns-in-Err-clause-drill g c = λ number asks.
     (drill_halted c.in-Err.halt _ _ _ _ c.stop.result drill.0 c.stop.ensures, ap (λ (s : Seen). s.faults) drill.1, ap (λ (s : Seen). s.changes) drill.1)
 
 pub returns-in-Err-clause-fault_said : goal.returns-in-Err-clause-fault_said
-returns-in-Err-clause-fault_said g c = λ e. stopped_fault _ _ _ _ c.stop.result _ _ _ _ c.in-Err.halt c.in-Err.ensures.halt c.stop.ensures e
+returns-in-Err-clause-fault_said g c = λ e.
+    let fault = stopped_fault _ _ _ _ c.stop.result _ _ _ _ c.in-Err.halt c.in-Err.ensures.halt c.stop.ensures e in
+    (fault.0, inl fault.1, fault.2, fault.3)
 
 pub returns-in-Err-clause-said : goal.returns-in-Err-clause-said
-returns-in-Err-clause-said g c = stopped_took c.in-Err.halt _ _ _ _ c.stop.result c.stop.ensures
+returns-in-Err-clause-said g c =
+    let words = texts c.args.words.now in
+    stopped_took (MaySay words (g.F.Files.seen c.args.files.now).known) (outcome_of words) (reads_of words) _ _ c.in-Err.halt _ _ _ _ c.stop.result
+    (λ why line form. inr (inl (why, form))) (λ name is. inr (inr (name, inl is, refl))) c.in-Err.ensures.halt c.stop.ensures
+
+pub returns-in-Err-clause-may : goal.returns-in-Err-clause-may
+returns-in-Err-clause-may g c = λ done. absurd (stopped_undone _ _ _ _ c.stop.result c.in-Err.halt c.stop.ensures done)
+
+pub returns-in-Err-clause-no_command_said : goal.returns-in-Err-clause-no_command_said
+returns-in-Err-clause-no_command_said g c = λ none. stopped_usage _ _ _ _ c.stop.result (command_of (texts c.args.words.now)) c.in-Err.halt c.in-Err.ensures.usage c.stop.ensures none
 
 pub returns-in-Err-clause-absent_said : goal.returns-in-Err-clause-absent_said
-returns-in-Err-clause-absent_said g c = λ none e. halted_absent _ _ _ _ _ _ _ _ c.in-Err.halt c.stop.result c.in-Err.ensures.halt c.stop.ensures none e
+returns-in-Err-clause-absent_said g c = λ e. halted_absent _ _ _ _ _ _ _ _ c.in-Err.halt c.stop.result c.in-Err.ensures.halt c.stop.ensures e
 
 pub returns-in-Err-clause-memory_said : goal.returns-in-Err-clause-memory_said
-returns-in-Err-clause-memory_said g c = λ e failed. stopped_short _ _ _ _ c.stop.result _ _ _ _ c.in-Err.halt c.in-Err.ensures.halt c.stop.ensures failed
+returns-in-Err-clause-memory_said g c = λ e failed.
+    let short = stopped_short _ _ _ _ c.stop.result _ _ _ _ c.in-Err.halt c.in-Err.ensures.halt c.stop.ensures failed in
+    (short.0, inl short.1, short.2, short.3)
 
 pub returns-in-Err-clause-once : goal.returns-in-Err-clause-once
 returns-in-Err-clause-once g c = halted_once _ _ (g.O.Sink.taken c.args.out.now) (g.O.Sink.taken c.args.out.now) 0 0 _ _ c.in-Err.halt c.in-Err.ensures.halt

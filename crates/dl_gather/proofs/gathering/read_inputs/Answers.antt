@@ -1,5 +1,6 @@
 use Rattle.std.proofs.Common.{List, ◌++◌, map, flat_map, option_to_list, ap, sym, ◌∙◌, subst, length}
 use Rattle.std.proofs.lemmas.List.{length-map}
+use Rattle.std.proofs.lemmas.List.Elements.{Contains-append_left, Contains-append_right}
 use Rattle.dl_files.specs.Seen.{Seen}
 use Rattle.dl_plan.specs.declared.Sphere.{Sphere}
 use Rattle.dl_plan.specs.Files.{input_names}
@@ -25,6 +26,7 @@ returns-in_err-schedule-clause-halt g c =
     (unread_in old new (read_for_schedule p.schedule) (named_by_parts p) (λ m. schedule_read m p.schedule) (λ m. plan_read m p) halt
     (record {
       absent = λ m e name x. err_then (schedule_read m p.schedule) _ name x;
+      named = λ name is. Contains-append_left (read_for_schedule p.schedule) (option_to_list p.input ++ flat_map read_for_sphere p.spheres) name is;
       next = λ m e name n. next_before m (read_for_schedule p.schedule) (option_to_list p.input ++ flat_map read_for_sphere p.spheres) name n;
     })
     c.in_err-schedule.ensures.halt))
@@ -41,6 +43,10 @@ returns-in_err-input-clause-halt g c =
     (unread_in old new (option_to_list p.input) (named_by_parts p) (λ m. input_read m p.input) (λ m. plan_read m p) halt
     (record {
       absent = λ m e name x. ok_then (schedule_read m p.schedule) _ schedule (c.in_ok-schedule.ensures.read m e) ∙ err_then (input_read m p.input) _ name x;
+      named =
+          λ name is.
+          Contains-append_right (read_for_schedule p.schedule) (option_to_list p.input ++ flat_map read_for_sphere p.spheres) name
+          (Contains-append_left (option_to_list p.input) (flat_map read_for_sphere p.spheres) name is);
       next =
           λ m e name n.
           next_behind m (read_for_schedule p.schedule) (option_to_list p.input ++ flat_map read_for_sphere p.spheres) name (schedule_there m p.schedule schedule (c.in_ok-schedule.ensures.read m e))
@@ -66,6 +72,10 @@ returns-in_err-spheres-clause-halt g c =
           ok_then (schedule_read m p.schedule) _ schedule (c.in_ok-schedule.ensures.read m e)
           ∙ ok_then (input_read m p.input) _ bytes (c.in_ok-input.ensures.read m (ap (λ (s : Seen). s.known) c.in_ok-schedule.ensures.same ∙ e))
           ∙ err_then (spheres_read m p.spheres) _ name x;
+      named =
+          λ name is.
+          Contains-append_right (read_for_schedule p.schedule) (option_to_list p.input ++ flat_map read_for_sphere p.spheres) name
+          (Contains-append_right (option_to_list p.input) (flat_map read_for_sphere p.spheres) name is);
       next =
           λ m e name n.
           next_behind m (read_for_schedule p.schedule) (option_to_list p.input ++ flat_map read_for_sphere p.spheres) name (schedule_there m p.schedule schedule (c.in_ok-schedule.ensures.read m e))

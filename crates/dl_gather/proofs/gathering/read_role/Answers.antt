@@ -19,7 +19,7 @@ returns-in_err-log-in-Replay-clause-halt g c =
     halt_carried c.from_residual.result halt (Unread (read_for_role (role_view c.args.role.now)) (λ m. role_read m (role_view c.args.role.now)) old new) c.from_residual.ensures.1
     (subst whole (sym c.in-Replay.is)
     (unread_in old new (log ∷ []) (read_for_role role) (λ m. log_at m log) (λ m. role_read m role) halt
-    (record { absent = λ m e name x. err_then (log_at m log) _ name x; next = λ m e name n. n })
+    (record { absent = λ m e name x. err_then (log_at m log) _ name x; named = λ name is. is; next = λ m e name n. n })
     (subst (λ (n : List ℕ). Unread (n ∷ []) (λ m. log_at m n) old new halt) c.as_str.ensures.value c.in_err-log-in-Replay.ensures.halt)))
 
 pub returns-in_err-strata-in-InStrata-clause-halt : goal.returns-in_err-strata-in-InStrata-clause-halt
@@ -33,5 +33,5 @@ returns-in_err-strata-in-InStrata-clause-halt g c =
     halt_carried c.from_residual-in_err-strata-in-InStrata.result halt (Unread (read_for_role (role_view c.args.role.now)) (λ m. role_read m (role_view c.args.role.now)) old new) c.from_residual-in_err-strata-in-InStrata.ensures.1
     (subst whole (sym c.in-InStrata.is)
     (unread_in old new (name ∷ []) (read_for_role role) (λ m. read_at m name) (λ m. role_read m role) halt
-    (record { absent = λ m e x is. err_then (strata_at m name) _ x (err_then (read_at m name) _ x is); next = λ m e x n. n })
+    (record { absent = λ m e x is. err_then (strata_at m name) _ x (err_then (read_at m name) _ x is); named = λ x is. is; next = λ m e x n. n })
     (subst (λ (n : List ℕ). Unread (n ∷ []) (λ m. read_at m n) old new halt) c.as_str-in-InStrata.ensures.value c.in_err-strata-in-InStrata.ensures.halt)))

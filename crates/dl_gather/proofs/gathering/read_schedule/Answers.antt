@@ -19,5 +19,5 @@ returns-in_err-script-in-Script-clause-halt g c =
     halt_carried c.from_residual.result halt (Unread (read_for_schedule (schedule_view c.args.schedule.now)) (λ m. schedule_read m (schedule_view c.args.schedule.now)) old new) c.from_residual.ensures.1
     (subst whole (sym c.in-Script.is)
     (unread_in old new (script ∷ []) (read_for_schedule schedule) (λ m. script_at m script) (λ m. schedule_read m schedule) halt
-    (record { absent = λ m e name x. err_then (script_at m script) _ name x; next = λ m e name n. n })
+    (record { absent = λ m e name x. err_then (script_at m script) _ name x; named = λ name is. is; next = λ m e name n. n })
     (subst (λ (n : List ℕ). Unread (n ∷ []) (λ m. script_at m n) old new halt) c.as_str.ensures.value c.in_err-script-in-Script.ensures.halt)))

@@ -1,4 +1,5 @@
 use Rattle.std.proofs.Common.{◌≡◌, ℕ, List, [], ◌∷◌, Some, Ok, ◌∙◌, subst}
+use Rattle.std.proofs.lemmas.List.Elements.{Contains-append_left, Contains-append_right}
 use Rattle.dl_files.specs.Contents.{Contents}
 use Rattle.dl_files.specs.Seen.{Seen}
 use Rattle.dl_plan.specs.Values.{sphere_view}
@@ -17,7 +18,7 @@ returns-in_err-image-clause-halt g c =
     let halt = c.in_err-image.field-0.0 in
     halt_carried c.from_residual.result halt (Unread (read_for_sphere s) (λ m. sphere_read m s) old new) c.from_residual.ensures.1
     (unread_in old new (s.image ∷ []) (read_for_sphere s) (λ m. read_at m s.image) (λ m. sphere_read m s) halt
-    (record { absent = λ m e name x. err_then _ _ name x; next = λ m e name n. next_before m (s.image ∷ []) (read_for_role s.role) name n })
+    (record { absent = λ m e name x. err_then _ _ name x; named = λ name is. Contains-append_left (s.image ∷ []) (read_for_role s.role) name is; next = λ m e name n. next_before m (s.image ∷ []) (read_for_role s.role) name n })
     (subst (λ (n : List ℕ). Unread (n ∷ []) (λ m. read_at m n) old new halt) c.as_str.ensures.value c.in_err-image.ensures.halt))
 
 pub returns-in_err-role-clause-halt : goal.returns-in_err-role-clause-halt
@@ -34,6 +35,7 @@ returns-in_err-role-clause-halt g c =
     (unread_in old new (read_for_role s.role) (read_for_sphere s) (λ m. role_read m s.role) (λ m. sphere_read m s) halt
     (record {
       absent = λ m e name x. ok_then (read_at m s.image) _ bytes (image m e) ∙ err_then (role_read m s.role) _ name x;
+      named = λ name is. Contains-append_right (s.image ∷ []) (read_for_role s.role) name is;
       next = λ m e name n. next_behind m (s.image ∷ []) (read_for_role s.role) name (file_there m s.image bytes (image m e), tt) n;
     })
     (subst (λ (x : Seen). Unread (read_for_role s.role) (λ m. role_read m s.role) x new halt) c.in_ok-image.ensures.same c.in_err-role.ensures.halt))

@@ -13,4 +13,4 @@ returns-in_err-read-clause-halt g c =
     let halt = c.in_err-read.field-0.0 in
     halt_carried c.from_residual.result halt (Halts (λ m. good_log_at m name) (λ m. name ∷ []) old new) c.from_residual.ensures.1
     (unread_halts (name ∷ []) (λ m. name ∷ []) (λ m. log_at m name) (λ m. good_log_at m name) old new halt
-    (λ m x is. file_refused (log_at m name) _ x is) (λ m x next. next) c.in_err-read.ensures.halt)
+    (λ m x is. file_refused (log_at m name) _ x is) (λ m x is. is) (λ m x next. next) c.in_err-read.ensures.halt)

@@ -15,4 +15,4 @@ returns-in_err-log-clause-halt g c =
     let halt = c.in_err-log.field-0.0 in
     halt_carried c.from_residual.result halt (Halts (λ m. playback_on m p program) (λ m. p.log ∷ []) old new) c.from_residual.ensures.1
     (unread_halts (p.log ∷ []) (λ m. p.log ∷ []) (λ m. log_at m p.log) (λ m. playback_on m p program) old new halt
-    (λ m x is. file_refused (log_at m p.log) _ x is) (λ m x next. next) c.in_err-log.ensures.halt)
+    (λ m x is. file_refused (log_at m p.log) _ x is) (λ m x is. is) (λ m x next. next) c.in_err-log.ensures.halt)

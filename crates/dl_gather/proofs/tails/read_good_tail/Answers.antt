@@ -13,4 +13,4 @@ returns-in_err-bytes-clause-halt g c =
     let halt = c.in_err-bytes.field-0.0 in
     halt_carried c.from_residual.result halt (Halts (λ m. tail_at m name) (λ m. name ∷ []) old new) c.from_residual.ensures.1
     (unread_halts (name ∷ []) (λ m. name ∷ []) (λ m. read_at m name) (λ m. tail_at m name) old new halt
-    (λ m x is. file_refused (read_at m name) _ x is) (λ m x next. next) c.in_err-bytes.ensures.halt)
+    (λ m x is. file_refused (read_at m name) _ x is) (λ m x is. is) (λ m x next. next) c.in_err-bytes.ensures.halt)

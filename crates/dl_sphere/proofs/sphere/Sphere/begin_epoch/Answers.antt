@@ -1,4 +1,5 @@
-use Rattle.std.proofs.Common.{◌≡◌, ◌-◌, ◌∙◌, drop, sym, ap, subst}
+use Rattle.std.proofs.Common.{◌≡◌, ◌-◌, ◌∙◌, drop, refl, sym, ap, subst}
+use Rattle.std.proofs.lemmas.Bool.{true≢false}
 use Rattle.spec_isa.specs.Words.{lays}
 use Rattle.spec_play.specs.Progress.{nothing_used}
 use Rattle.spec_sphere.specs.sphere.Epochs.{epoch_begun, state_in}
@@ -15,6 +16,7 @@ use Rattle.dl_sphere.specs.Roles.{keeping_of, recording_of, role_in, HasRecorded
 use Rattle.dl_sphere.specs.SizedSpheres.{SizedSphere, with_sphere}
 use Rattle.dl_sphere.specs.declared.part.Part.{Part}
 use Rattle.dl_sphere.proofs.Begins.Begun.{Begins, begins, none_begins, unrecorded}
+use Rattle.dl_sphere.proofs.Begins.Due.{none_due}
 use Rattle.dl_sphere.proofs.sphere.Sphere.begin_epoch.Goals as goal
 
 pub returns-in_default : goal.returns-in_default
@@ -27,6 +29,7 @@ returns-in_default g c =
           sym (ap (λ (p : Sphere). with_sphere p (record { s = a.s; sphere = sphere_in a })) none)
           ∙ ap (λ (v : SizedSphere). with_sphere (epoch_begun (lays v.sphere.memory words) v.sphere) v) c.self.view_is;
       err = tt;
+      needless = λ none. refl;
     }
 
 pub returns-then-not-is_due-clause-ok : goal.returns-then-not-is_due-clause-ok
@@ -105,3 +108,13 @@ returns-clause-ok g c =
     ∙ ap (λ (x : Sphere). with_sphere x (record { s = a.s; sphere = p })) b.sphere
     ∙ sym (ap (λ (x : Part). let y : Sphere = sphere_at a.past (role_in a.past.state.used x) in with_sphere (epoch_begun memory y) (record { s = a.s; sphere = y })) c.in-Recorded.is)
     ∙ ap (λ (v : SizedSphere). with_sphere (epoch_begun (lays v.sphere.memory words) v.sphere) v) c.self.view_is
+
+pub returns-in_err-state-clause-needless : goal.returns-in_err-state-clause-needless
+returns-in_err-state-clause-needless g c none =
+    let not = c.is_due.ensures ∙ none_due c.self.inside _ c.in-Recorded.recording c.in-Recorded.is c.self.invariant c.self.view_is none in
+    absurd (true≢false (sym c.if-not-is_due.false ∙ not))
+
+pub returns-in_err-begin_epoch-clause-needless : goal.returns-in_err-begin_epoch-clause-needless
+returns-in_err-begin_epoch-clause-needless g c none =
+    let not = c.is_due.ensures ∙ none_due c.self.inside _ c.in-Recorded.recording c.in-Recorded.is c.self.invariant c.self.view_is none in
+    absurd (true≢false (sym c.if-not-is_due.false ∙ not))
