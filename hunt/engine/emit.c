@@ -134,7 +134,8 @@ static void take_step(uint32_t thread) {
 }
 
 static bool is_reached(const struct turn *turn, uint64_t step) {
-    if (turn->end == WAITS && same_hash(state_of(run), turn->target))
+    uint32_t pc = run->machine.threads[turn->actor].pc; /* first, since a state takes long */
+    if (turn->end == WAITS && pc == turn->target_pc && same_hash(state_of(run), turn->target))
         return true;
     return step == turn->steps;
 }
@@ -285,6 +286,7 @@ static void emit_loop(uint32_t thread) {
     struct machine *m = &run->machine;
     struct thread *t = &m->threads[thread];
     struct hash from = state_of(run);
+    uint32_t from_pc = t->pc;
     uint64_t size = 0, steps = 0;
     printf("loop %u", thread);
     do {
@@ -308,7 +310,7 @@ static void emit_loop(uint32_t thread) {
             tell_size(&size);
             end_chunk(t);
         }
-    } while (!same_hash(state_without_reservation(thread), from) && ++steps < LONGEST_LOOP);
+    } while ((t->pc != from_pc || !same_hash(state_without_reservation(thread), from)) && ++steps < LONGEST_LOOP);
     tell_size(&size);
     printf("%s\n", steps == LONGEST_LOOP ? " none" : "");
     end_chunk(t);

@@ -78,8 +78,10 @@ void end_turn(struct run *r, enum turn_end end) {
     if (r->current == NO_ONE)
         return;
     present(r)->end = end;
-    if (end == WAITS)
+    if (end == WAITS) {
         present(r)->target = state_of(r);
+        present(r)->target_pc = r->machine.threads[r->current].pc;
+    }
     end_chunk(&r->machine.threads[r->current]);
     r->current = NO_ONE;
 }

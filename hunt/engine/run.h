@@ -20,6 +20,7 @@ struct turn {
     enum turn_end end;
     uint64_t steps;
     struct hash target; /* of a turn that ends in waiting: the state in which it waits */
+    uint32_t target_pc; /* its thread's there */
     uint32_t value;     /* of an interrupt; its thread is in steps */
 };
 

@@ -7,15 +7,15 @@ something. That is walked: a log that is longer by the loop leads to the same re
 from collections import namedtuple
 
 from . import isa
-from .loops import loop_of
+from .loops import MORE_STEPS, TooLong, long_loop_of
 from .telling import place
 from .trace import context_name
 
 MOST_WORDS = 4
 
-# A live thread. loop: its Loop, or None if it goes on. chain: pcs: where it looks at what it waits for, and the calls that led
+# A live thread. loop: its Loop, or None if it goes on or is_long: it came to no state again in MORE_STEPS. chain: pcs: where it looks at what it waits for, and the calls that led
 # there. words: addresses that it looks at in the loop, and that others use. threads: whose end it waits for. channels: it reads.
-Wait = namedtuple("Wait", "thread loop chain words threads channels")
+Wait = namedtuple("Wait", "thread loop chain words threads channels is_long", defaults=(False,))
 
 
 class NotShown(Exception):
@@ -32,8 +32,11 @@ def waits(trace):
 
 
 def _wait(trace, k):
-    loop = loop_of(trace.machine, k, trace.log.s)
     thread = trace.machine.threads[k]
+    try:
+        loop = long_loop_of(trace.machine, k, trace.log.s)
+    except TooLong:
+        return Wait(k, None, _calls(trace, trace.machine, thread), [], [], [], True)
     if loop is None or not all(_is_own(trace, k, word) for word in loop.changed) or not _is_walked(trace, k, loop):
         return Wait(k, None, _calls(trace, trace.machine, thread), [], [], [])
     words = _words(trace, k, loop)
@@ -148,7 +151,7 @@ def hang_lines(trace, found=None):
 def _lines(trace, wait):
     where = ", called from ".join(dict.fromkeys(place(trace, pc) for pc in wait.chain))
     if wait.loop is None:
-        yield "thread %d could go on: %s" % (wait.thread, where)
+        yield "thread %d %s: %s" % (wait.thread, "comes to no state again in %d steps" % MORE_STEPS if wait.is_long else "could go on", where)
         return
     yield "thread %d waits: %s" % (wait.thread, where)
     yield from ("    for %s" % text for text in _reasons(trace, wait))

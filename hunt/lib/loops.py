@@ -1,5 +1,5 @@
-"""A thread goes on alone: `loop_of(machine, k, standard)` until it is back in a state in which it was, so it waits; and
-`next_store(machine, k, standard, words)` until it has stored to one of the words."""
+"""A thread goes on alone: `loop_of(machine, k, standard)` until it is back in a state in which it was, so it waits; `long_loop_of` for
+longer; and `next_store(machine, k, standard, words)` until it has stored to one of the words."""
 
 from collections import namedtuple
 
@@ -7,12 +7,17 @@ from . import isa
 from .logs import Input
 from .machine import NOTHING, READ, WRITE
 
-MOST_STEPS = 50_000
+MOST_STEPS, MORE_STEPS = 50_000, 200_000
+MOST_STATES = 10_000  # that are kept
 
 # A thread that goes on alone comes back to its state. before, commits: lists of (size, Input or None), up to the loop and of the
 # loop once. accesses: those of the loop. calls: what it asked the kernel there, as Served. changed: the addresses of words that
 # have another value at the loop's beginning than now.
 Loop = namedtuple("Loop", "before commits accesses calls changed")
+
+
+class TooLong(Exception):
+    """The thread has come to no state again so far."""
 
 
 class Alone:
@@ -64,16 +69,24 @@ class Alone:
 
 def loop_of(machine, k, standard):
     """The Loop of a live thread, or None if it doesn't come back within 50,000 steps. The machine is left as it was."""
+    try:
+        return long_loop_of(machine, k, standard, MOST_STEPS)
+    except TooLong:
+        return None
+
+
+def long_loop_of(machine, k, standard, most=MORE_STEPS):
+    """Likewise, but TooLong after so many steps, so that None means that the thread goes on."""
     mark = machine.mark()
     try:
-        return _loop(Alone(machine, k, standard))
+        return _loop(Alone(machine, k, standard), most)
     finally:
         machine.back(mark)
 
 
-def _loop(alone):
-    seen, machine = {}, alone.machine
-    for _ in range(MOST_STEPS):
+def _loop(alone, most):
+    seen, machine, looks = {}, alone.machine, 0
+    for _ in range(most):
         pc = machine.threads[alone.k].pc
         if not alone.step():
             return None
@@ -82,8 +95,10 @@ def _loop(alone):
             state = alone.state()
             if state in seen:
                 return _made(alone, *seen[state])
-            seen[state] = len(alone.commits), len(machine.accesses), len(alone.calls)
-    return None
+            looks += 1
+            if looks <= MOST_STATES or looks & (looks - 1) == 0:  # of the later ones the 16,384th, the 32,768th and so on
+                seen[state] = len(alone.commits), len(machine.accesses), len(alone.calls)
+    raise TooLong
 
 
 def _made(alone, commits, accesses, calls):

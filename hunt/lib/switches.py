@@ -5,7 +5,7 @@ from collections import namedtuple
 
 from . import isa
 from .logs import DMA
-from .loops import loop_of
+from .loops import TooLong, long_loop_of, loop_of
 from .machine import CONSOLE_CHANNEL, WRITE
 from .trace import Moment
 from .words import bits_of, shared_words
@@ -35,7 +35,14 @@ def ends_badly(trace):
     live = [k for k, thread in enumerate(trace.machine.threads) if thread.live()]
     if any(not thread.live() and thread.status != ("ended", 0) for thread in trace.machine.threads):
         return True
-    return bool(live) and all(loop_of(trace.machine, k, trace.log.s) for k in live)
+    return bool(live) and all(_waits(trace, k) for k in live)
+
+
+def _waits(trace, k):
+    try:
+        return long_loop_of(trace.machine, k, trace.log.s) is not None
+    except TooLong:
+        return False
 
 
 def switches(trace):
