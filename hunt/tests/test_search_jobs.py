@@ -19,6 +19,7 @@ from lib.image import read_image
 from lib.symbols import Names
 from locked_programs import locked_program, with_marks
 from small_programs import END_OF_WORDS, SHARED, SIZE, addi, beq, bne, elf, image_of, lw, random_program, reserving_step, sw, waiting_step
+from test_long_loops import CLEARS, END, OTHER, SETS, together, waits
 from test_search import BUGS, CAN_BUILD, EXAMPLES, NO_COMPILER, RACE, command, written
 from test_search_states import A, B, DELAY, ENDS, FLAG, SEEN, SPAWNS_TWO, laid, sets
 
@@ -65,6 +66,14 @@ class SameEnds(unittest.TestCase):
         """Those that can't part are given to the others."""
         for image in list(self.programs())[:6]:
             self.assertEqual(met_ends(image, FEW, "keep 1", "jobs 3"), met_ends(image, FEW))
+
+    def test_long_loops(self):
+        """Of more steps than a turn has, so that others may come within a round."""
+        for turn, code in ((400, together(waits(1009, does=[lw(9, OTHER)]), CLEARS, SETS)),
+                           (2500, together(waits(5009, does=[lw(9, OTHER)]), waits(3007), [lw(9, OTHER), *END]))):
+            image, options = image_of(code), FEW._replace(turn=turn)
+            with delayed("close:*:+500,take:*:500"):
+                self.assertEqual(met_ends(image, options, "jobs 3"), met_ends(image, options), turn)
 
     def test_two_in_one_loop(self):
         """Thread 1 is left before it looks at A, or before it looks at B, and then thread 2 clears B. So two of the crew come into the same
