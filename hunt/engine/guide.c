@@ -65,8 +65,10 @@ static uint32_t next_thread(struct run *r, uint32_t last) {
     return NO_ONE;
 }
 
+/* A thread that goes on though it has had its steps, since no other could, has twice as many, so that a long loop is seen. */
 static enum outcome finished(struct run *r, uint32_t last, const struct condition *bad) {
-    for (;;) {
+    uint64_t steps = r->turn_limit;
+    for (uint32_t spent = NO_ONE;;) {
         uint32_t thread = next_thread(r, last);
         if (is_bad_already(r, bad))
             return BAD;
@@ -76,11 +78,13 @@ static enum outcome finished(struct run *r, uint32_t last, const struct conditio
             do_dma(r);
             continue;
         }
+        steps = thread == spent ? 2 * steps : r->turn_limit;
         begin_turn(r, thread);
-        enum stop stop = go_steps(r, r->turn_limit);
+        enum stop stop = go_steps(r, steps);
         end_turn(r, stop == AT_PLACE ? SPENT : end_of(stop));
         if (stop == AT_LIMIT)
             return LIMITED;
+        spent = stop == AT_PLACE ? thread : NO_ONE;
         last = stop == AT_PLACE ? (thread + 1) % r->machine.thread_count : thread;
     }
 }

@@ -13,8 +13,9 @@ from .trace import context_name
 
 MOST_WORDS = 4
 
-# A live thread. loop: its Loop, or None if it goes on or is_long: it came to no state again in MORE_STEPS. chain: pcs: where it looks at what it waits for, and the calls that led
-# there. words: addresses that it looks at in the loop, and that others use. threads: whose end it waits for. channels: it reads.
+# A live thread. loop: its Loop, or None if it goes on or is_long: it came to no state again in MORE_STEPS. chain: pcs: where it looks at
+# what it waits for, and the calls that led there. words: addresses that it looks at in the loop, and that others use. threads: whose
+# end it waits for. channels: it reads.
 Wait = namedtuple("Wait", "thread loop chain words threads channels is_long", defaults=(False,))
 
 
@@ -151,7 +152,8 @@ def hang_lines(trace, found=None):
 def _lines(trace, wait):
     where = ", called from ".join(dict.fromkeys(place(trace, pc) for pc in wait.chain))
     if wait.loop is None:
-        yield "thread %d %s: %s" % (wait.thread, "comes to no state again in %d steps" % MORE_STEPS if wait.is_long else "could go on", where)
+        goes = "comes to no state again in %d steps" % MORE_STEPS if wait.is_long else "could go on"
+        yield "thread %d %s: %s" % (wait.thread, goes, where)
         return
     yield "thread %d waits: %s" % (wait.thread, where)
     yield from ("    for %s" % text for text in _reasons(trace, wait))

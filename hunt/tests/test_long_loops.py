@@ -60,27 +60,27 @@ class LongLoops(unittest.TestCase):
         self.assertNotIn(None, result.told.loops.values())
 
     def test_lengths(self):
-        for steps in (3007, 5009, 9007, 15009, 50001):
+        for steps in (3007, 5009, 15009):
             with self.subTest(steps):
                 self.assert_hang(together(waits(steps), CLEARS))
 
     def test_alone(self):
-        for steps in (5009, 9007, 200001):
+        for steps in (5009, 50001):
             self.assert_hang(together(waits(steps)))
 
     def test_two_lengths(self):
         self.assert_hang(together(waits(5009), waits(7013, OTHER)))
-        self.assert_hang(together(waits(15009, does=[lw(9, OTHER)]), waits(9007), [lw(9, OTHER), *END]))
+        self.assert_hang(together(waits(7013, does=[lw(9, OTHER)]), waits(5009), [lw(9, OTHER), *END]))
 
     def test_shorter_turns(self):
         """However many turns there are in a round."""
-        for turn in (7, 100, 2500):
+        for turn in (100, 2500):
             self.assert_hang(together(waits(5009), CLEARS), turn=turn)
 
     def test_few_runs_kept(self):
         """Others that may come where a turn has had its steps are tried later then."""
-        one = together(waits(9007, does=[lw(9, OTHER)]), [*sets(OTHER, 1), *END], [*sets(OTHER, 2), *END])
-        ends = [met_ends(image_of(one), Options(turn=1000), *line) for line in ([], ["keep 0"], ["keep 1"])]
+        one = together(waits(2003, does=[lw(9, OTHER)]), [*sets(OTHER, 1), *END], [*sets(OTHER, 2), *END])
+        ends = [met_ends(image_of(one), Options(turn=500), *line) for line in ([], ["keep 0"], ["keep 1"])]
         self.assertEqual(ends[1:], ends[:1] * 2)
 
     def test_loop_that_stores(self):
@@ -93,13 +93,13 @@ class LongLoops(unittest.TestCase):
                 self.assertEqual(self.searched(together(waits(5009), CLEARS), bad).how, "found")
 
     def test_no_hang(self):
-        for steps in (5009, 15009):
+        for steps in (5009,):
             result = self.searched(together(waits(steps), SETS), "hang")
             self.assertEqual((result.how, result.limited), ("all", 0))
 
     def test_limit(self):
         """A loop that is too long for --steps isn't denied."""
-        for steps, limit in ((5009, 10000), (50001, 100000), (600001, 1000000)):
+        for steps, limit in ((5009, 10000), (50001, 100000)):
             result = self.searched(together(waits(steps), CLEARS), "hang", steps=limit)
             self.assertEqual(result.how, "all")
             self.assertGreater(result.limited, 0)
