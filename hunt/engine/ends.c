@@ -1,5 +1,7 @@
 #include "ends.h"
 
+#include "crew.h"
+
 #include <stdio.h>
 #include <stdlib.h>
 #include <string.h>
@@ -10,6 +12,7 @@ struct end { uint32_t forced; char *text; };
 static uint32_t first, size;
 static struct end *ends;
 static size_t count, ends_room;
+static atomic_flag lock = ATOMIC_FLAG_INIT;
 
 void collect_ends(uint32_t from, uint32_t length) {
     first = from;
@@ -30,10 +33,8 @@ static char *text_of(const struct machine *m) {
     return text;
 }
 
-void note_end(const struct machine *m, uint32_t forced) {
-    if (size == 0)
-        return;
-    char *text = text_of(m);
+/* The text is kept, or is there already and freed. */
+static void add_end(char *text, uint32_t forced) {
     for (size_t j = 0; j < count; j++)
         if (strcmp(ends[j].text, text) == 0) {
             free(text);
@@ -44,6 +45,28 @@ void note_end(const struct machine *m, uint32_t forced) {
         ends = more_room(ends, ends_room, sizeof *ends);
     }
     ends[count++] = (struct end){forced, text};
+}
+
+void note_end(const struct machine *m, uint32_t forced) {
+    if (size == 0)
+        return;
+    char *text = text_of(m);
+    spin_lock(&lock);
+    add_end(text, forced);
+    spin_unlock(&lock);
+}
+
+size_t end_count(void) { return count; }
+
+const char *end_text(size_t number, uint32_t *forced) {
+    *forced = ends[number].forced;
+    return ends[number].text;
+}
+
+void put_end(const char *text, uint32_t forced) {
+    char *copy = room(strlen(text) + 1, 1);
+    strcpy(copy, text);
+    add_end(copy, forced);
 }
 
 void tell_ends(void) {

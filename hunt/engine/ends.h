@@ -9,5 +9,8 @@ void collect_ends(uint32_t from, uint32_t length); /* with these bytes of memory
 void forget_ends(void);
 void note_end(const struct machine *m, uint32_t forced);
 void tell_ends(void);
+size_t end_count(void);
+const char *end_text(size_t number, uint32_t *forced);
+void put_end(const char *text, uint32_t forced);
 
 #endif

@@ -1,4 +1,5 @@
-/* What the search has yet to try. An item is a way to go: what its parent's run does up to a stop, and there this choice. */
+/* What the search has yet to try. An item is a way to go: what its parent's run does up to a stop, and there this choice. The
+   whole crew shares them; an item never changes. */
 #ifndef ITEMS_H
 #define ITEMS_H
 
@@ -23,5 +24,6 @@ struct item item_of(uint32_t number);
 uint32_t item_count(void);
 void forget_items(void);
 void push(struct list *l, uint32_t item);
+void push_all(struct list *l, const struct list *others);
 
 #endif

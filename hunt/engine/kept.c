@@ -12,8 +12,9 @@ struct kept_run {
     struct kept_segments segments;
 };
 
-static struct kept_run *kept[MOST_KEPT + 1]; /* and one at a run's end */
-static size_t count, most = MOST_KEPT;
+static _Thread_local struct kept_run *kept[MOST_KEPT + 1]; /* and one at a run's end */
+static _Thread_local size_t count;
+static size_t most = MOST_KEPT;
 
 void keep_at_most(size_t runs) { most = runs < MOST_KEPT ? runs : MOST_KEPT; }
 

@@ -154,7 +154,7 @@ static void stop_thread(struct machine *m, struct thread *t, uint32_t status, ui
 }
 
 static void outside_call(struct machine *m, uint32_t number, struct next next, struct served *served) {
-    static uint8_t bytes[LONGEST];
+    static _Thread_local uint8_t bytes[LONGEST];
     struct thread *t = &m->threads[number];
     struct need n = need_of(m, t, next);
     uint32_t context = context_of(m, number);
@@ -268,7 +268,7 @@ void serve(struct machine *m, uint32_t number, struct next next, struct served *
     case BREAK: stop_thread(m, t, FAULTED, 3); break;
     case DEVICE_LOAD: outside_call(m, number, next, served); break;
     case DEVICE_STORE: {
-        static uint8_t byte;
+        static _Thread_local uint8_t byte;
         byte = (uint8_t)t->x[code_at(m, t->pc)->rs2];
         served->channel = CONSOLE_CHANNEL;
         served->output = &byte;

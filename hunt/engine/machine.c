@@ -73,7 +73,7 @@ void start_machine(struct machine *m, struct setup *setup) {
     m->memory = room(setup->size, 1);
     memcpy(m->memory, setup->image, setup->size);
     m->code = room(setup->size / 4, sizeof *m->code);
-    start_sharing(setup->size);
+    start_segments(setup->size);
     reset_machine(m);
 }
 

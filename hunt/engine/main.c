@@ -3,15 +3,19 @@
 #define _POSIX_C_SOURCE 200809L
 #include "chance.h"
 #include "condition.h"
+#include "crew.h"
 #include "emit.h"
 #include "ends.h"
 #include "guide.h"
 #include "kept.h"
 #include "priorities.h"
 #include "run.h"
+#include "saved.h"
+#include "scouts.h"
 #include "search.h"
 #include "segments.h"
 #include "sharing.h"
+#include "telling.h"
 
 #include <signal.h>
 #include <stdio.h>
@@ -49,6 +53,8 @@ static uint8_t *bytes_of(const char *text, uint32_t *length) {
     }
     return bytes;
 }
+
+static char *copy_of(const char *text) { return strcpy(room(strlen(text) + 1, 1), text); }
 
 static char *rest_of(char *line) { return line[strcspn(line, " ")] ? line + strcspn(line, " ") + 1 : line + strlen(line); }
 
@@ -134,6 +140,14 @@ static void take_acquire(char *rest) {
     setup.acquires[pc / 4] = true;
 }
 
+static void take_save(char *rest) {
+    int used = 0;
+    double every;
+    if (sscanf(rest, "%lf %n", &every, &used) != 1)
+        fail("no file to save the search in");
+    save_in(copy_of(rest + used), every);
+}
+
 static void take_turn(char *rest) {
     unsigned actor, end;
     unsigned long long steps;
@@ -150,6 +164,7 @@ static void take_turn(char *rest) {
 static void ready(void) {
     if (run.machine.setup != NULL)
         return;
+    start_sharing(setup.size);
     start_machine(&run.machine, &setup);
     for (size_t j = 0; j < bad.count; j++) {
         if (bad.atoms[j].kind != WORD_IS_EVER)
@@ -271,6 +286,12 @@ static void take_line(char *line) {
     else if (strcmp(line, "raise") == 0) take_raise(rest);
     else if (strcmp(line, "acquire") == 0) take_acquire(rest);
     else if (strcmp(line, "ends") == 0) take_ends(rest);
+    else if (strcmp(line, "jobs") == 0) set_crew((uint32_t)strtoul(rest, NULL, 10));
+    else if (strcmp(line, "progress") == 0) ask_for_progress();
+    else if (strcmp(line, "stamp") == 0) begin_saved_with(rest);
+    else if (strcmp(line, "save") == 0) take_save(rest);
+    else if (strcmp(line, "resume") == 0) resume_from(copy_of(rest));
+    else if (strcmp(line, "scouts") == 0) set_scouts((int)strtol(rest, NULL, 10));
     else if (strcmp(line, "keep") == 0) keep_at_most(strtoul(rest, NULL, 10));
     else if (strcmp(line, "turn") == 0) take_turn(rest);
     else if (strcmp(line, "search") == 0) do_search(rest);
@@ -292,6 +313,7 @@ static void take_interrupts(void) {
     struct sigaction action = {.sa_handler = on_interrupt, .sa_flags = SA_RESTART};
     sigemptyset(&action.sa_mask);
     sigaction(SIGINT, &action, NULL);
+    signal(SIGXFSZ, SIG_IGN); /* a search that can't be saved goes on */
 }
 
 int main(void) {

@@ -1,5 +1,6 @@
 #include "run.h"
 
+#include "crew.h"
 #include "segments.h"
 #include "sharing.h"
 
@@ -219,12 +220,12 @@ static struct hash hash_when_left(struct run *r, uint32_t number) {
     return mixed(h.a + number, h.b);
 }
 
-static void keep_loop(struct run *r, uint64_t length, const struct looks *looks, enum waiting how) {
+static void keep_loop(struct run *r, uint64_t length, const struct loop *loop) {
     struct machine *m = &r->machine;
     if (how_waits(hash_when_left(r, r->current), m) != IS_UNKNOWN)
         return;
     for (uint64_t j = 0; j < length; j++) {
-        keep_waiting(hash_when_left(r, r->current), looks, m, how);
+        keep_waiting(hash_when_left(r, r->current), loop, m);
         take_step(r, next_of(m, &m->threads[r->current]));
     }
 }
@@ -232,10 +233,16 @@ static void keep_loop(struct run *r, uint64_t length, const struct looks *looks,
 static void wait_here(struct run *r) {
     bool pure = r->machine.stores == r->mark_stores;
     uint64_t length = r->mark_age + 1;
-    struct looks looks = {.at_all = !pure};
-    look_around(r, length, &looks);
+    struct loop loop = {.looks = {.at_all = !pure}};
+    uint32_t before = changes_begun();
+    look_around(r, length, &loop.looks);
+    delay("around");
+    loop.known = knowledge();
     uint32_t places = settle(r, length);
-    keep_loop(r, length, &looks, !pure ? WAITS_WITH_STORES : places > 1 ? WAITS_AROUND : WAITS_AT_ONE_PLACE);
+    loop.how = !pure ? WAITS_WITH_STORES : places > 1 ? WAITS_AROUND : WAITS_AT_ONE_PLACE;
+    if (crew_size() > 1 && changes_begun() != before) /* a word that was looked at may be shared by now; the search begins again */
+        return;
+    keep_loop(r, length, &loop);
 }
 
 enum waiting waiting_of(struct run *r, uint32_t thread) {

@@ -53,11 +53,14 @@ static void scout(struct run *r, uint64_t *state) {
     }
 }
 
+static int enough = 100;
+
+void set_scouts(int idle_runs) { enough = idle_runs; }
+
 void send_scouts(struct run *r, double seconds) {
-    enum { ENOUGH = 100 };
     double started = now_seconds();
     uint64_t random = 0x9E3779B97F4A7C15u;
-    for (int idle = 0; idle < ENOUGH && now_seconds() - started < seconds; idle++) {
+    for (int idle = 0; idle < enough && now_seconds() - started < seconds; idle++) {
         scout(r, &random);
         if (has_news())
             idle = 0;

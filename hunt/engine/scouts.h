@@ -4,7 +4,8 @@
 
 #include "run.h"
 
-/* Until many one after another have no news, or so many seconds are over. */
+/* Until many one after another have no news, or so many seconds are over. For tests: how many. */
+void set_scouts(int idle_runs);
 void send_scouts(struct run *r, double seconds);
 double now_seconds(void);
 

@@ -19,6 +19,9 @@ struct tally {
     uint32_t most_places, bound, restarts;
 };
 
+/* It is saved in this file each so many seconds, and if it meets a limit. Or it goes on from what was saved there. */
+void save_in(const char *name, double every);
+void resume_from(const char *name);
 enum finish search(struct run *r, const struct condition *bad, const struct limits *limits, struct tally *tally);
 /* The search ends after the present run. A signal may call this. */
 void interrupt_search(void);

@@ -1,44 +1,64 @@
 #include "segments.h"
 
+#include "crew.h"
 #include "sharing.h"
 
+#include <stdatomic.h>
 #include <string.h>
 
 /* Of a word the threads whose present segments have touched it, as bits. */
 struct touched_by { uint64_t loads, stores; };
 
-static struct touched_by *touched_by;
-static struct segment present[MOST_THREADS];
-static struct hash sum_of_all;
-static uint8_t *place;
-static uint32_t place_words;
-static uint64_t touches;
-static bool all_places = true, news, at_place, learns = true;
+/* Of the runs of each of the crew: */
+static _Thread_local struct touched_by *touched_by;
+static _Thread_local struct segment present[MOST_THREADS];
+static _Thread_local struct hash sum_of_all;
+static _Thread_local uint64_t touches;
+static _Thread_local bool news, at_place, learns = true;
+static _Thread_local uint32_t known_then; /* when the run began */
+/* Of all runs: */
+static _Atomic uint8_t *place;
+static _Atomic uint32_t place_words, changes;
+static bool all_places = true;
 
 /* ---------------------------------------------------------------- places */
 
 void every_shared_word_is_a_place(bool all) { all_places = all; }
 
-bool is_place_word(uint32_t address) { return place[address / 4] || (all_places && is_shared(address)); }
+bool is_made_place(uint32_t address) { return atomic_load_explicit(&place[address / 4], memory_order_acquire); }
+
+bool is_place_word(uint32_t address) { return is_made_place(address) || (all_places && is_shared(address)); }
 
 uint32_t place_word_count(void) { return all_places ? shared_count() : place_words; }
 
 uint32_t knowledge(void) { return shared_count() + place_words; }
 
-bool has_news(void) { return news; }
+uint32_t changes_begun(void) { return changes; }
 
-void tell_news(void) { news = true; }
+void begin_change(void) { changes++; }
+
+bool has_news(void) { return news || known_then != knowledge(); }
+
+void tell_news(void) {
+    news = true;
+    delay("news");
+}
 
 void learn(bool so) { learns = so; }
 
 bool is_learning(void) { return learns; }
 
+void put_place(uint32_t address) {
+    if (!atomic_exchange(&place[address / 4], 1))
+        place_words++;
+}
+
 void make_place(uint32_t address) {
-    if (!learns || all_places || place[address / 4])
+    if (!learns || all_places || is_made_place(address))
         return;
-    place[address / 4] = 1;
-    place_words++;
-    news = true;
+    begin_change();
+    put_place(address);
+    tell_news();
 }
 
 /* ---------------------------------------------------------------- segments */
@@ -67,10 +87,13 @@ static void empty(uint32_t thread) {
     s->hash = (struct hash){0, 0};
 }
 
-void start_segments(uint32_t size) {
-    touched_by = room(size / 4, sizeof *touched_by);
+void start_places(uint32_t size) {
     place = room(size / 4, 1);
     place_words = 0;
+}
+
+void start_segments(uint32_t size) {
+    touched_by = room(size / 4, sizeof *touched_by);
     forget_segments();
 }
 
@@ -79,6 +102,7 @@ void forget_segments(void) {
         empty(k);
     touches = 0;
     news = false;
+    known_then = knowledge();
 }
 
 void begin_segment(uint32_t thread) {
@@ -100,7 +124,7 @@ static void add_touch(uint32_t thread, uint32_t word) {
 
 /* A DMA is done at once, so it has no segment; and where there are handlers, each shared word is a place's. */
 void touch(uint32_t context, uint32_t address, enum touch how) {
-    if (!learns || all_places || news || place[address / 4])
+    if (!learns || all_places || has_news() || is_made_place(address))
         return;
     const struct touched_by *t = &touched_by[address / 4];
     uint64_t mine = context < MOST_THREADS ? 1ull << context : 0;

@@ -1,7 +1,7 @@
 /* At which shared words another thread may come. A thread's segment is what it has done since its last place. Two segments conflict
    if a thread touches a shared word that another thread has touched in its present segment, one of them with a store. Then the
    word becomes a place's word: from now on each access to it is a place. The run has news, and is nothing more to learn from:
-   what comes in it might have been parted at a place. */
+   what comes in it might have been parted at a place. Places' words are the crew's; segments are of each one's present run. */
 #ifndef SEGMENTS_H
 #define SEGMENTS_H
 
@@ -9,15 +9,22 @@
 
 enum touch { LOADS, STORES };
 
-void start_segments(uint32_t size);
+void start_places(uint32_t size);   /* once */
+void start_segments(uint32_t size); /* for each of the crew */
 void forget_segments(void); /* for a new run; the places' words stay */
 void every_shared_word_is_a_place(bool all);
 bool is_place_word(uint32_t address);
 void make_place(uint32_t address);
+/* Whether it was made one, and that it was. */
+bool is_made_place(uint32_t address);
+void put_place(uint32_t address);
 uint32_t place_word_count(void);
-/* Grows with each word that is found to be shared, or a place's. */
+/* Grows with each word that is found to be shared, or a place's, by whomever of the crew. */
 uint32_t knowledge(void);
-bool has_news(void); /* of this run */
+bool has_news(void); /* of this run, or of another one of the crew since this one began */
+/* Grows before anybody can see that such a word is one. So whoever finds that it is as it was has seen none of what came meanwhile. */
+uint32_t changes_begun(void);
+void begin_change(void);
 void tell_news(void);
 /* Whether runs are to be learned from, as they are unless this says otherwise. */
 void learn(bool so);

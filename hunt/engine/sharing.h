@@ -1,5 +1,5 @@
 /* Which words are shared: those that two of the threads, handlers and DMAs have touched, in whatever runs, one of them with a
-   store; and words of code that were stored to. A word that was found so stays so. */
+   store; and words of code that were stored to. A word that was found so stays so. The whole crew shares what is known here. */
 #ifndef SHARING_H
 #define SHARING_H
 
@@ -16,5 +16,8 @@ uint32_t context_of(const struct machine *m, uint32_t thread);
 void note_load(uint32_t context, uint32_t address);
 void note_store(uint32_t context, uint32_t address);
 void note_fetched(uint32_t address); /* a word's first fetch of all */
+/* All that is known of a word, as a number, which is 0 of one that nobody has touched. */
+uint32_t toucher_word(uint32_t address);
+void put_toucher_word(uint32_t address, uint32_t word);
 
 #endif

@@ -44,8 +44,10 @@ static bool goes_to_end(struct run *r, const struct condition *bad) {
 static bool could_end(struct run *r, const struct condition *bad) {
     int status = 0;
     pid_t child = fork();
-    if (child == 0)
+    if (child == 0) {
+        tell_facts(false); /* nor told any: it has no crew */
         _exit(goes_to_end(r, bad));
+    }
     if (child < 0 || waitpid(child, &status, 0) != child || !WIFEXITED(status))
         fail("no process for a run that goes round");
     return WEXITSTATUS(status) != 0;

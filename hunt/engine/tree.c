@@ -8,11 +8,12 @@ struct node {
     bool tried;
 };
 
-static struct node *nodes;
-static uint32_t count;
-static size_t nodes_room;
-static uint32_t *table; /* the nodes, by their items */
-static size_t places;
+/* Each of the crew has a tree of its own. */
+static _Thread_local struct node *nodes;
+static _Thread_local uint32_t count;
+static _Thread_local size_t nodes_room;
+static _Thread_local uint32_t *table; /* the nodes, by their items */
+static _Thread_local size_t places;
 
 /* ---------------------------------------------------------------- nodes by items */
 

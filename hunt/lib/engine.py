@@ -21,13 +21,14 @@ from .image import section
 from .logs import ORDER_SIZE, Input, Log
 
 SOURCES = Path(__file__).resolve().parent.parent / "engine"
-FLAGS = ("-std=c11", "-O2")
+FLAGS = ("-std=c11", "-O2", "-pthread")
 DMA, RAISE = 127, 128  # actors of turns beside threads; an interrupt has its thread as `steps`
 WHOLE = (1 << 62)      # steps of a turn that goes on until its thread ends or waits
 FREELY, EXACTLY, AGAIN = range(3)  # how a list of turns leads a run; guide.h says what they are
 TO_ITS_END, TO_LAST_TURN = range(2)
 STRATEGIES = ("pct", "random")  # by which orders are drawn; chance.h says what they are
 ENDS = ("forced", "stopped", "waits", "spent")  # of turns
+ON_ITS_WAY = ("bound", "progress", "saved", "unsaved", "resumed", "damaged")  # lines of a search before its end
 
 # actor: a thread, DMA, or RAISE and more. end: forced, stopped (the thread ended), waits, or spent (its steps were over).
 Turn = namedtuple("Turn", "actor steps value end")
@@ -165,11 +166,12 @@ class Engine:
 
     # ------------------------------------------------------------ what it does
 
-    def search(self, switches, tries, states, seconds, on_bound=lambda bound: None):
+    def search(self, switches, tries, states, seconds, on_bound=lambda bound: None, on_line=None):
+        """on_line: called with the words of lines on its way, which `progress` and `save` bring."""
         before = signal.signal(signal.SIGINT, lambda *_: self.process.send_signal(signal.SIGINT))
         try:
             self.send("search %d %d %d %f" % (switches, tries, states, seconds))
-            return self.read_search(on_bound)
+            return self.read_search(on_bound, on_line)
         finally:
             signal.signal(signal.SIGINT, before)
 
@@ -204,11 +206,14 @@ class Engine:
             words = self.line()
         return told, words
 
-    def read_search(self, on_bound):
+    def read_search(self, on_bound, on_line):
         bounds = []
-        while (words := self.line())[0] == "bound":
-            bounds.append(Bound(*map(int, words[1:10:2]), float(words[11])))
-            on_bound(bounds[-1])
+        while (words := self.line())[0] in ON_ITS_WAY:
+            if words[0] == "bound":
+                bounds.append(Bound(*map(int, words[1:10:2]), float(words[11])))
+                on_bound(bounds[-1])
+            else:
+                on_line(words)
         ends, words = self.read_ends(words)
         tries, ended, hung, limited, places, bound, _ = map(int, words[1:])
         told, words = self.read_find()

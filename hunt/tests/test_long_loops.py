@@ -80,7 +80,7 @@ class LongLoops(unittest.TestCase):
     def test_few_runs_kept(self):
         """Others that may come where a turn has had its steps are tried later then."""
         one = together(waits(2003, does=[lw(9, OTHER)]), [*sets(OTHER, 1), *END], [*sets(OTHER, 2), *END])
-        ends = [set(met_ends(image_of(one), Options(turn=500), *line)[0]) for line in ([], ["keep 0"], ["keep 1"])]
+        ends = [met_ends(image_of(one), Options(turn=500), *line) for line in ([], ["keep 0"], ["keep 1"])]
         self.assertEqual(ends[1:], ends[:1] * 2)
 
     def test_loop_that_stores(self):
