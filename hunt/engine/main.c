@@ -22,6 +22,11 @@
 #include <stdlib.h>
 #include <string.h>
 
+#ifdef __GLIBC__
+#include <limits.h>
+#include <malloc.h>
+#endif
+
 static struct setup setup = {.most_threads = 15, .tick = 64, .longest_chunk = 4096, .input = (uint8_t *)""};
 static struct condition bad;
 static struct run run = {.turn_limit = 10000, .step_limit = 1000000};
@@ -316,9 +321,19 @@ static void take_interrupts(void) {
     signal(SIGXFSZ, SIG_IGN); /* a search that can't be saved goes on */
 }
 
+/* A table that has grown leaves its room to others. Were it given back, the system would clear pages anew, and meanwhile hold up all
+   of the crew. */
+static void keep_freed_memory(void) {
+#ifdef __GLIBC__
+    mallopt(M_MMAP_THRESHOLD, 1 << 25);
+    mallopt(M_TRIM_THRESHOLD, INT_MAX);
+#endif
+}
+
 int main(void) {
     static char line[1 << 17];
     take_interrupts();
+    keep_freed_memory();
     while (fgets(line, sizeof line, stdin) != NULL) {
         line[strcspn(line, "\n")] = 0;
         take_line(line);
