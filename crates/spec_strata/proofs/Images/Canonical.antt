@@ -22,17 +22,20 @@ All-single P x p = All-append P (x ∷ []) [] (All-replicate P 1 x p) (All-nil P
 
 -- ---- the order
 
+-- the canonical order of chunks is as long as the sum of their counts
 pub length-rising : (k : ℕ) (counts : List ℕ) → length (rising k counts) ≡ sum counts
 length-rising k [] = refl
 length-rising k (count ∷ counts) =
     length-append (replicate count k) (rising (suc k) counts)
     ∙ (let a = length-replicate count k in let b = length-rising (suc k) counts in let c = sum_by-cons (λ (x : ℕ). x) count counts in omega (arith, a, b, c))
 
+-- a stratum's order is as long as the stratum has commits
 pub length-order : (x : Stratum) → length (order_of x) ≡ commits_in x
 length-order (Chunks counts) = length-map (rising 0 counts) Actor.Thread ∙ length-rising 0 counts
 length-order (Serial thread) = refl
 length-order Dma = refl
 
+-- the order of all strata together is as long as they have commits
 pub length-orders : (xs : List Stratum) → length (flat_map order_of xs) ≡ commits_in_all xs
 length-orders [] = refl
 length-orders (x ∷ xs) =
@@ -60,6 +63,7 @@ all-actors threads counted (x ∷ xs) few each =
 
 -- ---- the log
 
+-- the canonical log of strata is a log
 pub canonical_is_log : CanonicalIsLog
 canonical_is_log v good =
     let few : v.counted ≤ v.threads = good.threads.2 in

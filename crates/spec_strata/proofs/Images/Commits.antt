@@ -6,6 +6,7 @@ use Rattle.spec_strata.specs.declared.stratum.Stratum.{Stratum}
 use Rattle.spec_strata.specs.declared.stratum.Stratum.TheVariants.{Chunks, Serial, Dma}
 use Rattle.spec_strata.specs.Strata.{HaveSome, IsStratumOf}
 
+-- if the strata are valid, each stratum of chunks has at least one
 pub have-some : (counted : ℕ) (xs : List Stratum) → All (IsStratumOf counted) xs → HaveSome xs
 have-some counted [] each = tt
 have-some counted (Chunks counts ∷ xs) each =

@@ -102,6 +102,7 @@ by-stand log y how (inr d) e = subst (EndsAs log.count (position y.progress)) (s
 commits-are : (log : LogParts) (memory : List ℕ) (entry : ℕ) → position (play log memory entry).progress ≡ length (play log memory entry).progress.commits
 commits-are log memory entry = let h = plays-first log (opened log memory entry) log.count in omega (arith, h)
 
+-- a play ends at the number of its commits, and is complete only if the log has no more
 pub ends-as : (log : LogParts) (memory : List ℕ) (entry : ℕ) (how : End) → (play log memory entry).now ≡ Ended how → EndsAs log.count (length (play log memory entry).progress.commits) how
 ends-as log memory entry how e =
     subst (λ (i : ℕ). EndsAs log.count i how) (commits-are log memory entry) (by-stand log (play log memory entry) how (stands log memory entry log.count) e)
@@ -126,8 +127,10 @@ few-commits log memory entry =
 
 -- ---- a walk to the end
 
+-- if a walk of a log ends, the log's play ends in the same way
 pub walk-ended : (log : LogParts) (memory : List ℕ) (entry to : ℕ) (how : End) → (walked log memory entry to).end ≡ WalkEnd.Ended how → (play log memory entry).now ≡ Ended how
 walk-ended log memory entry to how e = ((walks_are_plays log memory entry to).ended how e).now
 
+-- a walk asked for all commits of its log never stops before the play's end is looked at
 pub never-reached : (log : LogParts) (memory : List ℕ) (entry to i : ℕ) → log.count ≤ to → (walked log memory entry to).end ≡ WalkEnd.Reached i → ⊥
 never-reached log memory entry to i most e = let l = ((walks_are_plays log memory entry to).reached i e).more in omega (arith, l, most)

@@ -55,6 +55,7 @@ interrupted-by : (k : ℕ) (kind : CommitKind) (o : Option ℕ) (e : Effect) (u 
 interrupted-by k kind None e u h = h
 interrupted-by k kind (Some value) e u h = taken-by k value kind e u (takes_interrupt e.thread) h
 
+-- if the chunk that thread k ran goes, its commit is a chunk's and is thread k's
 pub chunk-by : (log : LogParts) (p : Progress) (u : Used) (k : ℕ) (r : Run) → IsBy k CommitKind.Chunk (chunk_verdict log p u k r)
 unfolding chunk_verdict
 chunk-by log p u k r =
@@ -74,6 +75,7 @@ serial-by log p u k ts t m =
     unless-by k CommitKind.Serial (serial_why (size_in log (Actor.Thread k) t.commits)) (served_verdict log p k ts t m (given (need t m) (slice_get log.inputs u.inputs) u))
     (served-by log p k ts t m (given (need t m) (slice_get log.inputs u.inputs) u))
 
+-- if thread k's step goes, its commit is thread k's and of the kind of the step
 pub verdict-by : (log : LogParts) (y : Played) (k : ℕ) (t : Parts) (o : Option Kind) → IsBy k (kind_by o) (thread_verdict log y k t o)
 verdict-by log y k t None = chunk-by log y.progress y.used k (run y.memory t (size_or_standard log k t.commits))
 verdict-by log y k t (Some kind) = serial-by log y.progress y.used k y.threads t y.memory
@@ -127,11 +129,13 @@ Follows log y (c ∷ cs) = Step log y c × Follows log (play_one log y) cs
 diverged-complete : {A : Type 0} (i n : ℕ) (why : Why) → Ended (End.Diverged i why) ≡ Ended (End.Complete n) → A
 diverged-complete i n why e = cc
 
+-- while the log has commits left, the turn is that of the actor it names next
 pub below-is : (log : LogParts) (p : Progress) (u : Used) (ts : List Parts) → position p < log.count → now_at log p u ts ≡ turn_of (position p) ts (next_actor log p ts)
 unfolding now_at
 below-is log p u ts l =
     ap (λ (b : Bool). cond b (turn_of (position p) ts (next_actor log p ts)) (at_end (position p) (has_left_over log u ts))) (lt-ltb (position p) log.count l)
 
+-- with all the log's commits done, the play ends: diverged if something is left over, else complete
 pub over-is : (log : LogParts) (p : Progress) (u : Used) (ts : List Parts) → log.count ≤ position p → now_at log p u ts ≡ at_end (position p) (has_left_over log u ts)
 unfolding now_at
 over-is log p u ts l =
@@ -151,6 +155,7 @@ turn-diverged i how ts None e = cc
 turn-diverged i how ts (Some Actor.Dma) e = cc
 turn-diverged i how ts (Some (Actor.Thread k)) e = thread-diverged i k how (slice_get ts k) e
 
+-- a play that ends complete ends at the number of commits that are done
 pub end-complete : (i n : ℕ) (b : Bool) → at_end i b ≡ Ended (End.Complete n) → i ≡ n
 end-complete i n true e = cc
 end-complete i n false e = cc
@@ -163,6 +168,7 @@ thread-turn : (i j k : ℕ) (o : Option Parts) → turn_of_thread i j o ≡ Turn
 thread-turn i j k None e = cc
 thread-turn i j k (Some t) e = live-turn i j k (is_live t) e
 
+-- if the turn is thread k's, thread k is the actor that is named next
 pub named-thread : (i k : ℕ) (ts : List Parts) (o : Option Actor) → turn_of i ts o ≡ Turn k → o ≡ Some (Actor.Thread k)
 named-thread i k ts None e = cc
 named-thread i k ts (Some Actor.Dma) e = cc
@@ -176,11 +182,13 @@ thread-dma : {A : Type 0} (i j : ℕ) (o : Option Parts) → turn_of_thread i j 
 thread-dma i j None e = cc
 thread-dma i j (Some t) e = live-dma i j (is_live t) e
 
+-- if the turn is the DMA's, the DMA is the actor that is named next
 pub named-dma : (i : ℕ) (ts : List Parts) (o : Option Actor) → turn_of i ts o ≡ TurnOfDma → o ≡ Some Actor.Dma
 named-dma i ts None e = cc
 named-dma i ts (Some Actor.Dma) e = refl
 named-dma i ts (Some (Actor.Thread j)) e = thread-dma i j (slice_get ts j) e
 
+-- in every mode except picolog, the next actor is the one that the logged order has at that commit
 pub has-order : (mode : ModeName) (log : LogParts) (i : ℕ) (last : Option ℕ) (live : List Bool) → mode ≢ ModeName.Picolog → head_in mode log i last live ≡ slice_get log.order i
 has-order ModeName.OrderSize log i last live ne = refl
 has-order ModeName.OrderOnly log i last live ne = refl

@@ -265,6 +265,7 @@ module _ (v : StrataParts) (memory : List ℕ) (entry : ℕ) where
   by-unfit (Some i) found =
       record { there = unfit-is i found.holds; least = λ j l h. true≢false (sym (unfit-shown j h) ∙ found.first j (omega arith) l) }
 
+-- the answer found by trying each commit in turn is that of the strata on the image
 pub answers_are_found : AnswersAreFound
 unfolding answer_of
 answers_are_found v memory entry =

@@ -30,24 +30,29 @@ use Rattle.spec_strata.proofs.Plays.Canonical.{plays-shift, one-turn}
 use Rattle.spec_strata.proofs.Images.Canonical.{length-rising, length-orders}
 use Rattle.spec_strata.proofs.Images.Following.{kind_by, ThreadDoes, DmaDoes, Does, Follows, follows}
 
+-- the kind of a commit: a chunk, a serial step, a DMA or a piece
 abbrev pub kind_in : Commit → CommitKind
 kind_in c = c.kind
 
+-- who did a commit: a thread, or the sphere's DMA
 abbrev pub actor_in : Commit → Actor
 actor_in c = c.actor
 
 -- ---- the order names the actors
 
+-- while a play goes on to a complete end, its turn is as the log says
 pub looked-of : (log : LogParts) (y : Played) (cs : List Commit) → Follows log y cs → IsLooked log y
 looked-of log y [] f = f.looked
 looked-of log y (c ∷ cs) f = f.0.looked
 
+-- the commits that are done and those that follow are together as many as the log has
 pub length-of : (log : LogParts) (y : Played) (cs : List Commit) → Follows log y cs → position y.progress + length cs ≡ log.count
 length-of log y [] f = let h = f.done in omega (arith, h)
 length-of log y (c ∷ cs) f =
     let h = length-of log (play_one log y) cs f.1 in
     let n = f.0.position_next in omega (arith, h, n)
 
+-- in every mode except picolog, the order names the actor of each commit that follows
 pub named-at : (log : LogParts) (y : Played) (cs : List Commit) (j : ℕ) → log.mode ≢ ModeName.Picolog → Follows log y cs → j < length cs → slice_get log.order (position y.progress + j) ≡ slice_get (map actor_in cs) j
 named-at log y [] j ne f l = absurd (omega arith)
 named-at log y (c ∷ cs) zero ne f l =
@@ -58,6 +63,7 @@ named-at log y (c ∷ cs) (suc j) ne f l =
     let e : position y.progress + suc j ≡ position (play_one log y).progress + j = omega (arith, n) in
     ap (slice_get log.order) e ∙ named-at log (play_one log y) cs j ne f.1 (omega arith)
 
+-- a list has no element at or past its length
 pub get-past : {A : Type 0} (xs : List A) (j : ℕ) → length xs ≤ j → slice_get xs j ≡ None
 get-past [] j l = refl
 get-past (x ∷ xs) zero l = absurd (omega arith)
@@ -75,12 +81,15 @@ actors-are log y cs ne f start all =
 
 -- ---- lists
 
+-- equal lists have the same first element
 pub head-same : {A : Type 0} (x y : A) (xs ys : List A) → (x ∷ xs) ≡ (y ∷ ys) → x ≡ y
 head-same x y xs ys e = cc
 
+-- equal lists have the same elements after the first
 pub tail-same : {A : Type 0} (x y : A) (xs ys : List A) → (x ∷ xs) ≡ (y ∷ ys) → xs ≡ ys
 tail-same x y xs ys e = cc
 
+-- the empty list doesn't equal a list with an element
 pub no-cons : {A B : Type 0} (x : A) (xs : List A) → [] ≡ (x ∷ xs) → B
 no-cons x xs e = cc
 
@@ -98,6 +107,7 @@ pub record TakesTurn (log : LogParts) (y : Played) (k : ℕ) (c : Commit) : Type
   pub turn : y.now ≡ Turn k
   pub does : ThreadDoes log y k c
 
+-- if the commit that comes next is thread k's, thread k has the turn and does it
 pub takes-turn : (log : LogParts) (y : Played) (now : TurnOrEnd) (k : ℕ) (c : Commit) → y.now ≡ now → Does log y now c → c.actor ≡ Actor.Thread k → TakesTurn log y k c
 takes-turn log y (Ended how) k c is does actor = absurd does
 takes-turn log y TurnOfDma k c is does actor =
@@ -112,6 +122,7 @@ takes-dma log y (Ended how) c is does actor = absurd does
 takes-dma log y TurnOfDma c is does actor = (is, does)
 takes-dma log y (Turn j) c is does actor = let e : Actor.Thread j ≡ Actor.Dma = sym does.actor ∙ actor in cc
 
+-- if the commit of thread k's step is a chunk's, the chunk goes as logged
 pub chunk-goes : (log : LogParts) (y : Played) (k : ℕ) (c : Commit) → ThreadDoes log y k c → c.kind ≡ CommitKind.Chunk → ChunkGoes log y k
 chunk-goes log y k c d kind =
     let none : next_kind d.thread y.memory ≡ None = chunk-kind _ (sym kind ∙ d.kind) in
@@ -141,6 +152,7 @@ gone-more log y n actors kinds g =
       kinds_left = g.kinds_left;
     }
 
+-- if chunks of these threads follow first, they go, have the next turns, and leave the rest to follow
 pub chunks-go : (log : LogParts) (y : Played) (ks : List ℕ) (cs : List Commit) (actors : List Actor) (kinds : List CommitKind) → Follows log y cs
     → map actor_in cs ≡ map Actor.Thread ks ++ actors → map kind_in cs ≡ replicate (length ks) CommitKind.Chunk ++ kinds
     → ChunksGo log y ks × TurnsAre log y ks × Gone log y (length ks) actors kinds
@@ -161,11 +173,13 @@ chunks-go log y (k ∷ ks) (c ∷ cs) actors kinds f as_ kinds_ =
 
 -- ---- no conflict
 
+-- if the test passes thread k's next commit, its footprint and stores conflict with no other share
 pub next-clear : (q : ℕ → Rule) (x : StratumState) (k : ℕ) (o : Option Share) → slice_get x.shares k ≡ o → clashes_next q x k ≡ false
     → (p : Share) → o ≡ Some p → clashes (next_seen (q k) x.memory p) (next_run (q k) x.memory p).words k x.shares ≡ false
 next-clear q x k o is e p some =
     sym (ap (λ (s : Option Share). elim s [ None ↦ false | Some r ↦ clashes (next_seen (q k) x.memory r) (next_run (q k) x.memory r).words k x.shares ]) (is ∙ some)) ∙ e
 
+-- commits are clear if the test finds no conflict in any of them, one after the other
 pub clear-from : (q : ℕ → Rule) (x : StratumState) (ks : List ℕ) → ((i : ℕ) → clashes_in q x ks i ≡ false) → AreClear q x ks
 clear-from q x [] none = tt
 clear-from q x (k ∷ ks) none = (
@@ -207,6 +221,7 @@ nothing-left : (log : LogParts) (y : Played) (cs : List Commit) → Follows log 
 nothing-left log y [] f none = f.complete
 nothing-left log y (c ∷ cs) f none = no-cons c.kind (map kind_in cs) (sym none)
 
+-- a play goes through strata if its commits have their actors and kinds, and none conflicts
 pub go-through : (log : LogParts) (y : Played) (xs : List Stratum) (cs : List Commit) → Follows log y cs → map actor_in cs ≡ flat_map order_of xs → map kind_in cs ≡ flat_map kinds_of xs
     → ((i : ℕ) → conflicts_at log y xs i ≡ false) → GoesThrough log y xs
 go-through log y [] cs f as_ kinds none = nothing-left log y cs f kinds
@@ -251,6 +266,7 @@ go-through log y (Dma ∷ xs) (c ∷ cs) f as_ kinds none =
 ordered : ModeName.OrderOnly ≢ ModeName.Picolog
 ordered e = cc
 
+-- the canonical log's play goes through strata that are parallel on the image
 pub parallel_strata_go : ParallelStrataGo
 parallel_strata_go v memory entry p =
     let log : LogParts = canonical v in

@@ -110,6 +110,7 @@ dma-settled log other y z ws like =
       each = λ by. pushed-same by y.progress.commits z.progress.commits dma_commit (like.each by);
     }
 
+-- a step or DMA that goes in one log goes alike in another that says the same
 pub now-relogged : (log other : LogParts) (y z : Played) (now : TurnOrEnd) → SaysAll log other → 0 < log.s → IsLike y z → GoesNow log y now → Both log other y z now
 now-relogged log other y z (Turn k) says l like g = thread-relogged log other y z k g.thread (next_kind g.thread y.memory) g.effect g.used says l like g.there refl g.goes
 now-relogged log other y z (Ended how) says l like g = absurd g
@@ -124,6 +125,7 @@ now-relogged log other y z TurnOfDma says l like g =
 
 -- ---- all
 
+-- blocks of one log's play go in another log that says the same, each stratum in its second order
 pub blocks_relog : BlocksRelog
 blocks_relog log other y z [] says l like go = (tt, like)
 blocks_relog log other y z (Chunks ks js ∷ bs) says l like go =

@@ -32,6 +32,7 @@ looked-same log p o u ts ne e =
     ∙ ap (λ (a : Option Actor). if nat_lt (position p) log.count then turn_of (position p) ts a else at_end (position p) (has_left_over log u ts))
     (head-same log.mode log (position p) o.last p.last (map is_live ts) ne)
 
+-- if an order is logged, plays that are alike have the same turn
 pub turns_alike : TurnsAlike
 turns_alike log y z ne like ly lz =
     lz ∙ looked-same log y.progress z.progress z.used z.threads ne (λ i. like.first i + like.count i)
@@ -49,6 +50,7 @@ blocks-on log y z (Chunks ks js ∷ bs) l like are =
 blocks-on log y z (Alone now ∷ bs) l like are =
     blocks-on log (play_turn log y now) (play_turn log z now) bs l (plays_stay_alike log y z now like) are
 
+-- strata that are each done in any order leave a play like that of canonical order
 pub blocks_interleave : BlocksInterleave
 blocks_interleave log y bs l are =
     blocks-on log y y bs l (record { memory = refl; threads = refl; request = refl; used = refl; first = refl; count = refl; each = λ by. refl }) are

@@ -107,6 +107,7 @@ pub record Relogged (log other : LogParts) (y z : Played) (k : ℕ) : Type 0 whe
   pub goes : ChunkGoes other z k
   pub like : IsLike (play_turn log y (Turn k)) (play_turn other z (Turn k))
 
+-- if thread k's next chunk goes, the play after its turn is the one with that chunk's effect
 pub play-is : (log : LogParts) (y : Played) (k : ℕ) (t : Parts) (e : Effect) (u : Used) → slice_get y.threads k ≡ Some t → next_kind t y.memory ≡ None
     → chunk_verdict log y.progress y.used k (run y.memory t (size_or_standard log k t.commits)) ≡ Goes e u → play_turn log y (Turn k) ≡ settled log y k (Goes e u)
 play-is log y k t e u there chunk goes =
@@ -114,6 +115,7 @@ play-is log y k t e u there chunk goes =
     ∙ ap (λ (o : Option Kind). settled log y k (thread_verdict log y k t o)) chunk
     ∙ ap (settled log y k) goes
 
+-- alike plays of two logs stay alike with the same effect and use of the log
 pub settled-relogged : (log other : LogParts) (y z : Played) (k : ℕ) (e : Effect) (u : Used) → IsLike y z → IsLike (settled log y k (Goes e u)) (settled other z k (Goes e u))
 settled-relogged log other y z k e u like =
     record {
@@ -126,6 +128,7 @@ settled-relogged log other y z k e u like =
       each = λ by. pushed-same by y.progress.commits z.progress.commits e.commit (like.each by);
     }
 
+-- a chunk that goes in one log goes alike in another that says the same
 pub step-relogged : (log other : LogParts) (y z : Played) (k : ℕ) → SaysAlike log other → IsLike y z → ChunkGoes log y k → Relogged log other y z k
 step-relogged log other y z k says like c =
     let t : Parts = c.thread in
@@ -189,6 +192,7 @@ all-relogged log other start y z x (k ∷ ks) says l like at_ go clear =
 
 -- ---- and in another order
 
+-- a stratum of one log is one of another that says the same, in any order of its commits
 pub strata_relog : StrataRelog
 strata_relog log other y z ks js says l like s counts =
     let x : StratumState = stratum_start y.memory y.threads in

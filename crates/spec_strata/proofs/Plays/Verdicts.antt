@@ -56,9 +56,11 @@ pub record IsLogged (log : LogParts) (k : ℕ) (r : Run) : Type 0 where
 abbrev pub effect_of : LogParts → (thread : ℕ) → Option Request → Run → Effect
 effect_of log k q r = record (chunk_effect k q r) { thread = (rule_of log k).settle r.thread }
 
+-- how much of the log is used after a thread's chunk: one interrupt more if one is logged there
 abbrev pub used_of : LogParts → (thread : ℕ) → Run → Used → Used
 used_of log k r u = record u { interrupts = u.interrupts + (rule_of log k).raises r.thread }
 
+-- a chunk that is as logged goes, with this effect and this use of the log
 pub logged-goes : (log : LogParts) (p : Progress) (u : Used) (k : ℕ) (r : Run) → IsLogged log k r → chunk_verdict log p u k r ≡ Goes (effect_of log k p.request r) (used_of log k r u)
 unfolding chunk_verdict
 logged-goes log p u k r l =
@@ -69,6 +71,7 @@ unless-none : (o : Option Why) (v : LogVerdict) (e : Effect) (u : Used) → unle
 unless-none None v e u is = refl
 unless-none (Some why) v e u is = cc
 
+-- a chunk that goes is as logged
 pub goes-logged : (log : LogParts) (p : Progress) (u v : Used) (k : ℕ) (r : Run) (e : Effect) → chunk_verdict log p u k r ≡ Goes e v → IsLogged log k r
 unfolding chunk_verdict
 goes-logged log p u v k r e goes =
@@ -82,6 +85,7 @@ goes-logged log p u v k r e goes =
 
 -- ---- a size is over 0
 
+-- if the standard size is over 0, so is the size of each chunk that goes
 pub some-of : (s : ℕ) (o : Option ℕ) (n : ℕ) → 0 < s → chunk_why o n ≡ None → 0 < elim o [ None ↦ s | Some z ↦ z ]
 some-of s None n l e = l
 some-of s (Some z) n l e =
@@ -118,6 +122,7 @@ followed_commits : (r : Run) (m : List ℕ) (o : InstructionOutcome) → one r.t
 followed_commits r m (Serial kind) e = refl
 followed_commits r m (Next u load store) e = one_commits r.thread m u load store e
 
+-- a run keeps its thread's number of commits
 pub run-commits : (m : List ℕ) (t : Parts) (n : ℕ) → (run m t n).thread.commits ≡ t.commits
 run-commits m t zero = refl
 run-commits m t (suc n) = followed_commits (run m t n) (lays m (run m t n).words) _ refl ∙ run-commits m t n
@@ -130,6 +135,7 @@ pub record IsGood (log : LogParts) (k : ℕ) (m : List ℕ) (p : Share) : Type 0
   pub some : 0 < (rule_of log k).size p.thread
   pub logged : IsLogged log k (next_run (rule_of log k) m p)
 
+-- a next commit that is a chunk as logged is good if the standard size is over 0
 pub make-good : (log : LogParts) (k : ℕ) (m : List ℕ) (p : Share) → 0 < log.s → next_kind p.thread m ≡ None → IsLogged log k (next_run (rule_of log k) m p) → IsGood log k m p
 make-good log k m p l chunk logged =
     let c = run-commits m p.thread ((rule_of log k).size p.thread) in

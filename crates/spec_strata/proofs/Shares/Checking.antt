@@ -21,6 +21,7 @@ pub record Clear (q : ℕ → Rule) (m : List ℕ) (ts : List Parts) (done : ℕ
   pub miss : OthersMiss (next_seen (q k) (lays m p.words) p) k (shares_at q m ts done)
   pub blind : OthersBlind (next_run (q k) (lays m p.words) p).words k (shares_at q m ts done)
 
+-- a commit that is clear on the stratum's memory is clear on the memory of its thread alone
 pub clear-alone : (q : ℕ → Rule) (m : List ℕ) (ts : List Parts) (done : ℕ → ℕ) (k : ℕ) (t : Parts) → slice_get ts k ≡ Some t → let p = alone (q k) m t (done k) in
     IsClear (q k) (state_at q m ts done) k p → Clear q m ts done k p
 unfolding state_at
@@ -86,6 +87,7 @@ pub more-parallel : (q : ℕ → Rule) (m : List ℕ) (ts : List Parts) (done : 
 more-parallel q m ts done k t is c parallel =
     record { apart = λ i j u v ne u_is v_is. pair-apart q m ts done k t is c parallel i j u v ne u_is v_is (cases_eq i k) (cases_eq j k) }
 
+-- with no commits done, a stratum is parallel
 pub none-parallel : (q : ℕ → Rule) (m : List ℕ) (ts : List Parts) → IsParallel q m ts (λ k. 0)
 none-parallel q m ts = record { apart = λ j k t u ne t_is u_is. tt }
 
@@ -99,6 +101,7 @@ gone-parallel q m ts done k none parallel =
           (subst (λ (b : ℕ). Pair q m i j u v (done i) b) (sym (bump_other done k j (there j v v_is))) (parallel.apart i j u v ne u_is v_is));
     }
 
+-- the shares in a stratum's state are what the threads do alone
 pub shares-of : (q : ℕ → Rule) (m : List ℕ) (ts : List Parts) (done : ℕ → ℕ) → (state_at q m ts done).shares ≡ shares_at q m ts done
 unfolding state_at
 shares-of q m ts done = refl
@@ -107,6 +110,7 @@ pub record Stepped (q : ℕ → Rule) (m : List ℕ) (ts : List Parts) (done : �
   pub same : commit_more q (state_at q m ts done) k ≡ state_at q m ts (bump done k)
   pub parallel : IsParallel q m ts (bump done k)
 
+-- a next commit that is clear is what its thread does alone, and with it all are still parallel
 pub checked-step : (q : ℕ → Rule) (m : List ℕ) (ts : List Parts) (done : ℕ → ℕ) (k : ℕ) (o : Option Parts) → slice_get ts k ≡ o → IsParallel q m ts done
     → ((p : Share) → slice_get (state_at q m ts done).shares k ≡ Some p → IsClear (q k) (state_at q m ts done) k p) → Stepped q m ts done k
 checked-step q m ts done k None is parallel clear =
@@ -124,6 +128,7 @@ checked-on q m ts done (k ∷ ks) parallel clear =
     let rest = checked-on q m ts (bump done k) ks s.parallel (subst (λ (x : StratumState). AreClear q x ks) s.same clear.1) in
     (ap (λ (x : StratumState). commits_more q x ks) s.same ∙ rest.0, rest.1)
 
+-- commits that are clear one after the other are parallel, and are what their threads do alone
 pub clear_ones_are_parallel : ClearOnesAreParallel
 clear_ones_are_parallel q m ts ks clear =
     let start = at-start q m ts in
@@ -185,6 +190,7 @@ clear-on q m ts count done (k ∷ ks) parallel few =
       subst (λ (x : StratumState). AreClear q x ks) (sym (parallel_ones_step q m ts count done k parallel one)) (clear-on q m ts count (bump done k) ks parallel few),
     )
 
+-- parallel commits are clear one after the other, in any order
 pub parallel_ones_are_clear : ParallelOnesAreClear
 parallel_ones_are_clear q m ts count ks parallel few =
     subst (λ (x : StratumState). AreClear q x ks) (sym (at-start q m ts)) (clear-on q m ts count (λ k. 0) ks parallel few)

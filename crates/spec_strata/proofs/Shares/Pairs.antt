@@ -39,6 +39,7 @@ unfolding share_more
 seen-one q m t ws l n h u =
     Unseen-less (alone q m t n).seen (seen_at q m t l) ws (λ a e. seen_more q m t (suc l) n a (omega arith) (or_right ((alone q m t l).seen a) _ e)) u
 
+-- commits are parallel exactly if no two of them, of different threads, conflict
 pub parallel_by_pairs : ParallelByPairs
 parallel_by_pairs q m ts done = (
   (λ p. record {

@@ -14,6 +14,7 @@ use Rattle.spec_strata.proofs.Local.Footprints.{commits_are_local, unseen-lack, 
 
 -- ---- lists
 
+-- setting one element of a list leaves the others as they were
 pub get-set_other : {A : Type 0} (xs : List A) (k j : ℕ) (x : A) → j ≢ k → slice_get (set xs k x) j ≡ slice_get xs j
 get-set_other [] k j x ne = refl
 get-set_other (y ∷ ys) zero zero x ne = absurd (ne refl)
@@ -21,11 +22,13 @@ get-set_other (y ∷ ys) zero (suc j) x ne = refl
 get-set_other (y ∷ ys) (suc k) zero x ne = refl
 get-set_other (y ∷ ys) (suc k) (suc j) x ne = get-set_other ys k j x (λ e. ne (ap suc e))
 
+-- an element that is set in a list is then found at its place
 pub get-set_same : {A : Type 0} (xs : List A) (k : ℕ) (x y : A) → slice_get xs k ≡ Some y → slice_get (set xs k x) k ≡ Some x
 get-set_same [] k x y e = absurd (none-some y e)
 get-set_same (z ∷ zs) zero x y e = refl
 get-set_same (z ∷ zs) (suc k) x y e = get-set_same zs k x y e
 
+-- equal options that both have a value have the same value
 pub same_some : {A : Type 0} (x y : A) → Some x ≡ Some y → x ≡ y
 same_some x y e = cc
 
@@ -39,18 +42,22 @@ same_by_get (x ∷ xs) (y ∷ ys) e =
     let r : xs ≡ ys = same_by_get xs ys (λ j. e (suc j)) in
     (λ i. h i ∷ r i)
 
+-- if a function over an option gives y, the option has a value that the function takes to y
 pub mapped : {A B : Type 0} (f : A → B) (o : Option A) (y : B) → option_map f o ≡ Some y → (x : A) × ((o ≡ Some x) × (f x ≡ y))
 mapped f None y e = absurd (none-some y e)
 mapped f (Some x) y e = (x, (refl, same_some (f x) y e))
 
 -- ---- numbers of commits
 
+-- one more commit of thread k makes k's number one more
 pub bump_same : (c : ℕ → ℕ) (k : ℕ) → bump c k k ≡ suc (c k)
 bump_same c k = rw (eq-eqb k k refl) refl
 
+-- one more commit of thread k leaves the numbers of other threads as they were
 pub bump_other : (c : ℕ → ℕ) (k j : ℕ) → j ≢ k → bump c k j ≡ c j
 bump_other c k j ne = rw (ne_eqb j k ne) refl
 
+-- one more commit makes no thread's number less
 pub bump_more : (c : ℕ → ℕ) (k j : ℕ) → c j ≤ bump c k j
 bump_more c k j =
     elim (cases_eq j k) [
@@ -58,6 +65,7 @@ bump_more c k j =
       | inr ne ↦ (let h = bump_other c k j ne in omega arith)
     ]
 
+-- any number of further commits make no thread's number less
 pub bumps_more : (c : ℕ → ℕ) (ks : List ℕ) (j : ℕ) → c j ≤ bumps c ks j
 bumps_more c [] j = omega arith
 bumps_more c (k ∷ ks) j = let a = bump_more c k j in let b = bumps_more (bump c k) ks j in omega arith
@@ -84,9 +92,11 @@ shares_at-get q m [] done k = refl
 shares_at-get q m (t ∷ ts) done zero = refl
 shares_at-get q m (t ∷ ts) done (suc k) = shares_at-get (λ j. q (suc j)) m ts (λ j. done (suc j)) k
 
+-- the share of a thread that is there is what it does alone
 pub alone-get : (q : ℕ → Rule) (m : List ℕ) (ts : List Parts) (done : ℕ → ℕ) (k : ℕ) (t : Parts) → slice_get ts k ≡ Some t → slice_get (shares_at q m ts done) k ≡ Some (alone (q k) m t (done k))
 alone-get q m ts done k t is = shares_at-get q m ts done k ∙ ap (λ (o : Option Parts). option_map (λ u. alone (q k) m u (done k)) o) is
 
+-- putting one more commit of thread k alone in its share gives the shares with k's number one more
 pub alone-set : (q : ℕ → Rule) (m : List ℕ) (ts : List Parts) (done : ℕ → ℕ) (k : ℕ) (t : Parts) → slice_get ts k ≡ Some t → slice_set (shares_at q m ts done) k (alone (q k) m t (suc (done k))) ≡ shares_at q m ts (bump done k)
 alone-set q m ts done k t is =
     let new : Share = alone (q k) m t (suc (done k)) in
@@ -112,6 +122,7 @@ seen_more q m t i (suc n) a l e =
       | inr h ↦ (let same : i ≡ suc n = omega arith in subst (λ (k : ℕ). (alone q m t k).seen a ≡ true) same e)
     ]
 
+-- if the words of a thread's first n commits are unseen, so are those of fewer of its commits
 pub words_fewer : (q : Rule) (m : List ℕ) (t : Parts) (seen : ℕ → Bool) (i n : ℕ) → i ≤ n → Unseen seen (alone q m t n).words → Unseen seen (alone q m t i).words
 unfolding share_more
 words_fewer q m t seen i zero l u = let h : 0 ≡ i = omega arith in subst (λ (k : ℕ). Unseen seen (alone q m t k).words) h u
@@ -128,9 +139,11 @@ unseen-all : (seen : ℕ → Bool) (ps : List Share) → ((j : ℕ) (p : Share) 
 unseen-all seen [] all = tt
 unseen-all seen (p ∷ ps) all = Unseen-append seen p.words (words_of ps) (all 0 p refl) (unseen-all seen ps (λ j o e. all (suc j) o e))
 
+-- if the other threads store no word that is seen, that is still so without the first share
 pub miss_tail : (seen : ℕ → Bool) (k : ℕ) (p : Share) (ps : List Share) → OthersMiss seen (suc k) (p ∷ ps) → OthersMiss seen k ps
 miss_tail seen k p ps h = record { each = λ j o ne e. h.each (suc j) o (λ same. ne (omega arith)) e }
 
+-- if threads other than the first store no word that is seen, all their words together are unseen
 pub behind : (seen : ℕ → Bool) (p : Share) (ps : List Share) → OthersMiss seen 0 (p ∷ ps) → Unseen seen (words_of ps)
 behind seen p ps h = unseen-all seen ps (λ j o e. h.each (suc j) o (λ same. omega arith) e)
 
@@ -167,6 +180,7 @@ laid-more seen m (o ∷ os) (suc k) p r ws e new all h =
 
 -- ---- one commit more
 
+-- if a thread's next commit is alike on two memories, its share with that commit is the same
 pub share_more-alike : (q : Rule) (m n : List ℕ) (p : Share) → IsAlike m n p.thread (q.size p.thread) → share_more q n p ≡ share_more q m p
 unfolding share_more
 share_more-alike q m n p a =
@@ -178,6 +192,7 @@ share_more-alike q m n p a =
       raised = p.raised + q.raises (a.same_run i).thread;
     })
 
+-- with one more commit, a share's words are those before and then those of the commit's run
 pub more-words : (q : Rule) (m : List ℕ) (p : Share) → (share_more q m p).words ≡ p.words ++ (next_run q m p).words
 unfolding share_more
 more-words q m p = refl
@@ -250,6 +265,7 @@ step-found : (q : ℕ → Rule) (m : List ℕ) (ts : List Parts) (count done : �
 step-found q m ts count done k None is parallel few = no-more q m ts done k is
 step-found q m ts count done k (Some t) is parallel few = one-more q m ts done k t is (misses q m ts count done k t is parallel few)
 
+-- of parallel commits, the next one of any thread is what that thread does alone
 pub parallel_ones_step : ParallelOnesStep
 parallel_ones_step q m ts count done k parallel few = step-found q m ts count done k (slice_get ts k) refl parallel few
 
@@ -270,12 +286,14 @@ no-words : (ts : List Parts) → words_of (map empty_share ts) ≡ []
 no-words [] = refl
 no-words (t ∷ ts) = no-words ts
 
+-- the start of a stratum is its state with no commits done
 pub at-start : (q : ℕ → Rule) (m : List ℕ) (ts : List Parts) → stratum_start m ts ≡ state_at q m ts (λ k. 0)
 unfolding state_at
 at-start q m ts =
     ap (λ (ws : List Stored). record { memory = lays m ws; shares = map empty_share ts }) (sym (no-words ts))
     ∙ ap (λ (os : List Share). record { memory = lays m (words_of os); shares = os }) (starts q m ts)
 
+-- parallel commits, done in any order, leave the state that their numbers give
 pub parallel_ones_interleave : ParallelOnesInterleave
 parallel_ones_interleave q m ts count ks parallel few =
     ap (λ (x : StratumState). commits_more q x ks) (at-start q m ts) ∙ steps-on q m ts count (λ k. 0) ks parallel few

@@ -13,6 +13,7 @@ use Rattle.spec_strata.proofs.Shares.Steps.{same_some}
 or_both : (a b : Bool) → a ≡ false → b ≡ false → (a || b) ≡ false
 or_both a b p q = (λ i. p i || q i)
 
+-- if no stored word is seen, the stores don't meet what is seen
 pub unseen-meets : (seen : ℕ → Bool) (ws : List Stored) → Unseen seen ws → meets seen ws ≡ false
 unseen-meets seen [] u = refl
 unseen-meets seen (w ∷ ws) u = or_both (seen w.number) (meets seen ws) u.0 (unseen-meets seen ws u.1)
@@ -44,6 +45,7 @@ from-free seen ws (suc k) (o ∷ os) f =
     or_both (clashes_with seen ws o) (clashes seen ws k os) (f 0 o (λ e. omega arith) refl)
     (from-free seen ws k os (λ j p ne is. f (suc j) p (λ e. ne (omega arith)) is))
 
+-- a commit is clear exactly if the test finds no conflict
 pub clear_is_tested : ClearIsTested
 clear_is_tested q x k p =
     let seen : ℕ → Bool = next_seen q x.memory p in

@@ -152,6 +152,7 @@ module _ (ps : List Share) (touches : ℕ → Touch) (t : AreTouches ps touches)
         stores = λ a stores. stores-free blind a stores (touches a) (t.each a);
       }
 
+-- a commit passes the test for conflicts exactly if it touches no barred word
 pub touches_tell : TouchesTell
 touches_tell q x k p touches t =
     let seen : ℕ → Bool = next_seen q x.memory p in
@@ -163,6 +164,7 @@ touches_tell q x k p touches t =
 
 -- ---- at the start
 
+-- at the start of a stratum no word is touched
 pub touches_begin : TouchesBegin
 touches_begin m ts =
     record {
@@ -331,6 +333,7 @@ module _ (ps : List Share) (touches : ℕ → Touch) (t : AreTouches ps touches)
             (λ j o ne get. t.stored_seen a j o get);
       }
 
+-- after a commit that touches no barred word, only the touches of its own words have changed
 pub touches_follow : TouchesFollow
 unfolding commit_more share_more
 touches_follow q x k p touches t there f =

@@ -47,6 +47,7 @@ counts-rising counts j =
 
 -- ---- one more
 
+-- with one more chunk of thread k done, k's number is one more and all others are the same
 pub done-more : (ds : List ℕ) (k j : ℕ) → k < length ds → count_at (with_one_done k ds) j ≡ bump (count_at ds) k j
 done-more ds k j l =
     elim (cases_eq j k) [
@@ -60,14 +61,17 @@ within [] k l = absurd (omega (arith, l))
 within (d ∷ ds) zero l = omega arith
 within (d ∷ ds) (suc k) l = let h = within ds k l in omega (arith, h)
 
+-- with one more chunk of a thread done, the sum of those done is one more
 pub sum-more : (ds : List ℕ) (k : ℕ) → k < length ds → sum (with_one_done k ds) ≡ suc (sum ds)
 sum-more ds k l = let h = sum_by-set (λ (x : ℕ). x) ds k (suc (count_at ds k)) 0 l in omega (arith, h)
 
+-- the sum of a list is its first number plus the sum of the rest
 pub sum-cons : (d : ℕ) (ds : List ℕ) → sum (d ∷ ds) ≡ d + sum ds
 sum-cons d ds = sum_by-cons (λ (x : ℕ). x) d ds
 
 -- ---- all of them
 
+-- if no thread has more chunks done than counted, the sum of those done is at most that counted
 pub sum-most : (ds cs : List ℕ) → length ds ≡ length cs → ((j : ℕ) → count_at ds j ≤ count_at cs j) → sum ds ≤ sum cs
 sum-most [] [] same few = omega arith
 sum-most [] (c ∷ cs) same few = absurd (omega (arith, same))
@@ -145,14 +149,17 @@ least-left i (c ∷ cs) (d ∷ ds) k e =
 
 -- ---- the start of a stratum
 
+-- the numbers of chunks done at the start of a stratum: 0 for each thread that is counted
 abbrev pub none_of : List ℕ → List ℕ
 none_of counts = map (λ (count : ℕ). 0) counts
 
+-- at the start of a stratum no thread has chunks done
 pub none-done : (counts : List ℕ) (j : ℕ) → count_at (none_of counts) j ≡ 0
 none-done [] j = refl
 none-done (c ∷ cs) zero = refl
 none-done (c ∷ cs) (suc j) = none-done cs j
 
+-- at the start of a stratum the sum of the chunks done is 0
 pub sum-none : (counts : List ℕ) → sum (none_of counts) ≡ 0
 sum-none [] = refl
 sum-none (c ∷ cs) = let a = sum-cons 0 (none_of cs) in let h = sum-none cs in omega (arith, a, h)
@@ -164,6 +171,7 @@ pub record Begins (ks : List ℕ) (o : Option ℕ) : Type 0 where
   pub order : ks ≡ first ∷ rest
   pub least : o ≡ Some first
 
+-- if a stratum has chunks, its canonical order begins with the least thread that has some left
 pub begins : (i : ℕ) (counts : List ℕ) → 0 < sum counts → Begins (rising i counts) (least_left i counts (none_of counts))
 begins i [] some = absurd (omega (arith, some))
 begins i (zero ∷ cs) some =
@@ -180,6 +188,7 @@ begins i (suc c ∷ cs) some =
 
 -- ---- up to a thread
 
+-- if no thread has chunks done, none are done by the threads up to any number
 pub none-up-to : (k : ℕ) (ds : List ℕ) → ((j : ℕ) → count_at ds j ≡ 0) → done_up_to k ds ≡ 0
 none-up-to k [] none = refl
 none-up-to zero (d ∷ ds) none = none 0
@@ -187,6 +196,7 @@ none-up-to (suc k) (d ∷ ds) none =
     let a : d ≡ 0 = none 0 in
     let h = none-up-to k ds (λ j. none (suc j)) in omega (arith, a, h)
 
+-- if no thread has chunks done, the sum of those done is 0
 pub sum-zero : (ds : List ℕ) → ((j : ℕ) → count_at ds j ≡ 0) → sum ds ≡ 0
 sum-zero [] none = refl
 sum-zero (d ∷ ds) none =
@@ -194,6 +204,7 @@ sum-zero (d ∷ ds) none =
     let b = sum-cons d ds in
     let h = sum-zero ds (λ j. none (suc j)) in omega (arith, a, b, h)
 
+-- the chunks done by threads up to a number are at most all that are done
 pub up-to-most : (k : ℕ) (ds : List ℕ) → done_up_to k ds ≤ sum ds
 up-to-most k [] = omega arith
 up-to-most zero (d ∷ ds) = let a = sum-cons d ds in omega (arith, a)

@@ -55,11 +55,13 @@ alive-before : (log : LogParts) (y : Played) (k : ℕ) (js : List ℕ) → Chunk
 alive-before log y k [] c live = tt
 alive-before log y k (j ∷ js) c live = (chunk-live log y k c j live.0, alive-before log y k js c live.1)
 
+-- after a chunk that goes, the play's turn is as the log says
 pub looked-after : (log : LogParts) (y : Played) (k : ℕ) → ChunkGoes log y k → IsLooked log (play_turn log y (Turn k))
 looked-after log y k c =
     let end : play_turn log y (Turn k) ≡ settled log y k (Goes c.effect c.used) = play-is log y k c.thread c.effect c.used c.there c.chunk c.goes in
     subst (IsLooked log) (sym end) refl
 
+-- threads that have the next turns, with chunks that go, are live before the first of them
 pub turns-alive : (log : LogParts) (y : Played) (ks : List ℕ) → IsLooked log y → ChunksGo log y ks → TurnsAre log y ks → AreLive y ks
 turns-alive log y [] looked go turns = tt
 turns-alive log y (k ∷ ks) looked go turns =

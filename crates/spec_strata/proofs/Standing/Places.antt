@@ -63,6 +63,7 @@ length-is f q m (t ∷ ts) (d ∷ ds) only =
 
 -- ---- lists
 
+-- the library's insert and insert_at give the same list
 pub insert-is : {A : Type 0} (i : ℕ) (x : A) (xs : List A) → insert xs i x ≡ insert_at i x xs
 insert-is zero x xs = refl
 insert-is (suc i) x [] = refl
@@ -80,6 +81,7 @@ threads-map : (f : Run → Commit) (rs : List Run) → ((r : Run) → (k : ℕ) 
 threads-map f [] each = tt
 threads-map f (r ∷ rs) each = (each r, threads-map f rs each)
 
+-- if the commit of each run is a thread's, so is each commit of the shares
 pub threads-of : (f : ℕ → Run → Commit) (ps : List Share) → ((j : ℕ) (r : Run) → (k : ℕ) × ((f j r).actor ≡ Actor.Thread k)) → AreThreads (commits_of f ps)
 threads-of f [] each = tt
 threads-of f (p ∷ ps) each =
@@ -97,6 +99,7 @@ last-before zero c (d ∷ ds) a l =
     let r = last-some d ds a in ap (λ (o : Option ℕ). option_or o (thread_of c.actor)) r.1 ∙ sym r.1
 last-before (suc n) c (d ∷ ds) a l = ap (λ (o : Option ℕ). option_or o (thread_of d.actor)) (last-before n c ds a.1 (omega (arith, l)))
 
+-- if a thread's commit is added at the end, that thread is the last one
 pub last-at-end : (c : Commit) (cs : List Commit) (k : ℕ) → c.actor ≡ Actor.Thread k → last_thread (insert_at (length cs) c cs) ≡ Some k
 last-at-end c [] k e = ap thread_of e
 last-at-end c (d ∷ ds) k e = ap (λ (o : Option ℕ). option_or o (thread_of d.actor)) (last-at-end c ds k e)
