@@ -6,7 +6,7 @@ use Rattle.spec_tail.specs.Bytes.{is_empty, rows_from, rows_of, row_bytes}
 use Rattle.dl_tail.specs.Rows.{filled, first_bytes}
 use Rattle.dl_tail.proofs.RowLaws.{rows-few}
 
--- the bytes of the rows that aren't empty in the rest of a memory, numbered from here
+-- the rows that aren't empty in the rest of a memory, as bytes, numbered from this number on
 abbrev pub bytes_left : (number : ℕ) → List ℕ → List ℕ
 bytes_left number rest = flat_map row_bytes (rows_from number (length rest / 32) rest)
 

@@ -108,7 +108,7 @@ size_by t (Sizes.Short xs) k i other =
     sym (find_mapped (λ x. nat_eq x.thread k && nat_eq x.index i) (λ x. nat_eq x.thread k && nat_eq x.index (begun t.threads k + i)) (short_since t.threads) (λ x. x.size)
     (λ x. moment t.threads k i x.thread x.index (nat_lt x.index (begun t.threads x.thread)) other refl) (λ x. refl) xs)
 
--- the size of a thread's commit is the same by its moment counted from the start or from the base
+-- a thread's size is the same by its moment counted from the start or from the base
 pub size-looked : (t : Tail) (k i : ℕ) → nat_eq no_thread k ≡ false → direct.size_of t k (begun t.threads k + i) ≡ sizes.size_in (log_since t) (Actor.Thread k) i
 size-looked t k i other = size_by t t.log.sizes k i other
 
@@ -116,7 +116,7 @@ dma_size_by : (ps : List Parts) (s : Sizes) (n m : ℕ) → n ≡ m → dma_size
 dma_size_by ps (Sizes.Each xs) n m same = ap (slice_get xs) same
 dma_size_by ps (Sizes.Short xs) n m same = refl
 
--- the size of a DMA is the same by its position counted from the start or from the base
+-- a DMA's size is the same by its position counted from the start or from the base
 pub dma_size-looked : (t : Tail) (i : ℕ) → direct.size_of_dma t (t.base + i) ≡ sizes.size_in (log_since t) Actor.Dma i
 dma_size-looked t i = dma_size_by t.threads t.log.sizes ((t.base + i) - t.base) i (omega arith)
 
@@ -160,7 +160,7 @@ head_by ModeName.OrderSize t i last live l = (let n : (t.base + i) - t.base ≡ 
 head_by ModeName.OrderOnly t i last live l = (let n : (t.base + i) - t.base ≡ i = omega arith in ap (slice_get t.log.order) n)
 head_by ModeName.Picolog t i last live l = ap (λ (b : Bool). head_by_turn b last live) (dma_at t i l)
 
--- the actor of a commit is the same at its position counted from the start or from the base
+-- a commit's actor is the same at its position counted from the start or from the base
 pub head-looked : (t : Tail) (i : ℕ) (last : Option ℕ) (live : List Bool) → i < t.log.count → direct.head_in t.log.mode t (t.base + i) last live ≡ head (log_since t) i last live
 head-looked t i last live l = head_by t.log.mode t i last live l
 

@@ -89,7 +89,7 @@ any-drop n (suc u) (d ∷ ds) before =
     ap (λ (b : Bool). b || is_dma_at ds n) (ne_eqb d.position n (λ e. omega (arith, e, l)))
     ∙ any-drop n u ds (λ j x m is. before (suc j) x (omega (arith, m)) is)
 
--- a DMA is at base + i exactly if, counted from the base, one after the first u is at i
+-- the DMAs after the first u, counted from the base, say whether one is at base + i
 pub dma-since : (base count i u : ℕ) (ds : List DmaRecord) → i < count → ((j : ℕ) (d : DmaRecord) → j < u → slice_get ds j ≡ Some d → d.position < base)
     → is_dma_at ds (base + i) ≡ is_dma_at (map (dma_since base count) (drop u ds)) i
 dma-since base count i u ds less before =

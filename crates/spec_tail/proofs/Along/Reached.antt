@@ -142,7 +142,7 @@ module _ (log : LogParts) (k : ℕ) (t : Parts) (u : Used) where
       unless_goes (serial_why (size_in log (Actor.Thread k) t.commits)) (served_verdict log p k ts t m (given (need t m) next u))
       (served_goes p ts m (given (need t m) next u) (given_taken (need t m) next))
 
--- a thread's commit that goes adds one commit, takes the interrupt logged for it, and uses no DMA
+-- a thread's commit that goes as logged counts as one, takes its interrupt, and uses no DMA
 pub verdict_goes : (log : LogParts) (y : Played) (k : ℕ) (t : Parts) (o : Option Kind) → IfGoes log k t y.used (thread_verdict log y k t o)
 verdict_goes log y k t None =
     let n = size_or_standard log k t.commits in

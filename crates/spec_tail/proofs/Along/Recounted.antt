@@ -91,7 +91,7 @@ one_same b t m =
     ∙ outcome_same b (operation_of t f) t m
     ∙ ap (outcome_recounted b) (sym (one_is t m))
 
--- the run of a thread with so many commits more
+-- the same run, with its thread at so many commits more
 abbrev pub run_recounted : (before : ℕ) → Run → Run
 run_recounted b r = record r { thread = recounted b r.thread }
 
@@ -223,7 +223,7 @@ called_same b most size k begun ts request t =
 
 -- ---- serial steps
 
--- the result of a serial step, of a thread with so many commits more
+-- the same result of a serial step, with its thread at so many commits more
 abbrev pub step_recounted : (before : ℕ) → StepResult → StepResult
 step_recounted b v = record v { thread = recounted b v.thread }
 

@@ -79,7 +79,7 @@ pub record IsFit (rest : LogParts) (begun : ℕ → ℕ) (w : Played) : Type 0 w
 
 -- ---- threads
 
--- setting a recounted thread among recounted ones is recounting after the thread was set
+-- a thread may be set before or after all are recounted, with the same result
 pub set-counted : (begun : ℕ → ℕ) (j : ℕ) (ts : List Parts) (k : ℕ) (t : Parts) → slice_set (counted_from begun j ts) k (recounted (begun (j + k)) t) ≡ counted_from begun j (slice_set ts k t)
 set-counted begun j [] k t = refl
 set-counted begun j (u ∷ ts) zero t =
@@ -99,7 +99,7 @@ new-counted begun j (t ∷ ts) none =
     ap (λ (u : Parts). u ∷ counted_from begun (suc j) ts) (recounted-none (begun j) t (none j (omega arith)))
     ∙ ap (λ (us : List Parts). t ∷ us) (new-counted begun (suc j) ts (λ k l. none k (omega (arith, l))))
 
--- appended threads with no commits from before aren't changed by counting from elsewhere
+-- threads appended after the base keep their own counts when the others are recounted
 pub append-counted : (begun : ℕ → ℕ) (j : ℕ) (ts us : List Parts) → ((k : ℕ) → j + length ts ≤ k → begun k ≡ 0) → counted_from begun j (ts ++ us) ≡ counted_from begun j ts ++ us
 append-counted begun j [] us none = new-counted begun j us (λ k l. none k (omega (arith, l)))
 append-counted begun j (t ∷ ts) us none =
@@ -136,7 +136,7 @@ turn-lifted base i begun ts (Some Actor.Dma) = refl
 turn-lifted base i begun ts (Some (Actor.Thread k)) =
     ap (turn_of_thread (base + i) k) (get-counted begun 0 ts k) ∙ thread-turn-lifted base i k (begun (0 + k)) (slice_get ts k)
 
--- the effect of a commit, of a thread with so many commits more
+-- the same effect of a commit, with its thread at so many commits more
 abbrev pub effect_recounted : (before : ℕ) → Effect → Effect
 effect_recounted b e = record e { thread = recounted b e.thread }
 

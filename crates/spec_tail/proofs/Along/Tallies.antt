@@ -84,7 +84,7 @@ each-one P (x ∷ xs) f = (f x, each-one P xs f)
 
 -- ---- the interrupts at one commit
 
--- how many values there are: none or one
+-- 1 if there is a value, 0 if there is none
 abbrev pub number : Option ℕ → ℕ
 number None = 0
 number (Some value) = 1
