@@ -81,6 +81,7 @@ pub record FitsBytes (shape : Shape) : Type 0 where
   pub threads : shape.threads ≤ 63
   pub sizes : shape.s ≤ most_standard shape.version
 
+-- a good shape's threads and sizes fit in the bytes that its version has for them
 pub shape-fits : (shape : Shape) → IsShape shape → FitsBytes shape
 shape-fits shape good = record { threads = few-threads shape.version shape.threads good.0; sizes = good.1.1 }
 

@@ -13,6 +13,7 @@ use Rattle.spec_log.specs.Reading.{actor_of, actors_by_halves}
 use Rattle.dl_logfmt.proofs.Codes.{Codes, Codes-as, Codes-then, Codes-gives}
 use Rattle.dl_logfmt.proofs.EntryLaws.{Codes-field}
 
+-- every number except the DMA's is read as the thread of that number
 pub actor_of-thread : (dma number : ℕ) → (number ≡ dma → ⊥) → actor_of dma number ≡ Thread number
 actor_of-thread dma number h = rw (ne_eqb number dma h) refl
 

@@ -36,17 +36,20 @@ pub Codes-constant : (width fault x : ℕ) → x < 256 ^ width → Codes (number
 Codes-constant width fault x fits =
     Codes-field width fault (λ y. y == x) (λ y. y ≡ x) (λ y h l. eqb-true y x h) (λ y h. (rw h fits, eq-eqb y x h))
 
+-- the mode that is read from a mode's code is that mode
 pub mode_of-code : (m : ModeName) → m ≡ mode_of (mode_code m)
 mode_of-code OrderSize = refl
 mode_of-code OrderOnly = refl
 mode_of-code Picolog = refl
 
+-- a code up to 2 is the code of the mode that is read from it
 pub code-mode_of : (code : ℕ) → code ≤ 2 → mode_code (mode_of code) ≡ code
 code-mode_of zero h = refl
 code-mode_of (suc zero) h = refl
 code-mode_of (suc (suc zero)) h = refl
 code-mode_of (suc (suc (suc n))) h = absurd (omega arith)
 
+-- the code of a mode is at most 2
 pub mode_code-small : (m : ModeName) → mode_code m ≤ 2
 mode_code-small OrderSize = omega arith
 mode_code-small OrderOnly = omega arith
@@ -56,9 +59,11 @@ mode_code-small Picolog = omega arith
 abbrev pub interrupts_of : Shape → Reader (List Interrupt)
 interrupts_of h = section_of (λ x y. is_earlier x.thread x.index y.thread y.index) (interrupt h)
 
+-- the section of inputs, which may be in any order
 abbrev pub inputs_of : Reader (List Input)
 inputs_of = section_of (λ x y. true) input
 
+-- the section of DMAs, each at a later position than the one before
 abbrev pub dmas_of : Reader (List DmaRecord)
 dmas_of = section_of (λ x y. nat_lt x.position y.position) dma
 
@@ -96,13 +101,16 @@ abbrev pub short_of : Sizes → List ShortSize
 short_of (Each xs) = []
 short_of (Short xs) = xs
 
+-- the shape of this version, with so many threads and this standard size
 abbrev pub shaped : (v t s : ℕ) → Shape
 shaped v t s = record { version = v; threads = t; s = s }
 
+-- the draft that has all these parts, with the sizes in the list of their kind
 abbrev pub whole : (h : Shape) (m : ModeName) (c : ℕ) (o : List Actor) (z : Sizes) (i : List Interrupt) (n : List Input) (d : List DmaRecord) → Draft
 whole h m c o z i n d =
     record { shape = h; mode = m; count = c; order = o; each = each_of z; short = short_of z; interrupts = i; inputs = n; dmas = d }
 
+-- sizes that are good in a mode are found again from the draft's two lists
 pub same-sizes : (m : ModeName) (t s c : ℕ) (z : Sizes) → IsSizes m t s c z → sizes_in m (each_of z) (short_of z) ≡ z
 same-sizes OrderSize t s c (Each xs) h = refl
 same-sizes OrderSize t s c (Short xs) h = absurd h
@@ -117,6 +125,7 @@ put-put : {X Y Z : Type 0} (r : Result (Read X) Fault) (first : X → Y) (second
 put-put (Ok r) first second bytes = refl
 put-put (Err fault) first second bytes = refl
 
+-- putting what is read and then reading on is the same as reading on from the put value
 pub put-on : {X Y Z : Type 0} (r : Result (Read X) Fault) (put : X → Y) (next : Y → Reader Z) (bytes : List ℕ)
     → continues (continues r (λ x. gives (put x) bytes)) (λ y after. next y bytes after) ≡ continues r (λ x after. next (put x) bytes after)
 put-on (Ok r) put next bytes = refl
@@ -142,30 +151,35 @@ from k d = all_of (drop k stages) d
 abbrev pub Known-dmas : Shape → ModeName → ℕ → List Actor → Sizes → List Interrupt → List Input → Draft → Type 0
 Known-dmas h m c o z i n l = (d : List DmaRecord) × AreDmas d × (l ≡ whole h m c o z i n d)
 
+-- the bytes of a draft's DMAs, which are the last part of a log
 abbrev pub bytes-dmas : Draft → List ℕ
 bytes-dmas l = (section dma_bytes) l.dmas ++ []
 
 abbrev pub Known-inputs : Shape → ModeName → ℕ → List Actor → Sizes → List Interrupt → Draft → Type 0
 Known-inputs h m c o z i l = (n : List Input) × AreInputs n × Known-dmas h m c o z i n l
 
+-- the bytes of a draft from its inputs on
 abbrev pub bytes-inputs : Draft → List ℕ
 bytes-inputs l = (section input_bytes) l.inputs ++ (bytes-dmas l)
 
 abbrev pub Known-interrupts : Shape → ModeName → ℕ → List Actor → Sizes → Draft → Type 0
 Known-interrupts h m c o z l = (i : List Interrupt) × AreInterrupts h.threads i × Known-inputs h m c o z i l
 
+-- the bytes of a draft from its interrupts on
 abbrev pub bytes-interrupts : Draft → List ℕ
 bytes-interrupts l = (section interrupt_bytes) l.interrupts ++ (bytes-inputs l)
 
 abbrev pub Known-sizes : Shape → ModeName → ℕ → List Actor → Draft → Type 0
 Known-sizes h m c o l = (z : Sizes) × IsSizes m h.threads h.s c z × Known-interrupts h m c o z l
 
+-- the bytes of a draft from its sizes on, in this version
 abbrev pub bytes-sizes : ℕ → Draft → List ℕ
 bytes-sizes v l = sizes_bytes v (sizes_in l.mode l.each l.short) ++ (bytes-interrupts l)
 
 abbrev pub Known-order : Shape → ModeName → ℕ → Draft → Type 0
 Known-order h m c l = (o : List Actor) × IsOrder m h.threads c o × Known-sizes h m c o l
 
+-- the bytes of a draft from its order on, in this version
 abbrev pub bytes-order : ℕ → Draft → List ℕ
 bytes-order v l = order_bytes v l.order ++ (bytes-sizes v l)
 
@@ -399,6 +413,7 @@ known-good l (v, gv, (m, (t, gt, (s, gs, (c, gc, (o, go, (z, gz, (i, gi, (n, gn,
 abbrev pub draft_of : LogParts → Draft
 draft_of l = whole (shaped l.version l.threads l.s) l.mode l.count l.order l.sizes l.interrupts l.inputs l.dmas
 
+-- the draft of a good log gives that log back
 pub log-draft : (l : LogParts) → IsLog l → log_of (draft_of l) ≡ l
 log-draft l h = rw (same-sizes l.mode l.threads l.s l.count l.sizes h.sizes) refl
 
@@ -419,6 +434,7 @@ log-good bytes log are e =
     let s = read-whole bytes (all_of stages blank bytes 0) log e in
     subst IsLog s.3 (known-good s.0.value (Codes-draft.finds [] bytes s.0.value s.0.after are s.1).is_good)
 
+-- if bytes are no longer than a first part of them, that part is all of them
 pub nothing-behind : (bytes whole rest : List ℕ) → bytes ≡ whole ++ rest → length bytes ≤ length whole → whole ≡ bytes
 nothing-behind bytes whole rest split few =
     let none : rest ≡ [] = nil_from_length rest (omega (arith, ap length split, length-append whole rest)) in

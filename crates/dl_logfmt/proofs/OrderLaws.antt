@@ -82,6 +82,7 @@ Codes-bytes threads n few =
 abbrev pub actors : Shape → ℕ → Reader (List Actor)
 actors shape n = by_version shape.version (halved n) (byte_actors shape.threads n)
 
+-- the order of a log: the number of actors that its mode asks for, then so many actors
 abbrev pub order_of : Shape → ModeName → ℕ → Reader (List Actor)
 order_of shape mode count = read (field 4 (λ n. n == ordered mode count)) (actors shape)
 

@@ -286,6 +286,7 @@ rest-end (Some left) d bytes at = refl
 whole-remaining : (q : Parser) (bytes : List ℕ) (at : ℕ) → q.stage ≡ End → remaining q bytes at ≡ gives q.draft bytes at
 whole-remaining q bytes at is = ap (λ (s : StageName). rest_in (ahead s) q.left q.draft bytes at) is ∙ rest-end q.left q.draft bytes at
 
+-- once all stages are read, the bytes say the log of the draft
 pub whole-said : (q : Parser) (bytes : List ℕ) → q.stage ≡ End → said q bytes ≡ Ok (log_of q.draft)
 whole-said q bytes is = ap (λ (s : StageName). said_in (ahead s) q.draft bytes) is
 

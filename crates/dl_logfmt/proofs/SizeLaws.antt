@@ -22,16 +22,19 @@ abbrev pub short_sizes : Shape → Reader Sizes
 short_sizes h =
     read (section_of (λ x y. is_earlier x.thread x.index y.thread y.index) (short_size h)) (λ sizes. gives (Short sizes))
 
+-- the sizes of all commits: their number, which must be the count, then each size
 abbrev pub each_size : Shape → ℕ → Reader Sizes
 each_size h count =
     read (field 4 (λ n. n == count)) (λ n. read (entries (λ x y. true) (size h) None n) (λ sizes.
     gives (Each sizes)))
 
+-- the sizes of a log: of each commit in order-size, in the other modes of short chunks only
 abbrev pub sizes_of : ModeName → Shape → ℕ → Reader Sizes
 sizes_of OrderSize h count = each_size h count
 sizes_of OrderOnly h count = short_sizes h
 sizes_of Picolog h count = short_sizes h
 
+-- the sizes if each commit has one, else an empty list
 abbrev pub each_of : Sizes → List ℕ
 each_of (Each sizes) = sizes
 each_of (Short sizes) = []

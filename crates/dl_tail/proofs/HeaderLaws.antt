@@ -219,6 +219,7 @@ Codes-from_present =
     Codes-part (field 2 (from_to 1 most_threads)) (λ p. read (field 4 (at_most (2 ^ 24))) (λ b. read (last p) (λ l. from-request p b l))) (λ h. h.present) u16 IsPresent bytes-base Known-base
     (Codes-number 2 5 (from_to 1 most_threads)) (λ p g. Codes-from_base p (are-few p g).1) (λ p h k. ap (λ (h : TailHeader). h.present) k.2.2.2.2)
 
+-- the bytes of a tail's header, from its magic word to the size of the memory
 abbrev pub bytes-header : TailHeader → List ℕ
 bytes-header h =
     magic ++ u8 1 ++ u8 0 ++ u16 h.present ++ u32 h.base ++ u8 (last_code h.last) ++ request_bytes h.request ++ u32 h.size

@@ -41,6 +41,7 @@ bytes-mode e = u8 (mode_code e.log.mode) ++ bytes-threads e
 abbrev bytes-version : TailDraft → List ℕ
 bytes-version e = u8 2 ++ bytes-mode e
 
+-- all bytes of the log that a tail's draft holds, in version 2
 abbrev pub bytes-all : TailDraft → List ℕ
 bytes-all e = magic_bytes ++ bytes-version e
 

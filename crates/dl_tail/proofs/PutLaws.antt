@@ -6,9 +6,11 @@ use Rattle.spec_tail.specs.Bytes.{is_empty, rows_from, rows_of, row_bytes}
 use Rattle.dl_tail.specs.Rows.{filled, first_bytes}
 use Rattle.dl_tail.proofs.RowLaws.{rows-few}
 
+-- the rows that aren't empty in the rest of a memory, as bytes, numbered from this number on
 abbrev pub bytes_left : (number : ℕ) → List ℕ → List ℕ
 bytes_left number rest = flat_map row_bytes (rows_from number (length rest / 32) rest)
 
+-- how many rows in the rest of a memory aren't empty
 abbrev pub rows_left : List ℕ → ℕ
 rows_left rest = length (rows_from 0 (length rest / 32) rest)
 
@@ -53,18 +55,22 @@ module _ (rest : List ℕ) (whole : length rest % 32 ≡ 0) (some : 0 < length r
         by n true e = omega (arith, e)
         by n false e = omega (arith, e)
 
+-- one row adds at most one to the number of rows that are written
 pub filled-one : (bytes : List ℕ) → filled bytes ≤ 1
 filled-one bytes = by (is_empty bytes) where
   by : (b : Bool) → (if b then 0 else 1) ≤ 1
   by true = omega arith
   by false = omega arith
 
+-- if no memory is left, no bytes of rows are left to write
 pub bytes-end : (k : ℕ) (rest : List ℕ) → length rest ≡ 0 → bytes_left k rest ≡ []
 bytes-end k rest none = let all : length rest / 32 ≡ 0 = omega (arith, none) in ap (λ (m : ℕ). flat_map row_bytes (rows_from k m rest)) all
 
+-- if no memory is left, no rows are left to count
 pub rows-end : (rest : List ℕ) → length rest ≡ 0 → rows_left rest ≡ 0
 rows-end rest none = let all : length rest / 32 ≡ 0 = omega (arith, none) in ap (λ (m : ℕ). length (rows_from 0 m rest)) all
 
+-- a memory has at most one written row for each 32 of its bytes
 pub few-rows : (m : List ℕ) → length (rows_of m) ≤ length m / 32
 few-rows m = rows-few (length m / 32) 0 m
 
@@ -72,5 +78,6 @@ few-rows m = rows-few (length m / 32) 0 m
 pub three-parts : (o a b c : List ℕ) → ((o ++ a) ++ b) ++ c ≡ o ++ ((a ++ b) ++ c)
 three-parts o a b c = simp append_assoc
 
+-- four parts appended one by one are the same bytes as the four appended at once
 pub four-parts : (o a b c d : List ℕ) → (((o ++ a) ++ b) ++ c) ++ d ≡ o ++ (((a ++ b) ++ c) ++ d)
 four-parts o a b c d = simp append_assoc

@@ -19,6 +19,7 @@ module _ {D : Type 0} (one : D → Reader D) (n done : ℕ) (d : D) (bytes : Lis
   pub repeated-not : (fault : Fault) → one d bytes at ≡ Err fault → repeated one (n - done) d bytes at ≡ Err fault
   repeated-not fault h = ap (λ (k : ℕ). repeated one k d bytes at) left ∙ rw h refl
 
+-- once all times are done, reading the rest reads no bytes and gives the value as it is
 pub repeated-all : {D : Type 0} (one : D → Reader D) (n done : ℕ) (d : D) (bytes : List ℕ) (at : ℕ) → n ≡ done
     → repeated one (n - done) d bytes at ≡ Ok (record { value = d; after = at })
 repeated-all one n done d bytes at all = let none : n - done ≡ 0 = omega (arith, all) in ap (λ (k : ℕ). repeated one k d bytes at) none
@@ -29,11 +30,13 @@ pub fault-made : {X Y : Type 0} (part : Result (Read X) Fault) (whole : Result (
 fault-made part whole (Malformed fault) old new end at after same made = same fault made.0
 fault-made part whole OutOfMemory old new end at after same made = tt
 
+-- an error left in a part is left in the whole, if the part's faults are the whole's
 pub fault-left : {X Y : Type 0} (part : Result (Read X) Fault) (whole : Result (Read Y) Fault) (error : LogError) (new : X) (end : Y) (at after : ℕ)
     → ((fault : Fault) → part ≡ Err fault → whole ≡ Err fault) → Leaves part (Err error) new at → Leaves whole (Err error) end after
 fault-left part whole (Malformed fault) new end at after same leaves = same fault leaves
 fault-left part whole OutOfMemory new end at after same leaves = tt
 
+-- an error answered for a part answers the whole too, if the part's faults are the whole's
 pub fault-answered : {X Y : Type 0} (part : Result (Read X) Fault) (whole : Result (Read Y) Fault) (error : LogError) (at after : ℕ)
     → ((fault : Fault) → part ≡ Err fault → whole ≡ Err fault) → Answers part (Err error) at → Answers whole (Err error) after
 fault-answered part whole (Malformed fault) at after same answers = same fault answers

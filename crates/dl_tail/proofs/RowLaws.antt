@@ -69,6 +69,7 @@ Codes-rows size small =
 
 -- ---- empty rows
 
+-- so many bytes that are all 0
 abbrev pub zeros : (count : ℕ) → List ℕ
 zeros count = replicate count 0
 
@@ -78,6 +79,7 @@ empty-zeros (b ∷ bs) e =
     let p = and_parts (b == 0) (is_empty bs) e in
     rw (eqb-true b 0 p.0) (ap (λ (xs : List ℕ). 0 ∷ xs) (empty-zeros bs p.1))
 
+-- the zeros of one row more are 32 zeros before the others
 pub zeros-more : (n : ℕ) → zeros (32 * suc n) ≡ zeros 32 ++ zeros (32 * n)
 zeros-more n =
     let more : 32 * suc n ≡ 32 + 32 * n = omega arith in
@@ -123,6 +125,7 @@ memory-from (suc n) k p rest here count =
       by k n p rest bytes rows here whole ih false e =
           ap (λ (m : List ℕ). with_rows m rows) (row-put k n p bytes here whole) ∙ ih
 
+-- a memory of whole pages is the same when it is built again from its rows
 pub same-memory : (m : List ℕ) → length m % 4096 ≡ 0 → memory_of (length m) (rows_of m) ≡ m
 same-memory m pages =
     let whole : length m ≡ 32 * (length m / 32) = omega (arith, pages) in
@@ -130,6 +133,7 @@ same-memory m pages =
 
 -- ---- the rows of a memory
 
+-- of n rows of a memory at most n aren't empty
 pub rows-few : (n k : ℕ) (m : List ℕ) → length (rows_from k n m) ≤ n
 rows-few zero k m = omega arith
 rows-few (suc n) k m = by (is_empty (take 32 m)) (rows-few n (suc k) (drop 32 m)) where
@@ -173,6 +177,7 @@ rows-good size (suc n) k m count are within =
       by size k bytes rows below whole are good true e = good
       by size k bytes rows below whole are good false e = (record { number = below; whole = whole; bytes = are; filled = rw e refl }, good)
 
+-- a memory of whole pages, of at most 2^24 bytes, has good rows in rising order
 pub are-rows : (m : List ℕ) → length m % 4096 ≡ 0 → length m ≤ 2 ^ 24 → All IsByte m → AreRows (length m) (rows_of m)
 are-rows m pages small are =
     let n = length m / 32 in
@@ -202,5 +207,6 @@ rows-kept size [] m good count are = (count, are)
 rows-kept size (r ∷ rs) m good count are =
     let k = row-kept size m r good.0 count are in rows-kept size rs (with_row m r) good.1 k.0 k.1
 
+-- good rows make a memory of the given size, and all of it is bytes
 pub is-memory : (size : ℕ) (rs : List Row) → AllByRecursion (IsRow size) rs → (length (memory_of size rs) ≡ size) × All IsByte (memory_of size rs)
 is-memory size rs good = rows-kept size rs (zeros size) good (length-replicate {A = ℕ} size 0) (All-replicate IsByte size 0 (omega arith))

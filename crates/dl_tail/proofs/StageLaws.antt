@@ -99,6 +99,7 @@ stage-asked d bytes at stage l after (Err error) e failed = rw failed.1 (stage-n
 
 -- ---- the stages from one on
 
+-- the stages of a tail's log from this one on, read into a draft
 abbrev pub ahead : StageName → TailDraft → Reader TailDraft
 ahead stage d = all_of (drop (rank stage) log_stages) d
 
@@ -116,14 +117,17 @@ ahead-of Inputs more d bytes at = refl
 ahead-of Dmas more d bytes at = refl
 ahead-of End more d bytes at = absurd (more refl)
 
+-- once a stage is read, the stages after it read on from its draft and offset
 pub ahead-done : (stage : StageName) → stage ≢ End → (d e : TailDraft) (bytes : List ℕ) (at after : ℕ)
     → staged (tail_stage stage) d bytes at ≡ Ok (record { value = e; after = after }) → ahead stage d bytes at ≡ ahead (next stage) e bytes after
 ahead-done stage more d e bytes at after done = ahead-of stage more d bytes at ∙ rw done refl
 
+-- a fault of a stage is the fault of the stages from it on
 pub ahead-fault : (stage : StageName) → stage ≢ End → (d : TailDraft) (bytes : List ℕ) (at : ℕ) (fault : Fault)
     → staged (tail_stage stage) d bytes at ≡ Err fault → ahead stage d bytes at ≡ Err fault
 ahead-fault stage more d bytes at fault e = ahead-of stage more d bytes at ∙ rw e refl
 
+-- fewer stages are left after a stage than before it
 pub rank-next : (stage : StageName) → stage ≢ End → 11 - rank (next stage) < 11 - rank stage
 rank-next Magic more = omega arith
 rank-next Version more = omega arith

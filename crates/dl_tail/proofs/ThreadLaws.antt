@@ -37,6 +37,7 @@ pub record AreRegisters (x : List ℕ) : Type 0 where
   pub count : length behind ≡ 31
   pub words : All (λ word. word < 2 ^ 32) behind
 
+-- giving on what was read, as it is, changes nothing
 pub same-gives : {X : Type 0} (bytes : List ℕ) (r : Result (Read X) Fault) → r ≡ continues r (λ x. gives x bytes)
 same-gives bytes (Ok x) = refl
 same-gives bytes (Err fault) = refl

@@ -139,6 +139,7 @@ pub record AreCut : Type 0 where
   pub spawning_fits : FitsImage spawning_log spawning 0
   pub both_end_is : IsTailOf spawning_log spawning 0 both_end
 
+-- the two logs fit, three tails are the last parts of them, and two others aren't
 pub tails_are_cut : AreCut
 unfolding serial_of loads_of next_of load_of store_of one lay read merged answer called bytes_put next_kind next_operation need fits serve console_written play_one dma_verdict has_left_over now_at chunk_verdict serial_verdict
 tails_are_cut =

@@ -122,6 +122,7 @@ length_first (Some value) p ps rest same = length_taken value p ps rest (takes_i
   length_taken value p ps rest true same = ap suc same
   length_taken value p ps rest false same = refl
 
+-- the interrupts at the base don't change the number of threads
 pub length-raised : (xs : List Interrupt) (k : ℕ) (ps : List Parts) → length (raised xs k ps).threads ≡ length ps
 length-raised xs k [] = refl
 length-raised xs k (p ∷ ps) = length_first (interrupt_at xs k p.commits) p ps (raised xs (suc k) ps) (length-raised xs (suc k) ps)

@@ -62,6 +62,7 @@ find_next ps k i other x xs false is same =
     find_same (is_size_of k i) (short_since ps x) (map (short_since ps) xs) (later_sizes ps xs) same
     ∙ sym (ap (find (is_size_of k i)) (kept (is_late_size ps) (short_since ps) x xs (ap not is)))
 
+-- a thread's short size is the same if the sizes from before the base are left out
 pub find-size : (ps : List Parts) (k i : ℕ) → (no_thread == k) ≡ false → (xs : List ShortSize)
     → find (is_size_of k i) (map (short_since ps) xs) ≡ find (is_size_of k i) (later_sizes ps xs)
 find-size ps k i other [] = refl
@@ -91,6 +92,7 @@ used_next ts ps none x xs false is same =
     ∙ sym (ap (λ (b : Bool). not b && list_all (is_used ts) (later_sizes ps (x ∷ xs))) any
     ∙ ap (λ (ys : List ShortSize). not (list_any (is_early_size ps) xs) && list_all (is_used ts) ys) (kept (is_late_size ps) (short_since ps) x xs (ap not is)))
 
+-- all sizes are used exactly if none is from before the base and all later ones are used
 pub all-sizes-used : (ts ps : List Parts) → slice_get ts no_thread ≡ None → (xs : List ShortSize)
     → list_all (is_used ts) (map (short_since ps) xs) ≡ (not (list_any (is_early_size ps) xs) && list_all (is_used ts) (later_sizes ps xs))
 all-sizes-used ts ps none [] = refl
@@ -132,6 +134,7 @@ find_interrupt : (ps : List Parts) (k i : ℕ) → nat_eq no_thread k ≡ false 
 find_interrupt ps k i other later [] = refl
 find_interrupt ps k i other later (x ∷ xs) = interrupt_next ps k i other later x xs (is_later_interrupt ps x) refl (find_interrupt ps k i other later xs)
 
+-- an interrupt that comes after the base is the same among the later interrupts alone
 pub later-interrupt : (ps : List Parts) (k i : ℕ) → nat_eq no_thread k ≡ false → 0 < i → (xs : List Interrupt)
     → interrupt_at (map (interrupt_since ps) xs) k i ≡ interrupt_at (interrupts_later ps xs) k i
 later-interrupt ps k i other later xs = ap (option_map (λ (x : Interrupt). x.value)) (find_interrupt ps k i other later xs)
@@ -153,6 +156,7 @@ dma_next base n i other x xs false is same =
     ap (λ (b : Bool). ((dma_since base n x).position == i) || b) same
     ∙ sym (ap (λ (ys : List DmaRecord). is_dma_at ys i) (kept (is_late_dma base) (dma_since base n) x xs (ap not is)))
 
+-- whether a DMA commits at a position is the same without the DMAs before the base
 pub later-dma : (base n i : ℕ) → (n == i) ≡ false → (xs : List DmaRecord) → is_dma_at (map (dma_since base n) xs) i ≡ is_dma_at (dmas_later base n xs) i
 later-dma base n i other [] = refl
 later-dma base n i other (x ∷ xs) = dma_next base n i other x xs (is_early_dma base x) refl (later-dma base n i other xs)

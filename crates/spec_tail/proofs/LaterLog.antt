@@ -222,6 +222,7 @@ module _ (base count : ℕ) where
 
 -- ---- all of it
 
+-- the log of a tail without what is logged for moments before the base is still a log
 pub later-is-log : (t : Tail) → IsTail t → IsLog (log_later t)
 later-is-log t is =
     let log = is.log in

@@ -120,6 +120,7 @@ total_few : (ps : List Parts) (xs : List Interrupt) → first_ones 0 (map (inter
 total_few ps [] = omega arith
 total_few ps (x ∷ xs) = total_next ps x xs (is_later_interrupt ps x) refl (total_few ps xs)
 
+-- the interrupts applied at the base and the later ones are no more than the tail's log has
 pub raised-left-out : (t : Tail) → (raised_at t).count + length (log_later t).interrupts ≤ length t.log.interrupts
 raised-left-out t =
     let l = raised_few (map (interrupt_since t.threads) t.log.interrupts) 0 t.threads in

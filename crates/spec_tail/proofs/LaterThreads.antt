@@ -147,12 +147,14 @@ serial_few log p u k ts t m =
     unless_few log.threads (length ts) (serial_why (size_in log (Actor.Thread k) t.commits)) (served_verdict log p k ts t m (given (need t m) (slice_get log.inputs u.inputs) u))
     (served_few log p k ts t m (given (need t m) (slice_get log.inputs u.inputs) u))
 
+-- a thread's commit that goes as logged spawns no more threads than the log may have
 pub verdict-few : (log : LogParts) (y : Played) (k : ℕ) (t : Parts) (o : Option Kind) → SpawnsFew log.threads (length y.threads) (thread_verdict log y k t o)
 verdict-few log y k t None = chunk_few log y.progress y.used k (length y.threads) (run y.memory t (size_or_standard log k t.commits))
 verdict-few log y k t (Some kind) = serial_few log y.progress y.used k y.threads t y.memory
 
 -- ---- the threads
 
+-- an effect that spawns few enough threads leaves no more threads than the most
 pub then-few : (most k : ℕ) (e : Effect) (ts : List Parts) → AreFewMore most (length ts) e.spawned → length ts ≤ most → length (with_threads k e ts) ≤ most
 then-few most k e ts more few =
     let all = length-append (slice_set ts k e.thread) e.spawned in

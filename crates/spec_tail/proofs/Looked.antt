@@ -94,6 +94,7 @@ moment ps k i thread index false other is =
 
 -- ---- interrupts and sizes
 
+-- a thread's interrupt is the same by its moment counted from the start or from the base
 pub interrupt-looked : (ps : List Parts) (xs : List Interrupt) (k i : ℕ) → nat_eq no_thread k ≡ false → interrupt_at xs k (begun ps k + i) ≡ interrupt_at (map (interrupt_since ps) xs) k i
 interrupt-looked ps xs k i other =
     sym (find_mapped (λ x. nat_eq x.thread k && nat_eq x.index i) (λ x. nat_eq x.thread k && nat_eq x.index (begun ps k + i)) (interrupt_since ps) (λ x. x.value)
@@ -107,6 +108,7 @@ size_by t (Sizes.Short xs) k i other =
     sym (find_mapped (λ x. nat_eq x.thread k && nat_eq x.index i) (λ x. nat_eq x.thread k && nat_eq x.index (begun t.threads k + i)) (short_since t.threads) (λ x. x.size)
     (λ x. moment t.threads k i x.thread x.index (nat_lt x.index (begun t.threads x.thread)) other refl) (λ x. refl) xs)
 
+-- a thread's size is the same by its moment counted from the start or from the base
 pub size-looked : (t : Tail) (k i : ℕ) → nat_eq no_thread k ≡ false → direct.size_of t k (begun t.threads k + i) ≡ sizes.size_in (log_since t) (Actor.Thread k) i
 size-looked t k i other = size_by t t.log.sizes k i other
 
@@ -114,6 +116,7 @@ dma_size_by : (ps : List Parts) (s : Sizes) (n m : ℕ) → n ≡ m → dma_size
 dma_size_by ps (Sizes.Each xs) n m same = ap (slice_get xs) same
 dma_size_by ps (Sizes.Short xs) n m same = refl
 
+-- a DMA's size is the same by its position counted from the start or from the base
 pub dma_size-looked : (t : Tail) (i : ℕ) → direct.size_of_dma t (t.base + i) ≡ sizes.size_in (log_since t) Actor.Dma i
 dma_size-looked t i = dma_size_by t.threads t.log.sizes ((t.base + i) - t.base) i (omega arith)
 
@@ -144,6 +147,7 @@ transferred_by base n i (Some request) (Some d) l =
     ap (λ (b : Bool). cond (b && nat_le (length d.bytes) request.len) (DmaGoes (dma_words request d.bytes)) (transferred i None None))
     (sym (dma_here base n i d (nat_lt d.position base) l refl))
 
+-- a DMA's transfer is the same at its position counted from the start or from the base
 pub transfer-looked : (t : Tail) (i j : ℕ) (o : Option Request) → i < t.log.count → transferred (t.base + i) o (slice_get t.log.dmas j) ≡ transferred i o (slice_get (log_since t).dmas j)
 transfer-looked t i j o l =
     transferred_by t.base t.log.count i o (slice_get t.log.dmas j) l
@@ -156,6 +160,7 @@ head_by ModeName.OrderSize t i last live l = (let n : (t.base + i) - t.base ≡ 
 head_by ModeName.OrderOnly t i last live l = (let n : (t.base + i) - t.base ≡ i = omega arith in ap (slice_get t.log.order) n)
 head_by ModeName.Picolog t i last live l = ap (λ (b : Bool). head_by_turn b last live) (dma_at t i l)
 
+-- a commit's actor is the same at its position counted from the start or from the base
 pub head-looked : (t : Tail) (i : ℕ) (last : Option ℕ) (live : List Bool) → i < t.log.count → direct.head_in t.log.mode t (t.base + i) last live ≡ head (log_since t) i last live
 head-looked t i last live l = head_by t.log.mode t i last live l
 
@@ -207,6 +212,7 @@ length_mapped : {X : Type 0} (f : X → X) (xs : List X) → length (map f xs) �
 length_mapped f [] = refl
 length_mapped f (x ∷ xs) = ap suc (length_mapped f xs)
 
+-- the play told directly has something left over exactly if the one counted from the base has
 pub left-looked : (t : Tail) (u : Used) (ts : List Parts) → slice_get ts no_thread ≡ None → direct.has_left t u (counted_from (begun t.threads) 0 ts) ≡ has_left_over (log_since t) u ts
 unfolding has_left_over direct.has_left
 left-looked t u ts none =

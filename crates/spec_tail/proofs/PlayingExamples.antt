@@ -111,6 +111,7 @@ pub record ArePlayed : Type 0 where
   pub early_dma_next_end : (walked early_dma_next).end ≡ WalkEnd.Ended (End.Diverged 4 Why.Dma)
   pub in_turn_end : (walked in_turn).end ≡ WalkEnd.Ended (End.Complete 6)
 
+-- the plays of these tails complete or diverge as listed, with the listed commits and threads
 pub tails_play : ArePlayed
 unfolding serial_of loads_of next_of load_of store_of one lay read merged answer called bytes_put next_kind next_operation need fits serve console_written play_one dma_verdict has_left_over now_at chunk_verdict serial_verdict
 tails_play =

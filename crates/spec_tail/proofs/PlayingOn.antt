@@ -271,6 +271,7 @@ plays-whole log memory entry t arranged fits is =
     ∙ ap (λ (n : ℕ). WalkEnd.Ended (End.Complete n)) e.sum in
     λ j. record { commits = sym a.commits j; threads = sym a.threads j; memory = sym a.memory j; request = sym a.request j; end = end j }
 
+-- a tail of a log that fits plays on as the log's own play does from the base
 pub tails-play-on : TailsPlayOn
 tails-play-on log memory entry t is_log fits is =
     let arranged = arranged-of log is_log in

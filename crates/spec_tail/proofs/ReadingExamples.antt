@@ -48,9 +48,11 @@ bytes =
     ∷ 2 ∷ 0 ∷ 63 ∷ 0 ∷ 100 ∷ 0 ∷ 0 ∷ 0 ∷ 2 ∷ 0 ∷ 0 ∷ 0 ∷ 2 ∷ 0 ∷ 0 ∷ 0 ∷ 0 ∷ 1 ∷ 2 ∷ 0 ∷ 0 ∷ 0 ∷ 0 ∷ 0
     ∷ 0 ∷ 0 ∷ 0 ∷ 0 ∷ 0 ∷ 0 ∷ 0 ∷ 0 ∷ 0 ∷ 0 ∷ 0 ∷ 0 ∷ 0 ∷ 0 ∷ 0 ∷ 0 ∷ 0 ∷ 0 ∷ []
 
+-- the tail of two threads is written as these bytes
 pub tail_bytes-two : tail_bytes two ≡ bytes
 tail_bytes-two = refl
 
+-- these bytes are read as the tail of two threads
 pub read_of-two : read_of bytes ≡ Ok two
 read_of-two = refl
 

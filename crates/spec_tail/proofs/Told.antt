@@ -423,5 +423,6 @@ module _ (t : Tail) (tail : IsTail t) where
       ap walk_of (each_told t.log.count)
       ∙ ap (λ (end : WalkEnd). record (walk_of (told t y)) { end = end }) (end_told (position y.progress) (position (told t y).progress) y.now (position-lifted t.base y.progress))
 
+-- every tail's play is the one that is told directly, after each commit and in its walk
 pub tails-are-direct : TailsAreDirect
 tails-are-direct t tail = record { each = each_told t tail; walked = walk_told t tail }

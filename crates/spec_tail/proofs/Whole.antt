@@ -124,6 +124,7 @@ from-none t base =
     let all : t.log.count - t.base ≡ t.log.count = rw base (less-none t.log.count) in
     ap (λ (n : ℕ). walked_at t.log t.log.count (plays t.log (resumed t.log (state_of t)) n)) (sym all)
 
+-- the walk of a whole tail is the walk of its log from the state at the base
 pub whole-tails-play-logs : WholeTailsPlayLogs
 whole-tails-play-logs t whole =
     walked-same t whole (walked_at (log_since t) t.log.count (play t))

@@ -15,6 +15,7 @@ use Rattle.spec_tail.proofs.Along.Tallies.{tally, Each}
 
 -- ---- without the first entries
 
+-- the entry at b + i is the one at i without the first b entries
 pub get-drop : {X : Type 0} (xs : List X) (b i : ℕ) → slice_get xs (b + i) ≡ slice_get (drop b xs) i
 get-drop xs zero i = let h : 0 + i ≡ i = omega arith in ap (slice_get xs) h
 get-drop [] (suc b) i = refl
@@ -41,6 +42,7 @@ sized-first k a order z zs false n i is =
     ap (λ (c : Bool). slice_get (map (λ p. p.1) (cond c ((a, z) ∷ filter (λ p. is_thread k p.0) (zip order zs)) (filter (λ p. is_thread k p.0) (zip order zs)))) (bit false + n + i)) is
     ∙ ap (slice_get (sizes_of_thread k order zs)) h
 
+-- without the first b commits, a thread's sizes are those after its commits among them
 pub sized-drop : (k : ℕ) (order : List Actor) (zs : List ℕ) (b i : ℕ) → length zs ≡ length order
     → slice_get (sizes_of_thread k order zs) (tally (is_thread k) (take b order) + i) ≡ slice_get (sizes_of_thread k (drop b order) (drop b zs)) i
 sized-drop k order zs zero i same = let h : 0 + i ≡ i = omega arith in ap (slice_get (sizes_of_thread k order zs)) h
@@ -53,6 +55,7 @@ sized-drop k (a ∷ order) (z ∷ zs) (suc b) i same =
 
 -- ---- the DMAs
 
+-- a DMA is at base + i exactly if its position counted from the base is i
 pub position-since : (base count i : ℕ) (d : DmaRecord) → i < count → nat_eq d.position (base + i) ≡ nat_eq (dma_since base count d).position i
 position-since base count i d less =
     elim (cases_lt d.position base) [
@@ -86,6 +89,7 @@ any-drop n (suc u) (d ∷ ds) before =
     ap (λ (b : Bool). b || is_dma_at ds n) (ne_eqb d.position n (λ e. omega (arith, e, l)))
     ∙ any-drop n u ds (λ j x m is. before (suc j) x (omega (arith, m)) is)
 
+-- the DMAs after the first u, counted from the base, say whether one is at base + i
 pub dma-since : (base count i u : ℕ) (ds : List DmaRecord) → i < count → ((j : ℕ) (d : DmaRecord) → j < u → slice_get ds j ≡ Some d → d.position < base)
     → is_dma_at ds (base + i) ≡ is_dma_at (map (dma_since base count) (drop u ds)) i
 dma-since base count i u ds less before =
@@ -93,6 +97,7 @@ dma-since base count i u ds less before =
 
 -- ---- the entries of threads' moments
 
+-- each entry that a filter keeps passes its test
 pub each-filter : {X : Type 0} (keep : X → Bool) (xs : List X) → Each (λ x. keep x ≡ true) (filter keep xs)
 each-filter keep [] = tt
 each-filter keep (x ∷ xs) =

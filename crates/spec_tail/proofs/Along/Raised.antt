@@ -22,11 +22,13 @@ same-commits : (o : Option ℕ) (p : Parts) → (after_interrupt o p).commits �
 same-commits None p = refl
 same-commits (Some value) p = refl
 
+-- interrupts don't change how many commits each thread has done
 pub begun-same : (xs : List Interrupt) (k : ℕ) (ps : List Parts) (j : ℕ) → begun (after_interrupts xs k ps) j ≡ begun ps j
 begun-same xs k [] j = refl
 begun-same xs k (p ∷ ps) zero = same-commits (interrupt_at xs k p.commits) p
 begun-same xs k (p ∷ ps) (suc j) = begun-same xs (suc k) ps j
 
+-- among the threads after their interrupts, each is the old one after its own interrupt
 pub get-after : (xs : List Interrupt) (k : ℕ) (ps : List Parts) (j : ℕ) (p : Parts) → slice_get ps j ≡ Some p → slice_get (after_interrupts xs k ps) j ≡ Some (after_interrupt (interrupt_at xs (k + j) p.commits) p)
 get-after xs k [] j p is = absurd (none-some p is)
 get-after xs k (x ∷ ps) zero p is =
@@ -60,6 +62,7 @@ AreTaken xs k ps = (j value : ℕ) (p : Parts) → slice_get ps j ≡ Some p →
 abbrev pub SayTheSame : (xs since : List Interrupt) → (thread : ℕ) → List Parts → Type 0
 SayTheSame xs since k ps = (j : ℕ) (p : Parts) → slice_get ps j ≡ Some p → interrupt_at xs (k + j) p.commits ≡ interrupt_at since (k + j) 0
 
+-- if the threads can take the interrupts for them, all of these are applied and none is refused
 pub raised-after : (xs since : List Interrupt) (k : ℕ) (ps : List Parts) → AreTaken xs k ps → SayTheSame xs since k ps
     → raised since k (map uncounted ps) ≡ raised_as (after_interrupts xs k ps) (coming_to xs k ps)
 raised-after xs since k [] takes same = refl
@@ -117,9 +120,11 @@ unmasked n true kept =
     let b : nat_eq n n ≡ true = eq-eqb n n refl in
     absurd (false≢true (sym (λ i. not (a i || (b i && true))) ∙ kept))
 
+-- whether an interrupt is still to come for these threads
 abbrev pub comes : List Parts → Interrupt → Bool
 comes ps x = not (was_raised ps x.thread x.index)
 
+-- whether an interrupt after so many commits is still to come for this thread
 abbrev pub comes_to : (index : ℕ) → Option Parts → Bool
 comes_to i o = not (nat_lt i (commits_of o) || (nat_eq i (commits_of o) && is_masked o))
 
@@ -146,6 +151,7 @@ all-taken log ps qs after_first handled same j value p there at =
 
 -- ---- the threads of the play
 
+-- threads without their commits are the same threads once these are counted in again
 pub recounted-all : (b : ℕ → ℕ) (k : ℕ) (qs : List Parts) → ((j : ℕ) → b (k + j) ≡ begun qs j) → counted_from b k (map uncounted qs) ≡ qs
 recounted-all b k [] same = refl
 recounted-all b k (q ∷ qs) same =

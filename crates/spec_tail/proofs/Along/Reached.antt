@@ -142,6 +142,7 @@ module _ (log : LogParts) (k : ℕ) (t : Parts) (u : Used) where
       unless_goes (serial_why (size_in log (Actor.Thread k) t.commits)) (served_verdict log p k ts t m (given (need t m) next u))
       (served_goes p ts m (given (need t m) next u) (given_taken (need t m) next))
 
+-- a thread's commit that goes as logged counts as one, takes its interrupt, and uses no DMA
 pub verdict_goes : (log : LogParts) (y : Played) (k : ℕ) (t : Parts) (o : Option Kind) → IfGoes log k t y.used (thread_verdict log y k t o)
 verdict_goes log y k t None =
     let n = size_or_standard log k t.commits in
@@ -380,6 +381,7 @@ unless-for : (i : ℕ) (o : Option Why) (request : Option Request) (d : DmaRecor
 unless-for i None request d words e = transferred-for i request d words e
 unless-for i (Some why) request d words e = cc
 
+-- a DMA that goes as logged takes a record that is logged for its position
 pub verdict-for : (log : LogParts) (p : Progress) (u : Used) (d : DmaRecord) (words : List Stored) → slice_get log.dmas u.dmas ≡ Some d → dma_verdict log p u ≡ DmaGoes words → d.position ≡ position p
 unfolding dma_verdict
 verdict-for log p u d words is e =

@@ -91,6 +91,7 @@ one_same b t m =
     ∙ outcome_same b (operation_of t f) t m
     ∙ ap (outcome_recounted b) (sym (one_is t m))
 
+-- the same run, with its thread at so many commits more
 abbrev pub run_recounted : (before : ℕ) → Run → Run
 run_recounted b r = record r { thread = recounted b r.thread }
 
@@ -98,6 +99,7 @@ followed_same : (b : ℕ) (r : Run) (o : InstructionOutcome) → followed (run_r
 followed_same b r (Next t load store) = refl
 followed_same b r (Serial kind) = refl
 
+-- a thread runs the same however many commits it has done before
 pub run-same : (b : ℕ) (m : List ℕ) (t : Parts) (n : ℕ) → run m (recounted b t) n ≡ run_recounted b (run m t n)
 run-same b m t zero = refl
 run-same b m t (suc n) =
@@ -108,6 +110,7 @@ run-same b m t (suc n) =
 
 -- ---- what the next step is
 
+-- whether and why a thread's next step is serial doesn't depend on its number of commits
 pub kind-same : (b : ℕ) (t : Parts) (m : List ℕ) → next_kind (recounted b t) m ≡ next_kind t m
 unfolding next_kind serial_of
 kind-same b t m =
@@ -125,12 +128,14 @@ need_same b (Some Kind.DeviceStore) t m = refl
 need_same b (Some (Kind.Fault cause)) t m = refl
 need_same b None t m = refl
 
+-- what a thread needs from outside doesn't depend on its number of commits
 pub need-same : (b : ℕ) (t : Parts) (m : List ℕ) → need (recounted b t) m ≡ need t m
 unfolding need
 need-same b t m = ap (λ (o : Option Kind). need_of o (recounted b t) m) (kind-same b t m) ∙ need_same b (next_kind t m) t m
 
 -- ---- among other threads
 
+-- each of the recounted threads is the old one with its own commits from before added
 pub get-counted : (begun : ℕ → ℕ) (k : ℕ) (ts : List Parts) (j : ℕ) → slice_get (counted_from begun k ts) j ≡ option_map (recounted (begun (k + j))) (slice_get ts j)
 get-counted begun k [] j = refl
 get-counted begun k (t ∷ ts) zero = let h : k ≡ k + 0 = omega arith in ap (λ (i : ℕ). Some (recounted (begun i) t)) h
@@ -138,10 +143,12 @@ get-counted begun k (t ∷ ts) (suc j) =
     let h : suc k + j ≡ k + suc j = omega arith in
     get-counted begun (suc k) ts j ∙ ap (λ (i : ℕ). option_map (recounted (begun i)) (slice_get ts j)) h
 
+-- counting commits from elsewhere doesn't change how many threads there are
 pub length-counted : (begun : ℕ → ℕ) (k : ℕ) (ts : List Parts) → length (counted_from begun k ts) ≡ length ts
 length-counted begun k [] = refl
 length-counted begun k (t ∷ ts) = ap suc (length-counted begun (suc k) ts)
 
+-- counting commits from elsewhere doesn't change which threads are live
 pub live-counted : (begun : ℕ → ℕ) (k : ℕ) (ts : List Parts) → map is_live (counted_from begun k ts) ≡ map is_live ts
 live-counted begun k [] = refl
 live-counted begun k (t ∷ ts) = ap (λ (bs : List Bool). is_live t ∷ bs) (live-counted begun (suc k) ts)
@@ -216,6 +223,7 @@ called_same b most size k begun ts request t =
 
 -- ---- serial steps
 
+-- the same result of a serial step, with its thread at so many commits more
 abbrev pub step_recounted : (before : ℕ) → StepResult → StepResult
 step_recounted b v = record v { thread = recounted b v.thread }
 
@@ -262,6 +270,7 @@ kind_serves b (Some Kind.DeviceStore) most k begun ts request t m input =
     ap (λ (p : Operation). device_stored request (recounted b t) p) (next_same b t m) ∙ stored_same b request t (next_operation t m)
 kind_serves b (Some (Kind.Fault cause)) most k begun ts request t m input = refl
 
+-- a serial step comes to the same if the commits of all threads are counted from elsewhere
 pub serve-same : (b : ℕ) (most k : ℕ) (begun : ℕ → ℕ) (ts : List Parts) (request : Option Request) (t : Parts) (m : List ℕ) (input : Option Input)
     → serve most k (counted_from begun 0 ts) request (recounted b t) m input ≡ step_recounted b (serve most k ts request t m input)
 unfolding serve

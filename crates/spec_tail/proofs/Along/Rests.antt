@@ -51,6 +51,7 @@ pub record IsArranged (log : LogParts) : Type 0 where
   pub each : (zs : List ℕ) → log.sizes ≡ Sizes.Each zs → (log.mode ≡ ModeName.OrderSize) × (length zs ≡ length log.order)
   pub rising : Rising log.interrupts
 
+-- every log has as many sizes as actors if each commit has one, and its interrupts rise
 pub arranged-of : (log : LogParts) → IsLog log → IsArranged log
 arranged-of log is =
     record {

@@ -37,6 +37,7 @@ use Rattle.spec_tail.proofs.Along.Recounted.{recounted, either, run_recounted, r
 abbrev pub Covers : (begun : ℕ → ℕ) → List Parts → Type 0
 Covers begun ts = (k : ℕ) → length ts ≤ k → begun k ≡ 0
 
+-- all that is used of each kind: what was used before, and what has been used since
 abbrev pub after : (before u : Used) → Used
 after b u = record { inputs = b.inputs + u.inputs; interrupts = b.interrupts + u.interrupts; dmas = b.dmas + u.dmas }
 
@@ -56,6 +57,7 @@ pub record IsAlike (log rest : LogParts) (base : ℕ) (begun : ℕ → ℕ) (bef
 
 -- ---- the plays
 
+-- the progress with its first commit so many positions later
 abbrev pub progress_lifted : (base : ℕ) → Progress → Progress
 progress_lifted base p = record p { first = base + p.first }
 
@@ -77,6 +79,7 @@ pub record IsFit (rest : LogParts) (begun : ℕ → ℕ) (w : Played) : Type 0 w
 
 -- ---- threads
 
+-- a thread may be set before or after all are recounted, with the same result
 pub set-counted : (begun : ℕ → ℕ) (j : ℕ) (ts : List Parts) (k : ℕ) (t : Parts) → slice_set (counted_from begun j ts) k (recounted (begun (j + k)) t) ≡ counted_from begun j (slice_set ts k t)
 set-counted begun j [] k t = refl
 set-counted begun j (u ∷ ts) zero t =
@@ -96,6 +99,7 @@ new-counted begun j (t ∷ ts) none =
     ap (λ (u : Parts). u ∷ counted_from begun (suc j) ts) (recounted-none (begun j) t (none j (omega arith)))
     ∙ ap (λ (us : List Parts). t ∷ us) (new-counted begun (suc j) ts (λ k l. none k (omega (arith, l))))
 
+-- threads appended after the base keep their own counts when the others are recounted
 pub append-counted : (begun : ℕ → ℕ) (j : ℕ) (ts us : List Parts) → ((k : ℕ) → j + length ts ≤ k → begun k ≡ 0) → counted_from begun j (ts ++ us) ≡ counted_from begun j ts ++ us
 append-counted begun j [] us none = new-counted begun j us (λ k l. none k (omega (arith, l)))
 append-counted begun j (t ∷ ts) us none =
@@ -103,6 +107,7 @@ append-counted begun j (t ∷ ts) us none =
 
 -- ---- one commit
 
+-- adding the same number to both sides doesn't change which is less
 pub ltb-shift : (b i n : ℕ) → nat_lt (b + i) (b + n) ≡ nat_lt i n
 ltb-shift b i n =
     elim (cases_lt i n) [
@@ -110,9 +115,11 @@ ltb-shift b i n =
       | inr most ↦ le-ltb (b + i) (b + n) (omega (arith, most)) ∙ sym (le-ltb i n most)
     ]
 
+-- if the first commit is so many positions later, so is the position of the progress
 pub position-lifted : (base : ℕ) (p : Progress) → position (progress_lifted base p) ≡ base + position p
 position-lifted base p = omega arith
 
+-- a play that ends so many positions later ends in the same way there
 pub end-lifted : (base i : ℕ) (left : Bool) → at_end (base + i) left ≡ turn_from base (at_end i left)
 end-lifted base i true = refl
 end-lifted base i false = refl
@@ -122,12 +129,14 @@ thread-turn-lifted base i k b None = refl
 thread-turn-lifted base i k b (Some t) =
     either (turn_from base) (is_live t) (Turn k) (Ended (End.Diverged i Why.NoThread)) (Turn k) (Ended (End.Diverged (base + i) Why.NoThread)) refl refl
 
+-- the turn of an actor is the same so many positions later, with commits counted from elsewhere
 pub turn-lifted : (base i : ℕ) (begun : ℕ → ℕ) (ts : List Parts) (o : Option Actor) → turn_of (base + i) (counted_from begun 0 ts) o ≡ turn_from base (turn_of i ts o)
 turn-lifted base i begun ts None = refl
 turn-lifted base i begun ts (Some Actor.Dma) = refl
 turn-lifted base i begun ts (Some (Actor.Thread k)) =
     ap (turn_of_thread (base + i) k) (get-counted begun 0 ts k) ∙ thread-turn-lifted base i k (begun (0 + k)) (slice_get ts k)
 
+-- the same effect of a commit, with its thread at so many commits more
 abbrev pub effect_recounted : (before : ℕ) → Effect → Effect
 effect_recounted b e = record e { thread = recounted b e.thread }
 

@@ -8,6 +8,7 @@ use Rattle.spec_log.specs.Log.{ComesBefore}
 use Rattle.spec_play.specs.Verdicts.{interrupt_at}
 use Rattle.spec_isa.specs.Encoding.{bit}
 
+-- how many entries of a list pass a test
 abbrev pub tally : {X : Type 0} → (X → Bool) → List X → ℕ
 tally p [] = 0
 tally p (x ∷ xs) = bit (p x) + tally p xs
@@ -16,6 +17,7 @@ filter-first : {X : Type 0} (b : Bool) (x : X) (xs : List X) → length (cond b 
 filter-first true x xs = omega arith
 filter-first false x xs = omega arith
 
+-- a filter keeps as many entries as pass its test
 pub length-filter : {X : Type 0} (p : X → Bool) (xs : List X) → length (filter p xs) ≡ tally p xs
 length-filter p [] = refl
 length-filter p (x ∷ xs) = filter-first (p x) x (filter p xs) ∙ ap (λ (n : ℕ). bit (p x) + n) (length-filter p xs)
@@ -33,14 +35,17 @@ tally-both p q r s (x ∷ xs) same =
     let rest = tally-both p q r s xs same.1 in
     omega (arith, one, rest)
 
+-- a test that everything passes counts all entries of a list
 pub tally-all : {X : Type 0} (xs : List X) → tally (λ x. true) xs ≡ length xs
 tally-all [] = refl
 tally-all (x ∷ xs) = let h = tally-all xs in omega (arith, h)
 
+-- a test that nothing passes counts no entry of a list
 pub tally-none : {X : Type 0} (xs : List X) → tally (λ x. false) xs ≡ 0
 tally-none [] = refl
 tally-none (x ∷ xs) = let h = tally-none xs in omega (arith, h)
 
+-- two tests that agree on each entry count the same number of entries
 pub tally-same : {X : Type 0} (p q : X → Bool) (xs : List X) → Each (λ x. p x ≡ q x) xs → tally p xs ≡ tally q xs
 tally-same p q [] same = refl
 tally-same p q (x ∷ xs) same =
@@ -52,6 +57,7 @@ bit-most : (b : Bool) → bit b ≤ 1
 bit-most true = omega arith
 bit-most false = omega arith
 
+-- no more entries pass a test than the list has
 pub tally-most : {X : Type 0} (p : X → Bool) (xs : List X) → tally p xs ≤ length xs
 tally-most p [] = omega arith
 tally-most p (x ∷ xs) = let one = bit-most (p x) in let rest = tally-most p xs in omega (arith, one, rest)
@@ -66,20 +72,24 @@ tally-each p (x ∷ xs) all =
       | inr no_ ↦ (let one = ap bit no_ in absurd (omega (arith, one, all, most)))
     ]
 
+-- if one fact implies another and holds of each entry, the other does too
 pub each-map : {X : Type 0} (P Q : X → Type 0) (xs : List X) → ((x : X) → P x → Q x) → Each P xs → Each Q xs
 each-map P Q [] f all = tt
 each-map P Q (x ∷ xs) f all = (f x all.0, each-map P Q xs f all.1)
 
+-- what holds of everything holds of each entry of a list
 pub each-one : {X : Type 0} (P : X → Type 0) (xs : List X) → ((x : X) → P x) → Each P xs
 each-one P [] f = tt
 each-one P (x ∷ xs) f = (f x, each-one P xs f)
 
 -- ---- the interrupts at one commit
 
+-- 1 if there is a value, 0 if there is none
 abbrev pub number : Option ℕ → ℕ
 number None = 0
 number (Some value) = 1
 
+-- whether an interrupt is logged for this thread after this many of its commits
 abbrev pub is_at : (thread index : ℕ) → Interrupt → Bool
 is_at k n x = nat_eq x.thread k && nat_eq x.index n
 
@@ -111,6 +121,7 @@ before-rest x (y ∷ ys) next =
     let one : Before x y = subst (λ (n : ℕ). Before x (get_or (x ∷ y ∷ ys) n x)) h (next 0 x (omega arith)) in
     (one, each-map (Before y) (Before x) ys (λ z b. before-trans x y z one b) (before-rest y ys (adjacent-rest x (y ∷ ys) next)))
 
+-- if each interrupt comes before the next, each comes before all later ones
 pub rising-of : (xs : List Interrupt) → AllAdjacentBelow Before xs (length xs) → Rising xs
 rising-of [] next = tt
 rising-of (x ∷ xs) next = (before-rest x xs next, rising-of xs (adjacent-rest x xs next))
