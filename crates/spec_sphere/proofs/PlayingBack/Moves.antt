@@ -66,7 +66,7 @@ grown_trans p q r plog qlog rlog a b =
 
 -- ---- a commit of a thread
 
--- a sphere and its log grow by a thread's commit, if a play that follows them does it too
+-- a sphere and its log grow by a thread's commit, if plays that follow them do it too
 pub commit_grown : (c : ThreadCommit) (p q : Sphere) (log qlog : LogParts) (e : Effect) → HasCommitted c p q log qlog
     → ((L : LogParts) (y : Played) → Stands p log → Ahead L p log → Ahead L q qlog → Follows L p log y → Effects L c p q qlog y e) → Grown p q log qlog
 commit_grown c p q log qlog e d effects =

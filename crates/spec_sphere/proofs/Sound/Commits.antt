@@ -69,7 +69,7 @@ inserted-length xs i x =
     let whole = sym (length-append (take i xs) (drop i xs)) ∙ ap length (take-append-drop i xs) in
     omega (arith, l, whole)
 
--- with or without strata a thread's commit makes the sphere's number of commits one more
+-- with or without strata a thread's commit adds one to the sphere's number of commits
 pub commit-position : (o : Option Standing) (k : ℕ) (e : Effect) (p : Progress) → position (with_commit o k e p) ≡ suc (position p)
 commit-position None k e p = next-position k e p
 commit-position (Some x) k e p = let l = inserted-length p.commits (place_of k x) e.commit in omega (arith, l)
