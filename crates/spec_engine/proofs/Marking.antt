@@ -12,6 +12,7 @@ use Rattle.spec_engine.specs.Signatures.{Signature, low_place, high_place, nothi
 abbrev both : set.FinSet nat_cmp → set.FinSet nat_cmp → ℕ → Bool
 both s t p = set.contains s p && set.contains t p
 
+-- sets that don't meet have no place in common
 pub apart_at : (s t : set.FinSet nat_cmp) → meets s t ≡ false → (p : ℕ) → both s t p ≡ false
 unfolding meets
 apart_at s t e p =
@@ -90,9 +91,11 @@ hits_one g l = (λ i. one_low g.low (low_place g.bits l) i && one_low g.high (hi
 
 -- ---- whether two sets share a place, by one place at a time
 
+-- a set doesn't meet the empty set
 pub meets-empty : (s : set.FinSet nat_cmp) → meets s set.empty ≡ false
 meets-empty s = apart_from s set.empty (λ p. and_right (set.contains s p) (set.contains set.empty p) (contains-empty nat_cmp p))
 
+-- the empty set doesn't meet any set
 pub meets-empty_left : (s : set.FinSet nat_cmp) → meets set.empty s ≡ false
 meets-empty_left s = apart_from set.empty s (λ p. and_left (set.contains set.empty p) (set.contains s p) (contains-empty nat_cmp p))
 
@@ -106,6 +109,7 @@ apart_more s t k p lacks apart =
     other : (t : set.FinSet nat_cmp) (k p : ℕ) → p ≢ k → set.contains (set.insert t k) p ≡ set.contains t p
     other t k p ne = grind (members, rules)
 
+-- a set meets another with one more place exactly if it has the place or met the other
 pub meets-insert : (s t : set.FinSet nat_cmp) (k : ℕ) → meets s (set.insert t k) ≡ (set.contains s k || meets s t)
 meets-insert s t k =
     elim (cases_Bool (set.contains s k)) [
@@ -119,6 +123,7 @@ meets-insert s t k =
 meets_swap : (s t : set.FinSet nat_cmp) → meets s t ≡ true → meets t s ≡ true
 meets_swap s t = meets_more s t t s (λ p e. let h = and_parts (set.contains s p) (set.contains t p) e in and_from (set.contains t p) (set.contains s p) h.1 h.0)
 
+-- whether two sets meet doesn't depend on which is first
 pub meets-sym : (s t : set.FinSet nat_cmp) → meets s t ≡ meets t s
 meets-sym s t =
     elim (cases_Bool (meets s t)) [
@@ -126,5 +131,6 @@ meets-sym s t =
       | inr apart ↦ apart ∙ sym (false_from_ne_true (meets t s) (λ e. true≢false (sym (meets_swap t s e) ∙ apart)))
     ]
 
+-- a set with one more place meets another exactly if that has the place or they met before
 pub meets-insert_left : (s t : set.FinSet nat_cmp) (k : ℕ) → meets (set.insert s k) t ≡ (set.contains t k || meets s t)
 meets-insert_left s t k = meets-sym (set.insert s k) t ∙ meets-insert t s k ∙ ap (λ (b : Bool). set.contains t k || b) (meets-sym t s)

@@ -37,6 +37,7 @@ Apart-put (r ∷ rs) s apart =
 
 -- ---- words read through the stores
 
+-- a word that no store is to reads the same after the stores are laid over memory
 pub read_lays_lacking : (m : List ℕ) (ws : List Stored) (a : ℕ) → Lacks a ws → read (lays m ws) a ≡ read m a
 read_lays_lacking m [] a lacks = refl
 read_lays_lacking m (s ∷ ss) a lacks = read_lays_lacking (lay m s) ss a lacks.1 ∙ read_lay_other m s a (λ e. lacks.0 (sym e))

@@ -162,6 +162,7 @@ read_lay_at m s lt h =
       b3,
     ) refl
 
+-- in a memory of bytes a store's word reads as before, except for the store's bytes
 pub read_lay_same : (m : List ℕ) (s : Stored) → 4 * s.number + 3 < length m → IsBytes m → read (lay m s) s.number ≡ word_over s (read m s.number)
 read_lay_same m s lt h = read_lay_at m s lt (IsBytesAt-bytes m s.number h)
 

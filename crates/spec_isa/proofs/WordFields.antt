@@ -58,9 +58,11 @@ word_back w = omega arith
 pub immediate_back : (imm : ℕ) → imm % 2 ^ 5 + imm / 2 ^ 5 * 2 ^ 5 ≡ imm
 immediate_back imm = omega arith
 
+-- the lowest five bits of an immediate made of two parts are its first part
 pub immediate_low : (b h : ℕ) → b < 2 ^ 5 → (b + h * 2 ^ 5) % 2 ^ 5 ≡ b
 immediate_low b h fits = omega arith
 
+-- above its lowest five bits an immediate made of two parts is its second part
 pub immediate_high : (b h : ℕ) → b < 2 ^ 5 → (b + h * 2 ^ 5) / 2 ^ 5 ≡ h
 immediate_high b h fits = omega arith
 

@@ -24,6 +24,7 @@ full =
       dmas = record { position = 1; bytes = 0x41 ∷ 0xFF ∷ [] } ∷ [];
     }
 
+-- the bytes of this order-only log are read as the log itself
 pub read_of-full : read_of (log_bytes full) ≡ Ok full
 read_of-full = refl
 
@@ -42,12 +43,14 @@ sized =
       dmas = [];
     }
 
+-- the bytes of an order-size log without interrupts and records are read as the log itself
 pub read_of-sized : read_of (log_bytes sized) ≡ Ok sized
 read_of-sized = refl
 
 abbrev in_turn : LogParts
 in_turn = record sized { mode = Picolog; count = 2 ^ 24; order = []; sizes = Short [] }
 
+-- the bytes of a picolog log with the most commits are read as the log itself
 pub read_of-in_turn : read_of (log_bytes in_turn) ≡ Ok in_turn
 read_of-in_turn = refl
 
@@ -163,6 +166,7 @@ read_of-unsorted_interrupts = refl
 abbrev full_in_2 : LogParts
 full_in_2 = record full { version = 2 }
 
+-- the bytes of this log in version 2 are read as the log itself
 pub read_of-full_in_2 : read_of (log_bytes full_in_2) ≡ Ok full_in_2
 read_of-full_in_2 = refl
 
@@ -181,6 +185,7 @@ many =
       dmas = record { position = 1; bytes = [] } ∷ [];
     }
 
+-- the bytes of a log that may have 63 threads are read as the log itself
 pub read_of-many : read_of (log_bytes many) ≡ Ok many
 read_of-many = refl
 

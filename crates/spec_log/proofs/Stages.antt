@@ -29,6 +29,7 @@ put-turns found reading put bytes x good e =
 
 -- ---- stages
 
+-- a stage that is read once finds what its reader finds
 pub once-turns : {D : Type 0} (known found : D → Type 0) (one : D → Reader D) → Turns known found one → Turns known found (staged (once one))
 once-turns known found one turns d bytes at x k e =
     let r = then-read (one d bytes at) (λ y after. gives y bytes after) x e in
@@ -40,6 +41,7 @@ repeated-keeps known one keeps (suc n) d bytes at x k e =
     let r = then-read (one d bytes at) (λ y after. repeated one n y bytes after) x e in
     repeated-keeps known one keeps n r.0.value bytes r.0.after x (keeps d bytes at r.0 k r.1) r.2
 
+-- what is known of a draft is kept by a stage if each reading of it keeps that
 pub staged-keeps : {D : Type 0} (known : D → Type 0) (stage : Stage D) → Turns known known stage.one → Turns known known (staged stage)
 staged-keeps known stage keeps d bytes at x k e =
     let r = then-read (stage.times d bytes at) (λ n after. repeated stage.one n d bytes after) x e in
@@ -58,14 +60,17 @@ all-turned known d bytes at x k e = given known (record { value = d; after = at 
 
 -- ---- a field in a range
 
+-- if a value was read under a test, the test holds and the value is unchanged
 pub passed : {X : Type 0} (good : Bool) (fault start : ℕ) (n : X) (bytes : List ℕ) (at : ℕ) (x : Read X) → passes good fault start n bytes at ≡ Ok x → (good ≡ true) × (n ≡ x.value)
 passed true fault start n bytes at x e = (refl, ap (λ (z : Read _). z.value) (same-read (record { value = n; after = at }) x e))
 passed false fault start n bytes at x e = absurd cc
 
+-- if two tests hold together, the first one holds
 pub and-first : (a b : Bool) → (a && b) ≡ true → a ≡ true
 and-first true b e = refl
 and-first false b e = e
 
+-- a number read from a field of four bytes is at least the lowest of its range
 pub field-low : (low most : ℕ) (bytes : List ℕ) (at : ℕ) (x : Read ℕ) → field 4 (from_to low most) bytes at ≡ Ok x → low ≤ x.value
 field-low low most bytes at x e =
     let four = then-read (raw 4 bytes at) (λ four after. passes (from_to low most (number_of four)) 5 at (number_of four) bytes after) x e in

@@ -129,6 +129,7 @@ pub record ArePlayed : Type 0 where
   pub goes_on : (play goes_on_log exits_code 0).now ≡ Ended (End.Diverged 2 Why.NoThread)
   pub none_live : (play none_live_log exits_code 0).now ≡ Ended (End.Diverged 2 Why.NoThread)
 
+-- each of these plays is complete, or diverges for the reason that its log was made for
 pub plays_end : ArePlayed
 unfolding serial_of loads_of next_of load_of store_of one lay read merged answer called bytes_put random_bytes random_after next_kind next_operation need fits serve console_written play_one dma_verdict has_left_over now_at chunk_verdict serial_verdict
 plays_end =
@@ -172,6 +173,7 @@ pub record AreWalked : Type 0 where
   pub before_short : how_walked short_log exits_code 0 ≡ WalkEnd.Reached 0
   pub at_short : how_walked short_log exits_code 1 ≡ WalkEnd.Ended (End.Diverged 0 (Why.Short 3 2))
 
+-- each of these walks reaches its number, or ends as the play does if that ends by then
 pub walks_end : AreWalked
 unfolding serial_of loads_of next_of load_of store_of one lay read merged answer called bytes_put random_bytes random_after next_kind next_operation need fits serve console_written play_one dma_verdict has_left_over now_at chunk_verdict serial_verdict
 walks_end =

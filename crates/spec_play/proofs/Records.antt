@@ -88,6 +88,7 @@ pub record AreRead : Type 0 where
   pub short_before_interrupt : (play (of_two (3 ∷ 0 ∷ []) (interrupt_after 1 ∷ [])) exits_code 0).now ≡ Ended (End.Diverged 0 (Why.Short 3 2))
   pub not_serial_before_interrupt : (play (of_two (0 ∷ 0 ∷ []) (interrupt_after 1 ∷ [])) exits_code 0).now ≡ Ended (End.Diverged 0 Why.NotSerial)
 
+-- each of these plays takes its DMAs, interrupts and inputs, or diverges at the first wrong one
 pub records_are_read : AreRead
 unfolding serial_of loads_of next_of load_of store_of one lay read merged answer called bytes_put random_bytes random_after next_kind next_operation need fits serve console_written play_one dma_verdict has_left_over now_at chunk_verdict serial_verdict
 records_are_read =

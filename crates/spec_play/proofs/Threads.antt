@@ -107,6 +107,7 @@ dma_keeps size None t =
     either_call (CallKeeps t) (is_dma_buffer size (a0 t) (cut (a1 t))) (gives q t 0) (gives None t bad_buffer) (gives_keeps q t 0) (gives_keeps None t bad_buffer)
 dma_keeps size (Some request) t = record { commits = refl; fresh = tt }
 
+-- a conditional value has a property if each branch has it in the case that picks it
 pub branch : {A : Type 0} (P : A → Type 0) (b : Bool) (x y : A) → (b ≡ true → P x) → (b ≡ false → P y) → P (cond b x y)
 branch P true x y p q = p refl
 branch P false x y p q = q refl

@@ -11,6 +11,7 @@ least_within : (count first last : ℕ) (i : Interval) → min first count ≤ m
 least_within count first last i order e =
     subst (IsWithin count) (same_interval (within count first last) i e) (record { order = order; most = omega arith })
 
+-- an interval that a plan asks for in order is in order and within the log
 pub intervals_are_within : IntervalsAreWithin
 intervals_are_within None None count i ordered e = cc
 intervals_are_within None (Some to) count i ordered e = least_within count 0 to i (omega arith) e

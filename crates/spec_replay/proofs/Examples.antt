@@ -71,10 +71,12 @@ replay log = replay_of (all_of log)
 abbrev replay_in : LogParts → (first last : ℕ) → World
 replay_in log first last = replay_of (record { log = log; interval = Some (record { first = first; last = last }); strata = None })
 
+-- what these events answer one after another, from this world on
 abbrev pub replies : World → List Event → List Reply
 replies w [] = []
 replies w (e ∷ es) = let a = happens w e in a.reply ∷ replies a.world es
 
+-- whose turn it is in a replay, or how it has ended
 abbrev pub now_in : Role → Option TurnOrEnd
 now_in Plain = None
 now_in (Record recording) = None
@@ -84,6 +86,7 @@ now_in (Replay b) = Some b.now
 abbrev pub now_after : World → List Event → Option TurnOrEnd
 now_after w es = now_in (sphere_at (world_after w es) 0).role
 
+-- the commits that the first sphere has done after these events
 abbrev pub commits_after : World → List Event → List Commit
 commits_after w es = (sphere_at (world_after w es) 0).progress.commits
 
@@ -222,6 +225,7 @@ pub record AreReplayed : Type 0 where
   pub before_now : now_after (replay_in longer_log 1 2) [] ≡ Some (Ended (End.Diverged 0 (Why.Short 3 2)))
   pub before_next : next (replay_in longer_log 1 2) ≡ None
 
+-- these replays answer their events so, and have these commits and this turn or end after them
 pub replays_end : AreReplayed
 unfolding serial_of loads_of next_of load_of store_of one lay read merged answer called bytes_put random_bytes random_after next_kind next_operation need fits serve console_written play_one dma_verdict has_left_over now_at chunk_verdict serial_verdict on_option choose at_limit reading storing loading running step first_slot free_slot meets grant_chunk grant_serial asking chunk_moved serial_moved dma_moved raised next draining delivering retiring act happens placing raising do_point shown head_of turn_against limit_of stepping cutting transfer transferring
 replays_end =

@@ -120,6 +120,7 @@ pub record AreInStrata : Type 0 where
       ≡ (play (canonical strata) code 0).progress.commits
   pub ended_play : (play (canonical strata) code 0).now ≡ Ended (End.Complete 6)
 
+-- the replay in strata is complete, with the commits of its log's play in canonical order
 pub strata_end : AreInStrata
 unfolding serial_of loads_of next_of load_of store_of one lay read merged answer called bytes_put random_bytes random_after next_kind next_operation need fits serve console_written play_one dma_verdict has_left_over now_at chunk_verdict serial_verdict on_option choose at_limit reading storing loading running step first_slot free_slot meets grant_chunk grant_serial asking chunk_moved serial_moved dma_moved raised next draining delivering retiring act happens placing raising do_point shown head_of turn_against limit_of stepping cutting transfer transferring
 strata_end =

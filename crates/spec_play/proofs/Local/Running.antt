@@ -67,12 +67,14 @@ kind_is : (t : Parts) (m : List ℕ) → next_kind t m ≡ serial_of t (fetched 
 unfolding next_kind
 kind_is t m = refl
 
+-- whether and why the fetched instruction is serial is the same on memories that agree on its words
 pub serial_local : (seen : ℕ → Bool) (t : Parts) (m n : List ℕ) → Agree seen m n → Touches seen t m → serial_of t (fetched t n) (length n) ≡ serial_of t (fetched t m) (length m)
 serial_local seen t m n g touches =
     by_inside (is_inside (length m) t.pc)
     (λ e. let f : fetched t n ≡ fetched t m = Agree-read seen m n (t.pc / 4) g (touches.fetch e) in (λ i. serial_of t (f i) (g.size i)))
     (λ e. outside_serial t (fetched t n) (length n) (ap (λ (k : ℕ). is_inside k t.pc) g.size ∙ e) ∙ sym (outside_serial t (fetched t m) (length m) e))
 
+-- a thread's next instruction is of the same kind on memories that agree on what it looks at
 pub kind_local : (seen : ℕ → Bool) (t : Parts) (m n : List ℕ) → Agree seen m n → Touches seen t m → next_kind t n ≡ next_kind t m
 kind_local seen t m n g touches = kind_is t n ∙ serial_local seen t m n g touches ∙ sym (kind_is t m)
 
@@ -84,6 +86,7 @@ unless_serial (Some k) u load store kind e = let h : k ≡ kind = cc in ap Some 
 pub one_serial : (t : Parts) (m : List ℕ) (kind : Kind) → one t m ≡ Serial kind → next_kind t m ≡ Some kind
 one_serial t m kind e = kind_is t m ∙ unless_serial _ _ _ _ kind (sym (one-outcome t m) ∙ e)
 
+-- an instruction that isn't serial is fetched as the same word from memories that agree on it
 pub fetched_local : (seen : ℕ → Bool) (t : Parts) (m n : List ℕ) → Agree seen m n → Touches seen t m → serial_of t (fetched t n) (length n) ≡ None → fetched t n ≡ fetched t m
 fetched_local seen t m n g touches none =
     by_inside (is_inside (length m) t.pc)
@@ -92,6 +95,7 @@ fetched_local seen t m n g touches none =
 
 -- ---- a run
 
+-- a run is the same on memories that agree on all the words that it fetches and loads
 pub run_local : (seen : ℕ → Bool) (m n : List ℕ) (t : Parts) (k : ℕ) → Agree seen m n → RunTouches seen m t k → run n t k ≡ run m t k
 run_local seen m n t zero g touches = refl
 run_local seen m n t (suc k) g touches =

@@ -33,6 +33,7 @@ younger_in z n Plain h None = refl
 younger_in z n (Record recording) h None = refl
 younger_in z n (Replay b) h None = refl
 
+-- a core's younger chunk, held or begun afresh, is the same if the role has forgotten
 pub younger-without : (z : Numbers) (n : ℕ) (r : Role) (h : Occupant) → younger_for z (role_without n r) h h.younger ≡ younger_for z r h h.younger
 younger-without z n r h = younger_in z n r h h.younger
 
@@ -47,5 +48,6 @@ afresh_in z i k m ts g (Replay b) (Some t) = refl
 pub thread_afresh-forgotten : (z : Numbers) (i k : ℕ) (p : Sphere) (o : Option Parts) → thread_afresh z i k (forgotten p) o ≡ thread_afresh z i k p o
 thread_afresh-forgotten z i k p o = afresh_in z i k p.memory p.threads p.progress p.role o
 
+-- a core takes a thread in the same way from a sphere that has forgotten
 pub held_afresh-forgotten : (z : Numbers) (i k : ℕ) (p : Sphere) → held_afresh z i k (forgotten p) ≡ held_afresh z i k p
 held_afresh-forgotten z i k p = thread_afresh-forgotten z i k p (slice_get p.threads k)

@@ -104,6 +104,7 @@ pub record AreAbandoned : Type 0 where
       ∷ Reply.Granted ∷ Reply.Ran ∷ Reply.Closed How.Cut ∷ Reply.Ran ∷ Reply.Placed ∷ Reply.NotClosed ∷ Reply.Ran
       ∷ Reply.Ran ∷ []
 
+-- chunks have limits of their own, and are abandoned by a raise, a logged interrupt or a place
 pub abandoned : AreAbandoned
 unfolding serial_of loads_of next_of load_of store_of one lay read merged answer called bytes_put random_bytes random_after next_kind next_operation need fits serve console_written play_one dma_verdict has_left_over now_at chunk_verdict serial_verdict on_option choose at_limit reading storing loading running step first_slot free_slot meets grant_chunk grant_serial asking chunk_moved serial_moved dma_moved raised next draining delivering retiring act happens placing raising do_point shown head_of turn_against limit_of limit_after stepping cutting transfer transferring
 abandoned = record { limits = refl; by_raise = refl; by_the_log = refl; by_place = refl }

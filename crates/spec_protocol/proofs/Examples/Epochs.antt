@@ -140,6 +140,7 @@ pub record AreKept : Type 0 where
   pub base_one : base_of 6 2 1 ≡ 6
   pub base_all : base_of 6 2 4 ≡ 0
 
+-- one or two epochs are kept, each with its own commits, interrupts and short sizes
 pub epochs_kept : AreKept
 unfolding serial_of loads_of next_of load_of store_of one lay read merged answer called next_kind next_operation need fits serve console_written on_option choose at_limit reading storing loading running step first_slot free_slot meets grant_chunk grant_serial asking chunk_moved serial_moved raised act happens raising do_point head_of turn_against limit_of stepping cutting epoch_begun epochs_begun
 epochs_kept =
@@ -175,6 +176,7 @@ pub record AreTold : Type 0 where
   pub shorts_four : short_ones (told_since 4).sizes ≡ []
   pub count_four : (told_since 4).count ≡ 0
 
+-- the points since a kept epoch's beginning tell the same interrupts, short sizes and count
 pub epochs_told : AreTold
 unfolding serial_of loads_of next_of load_of store_of one lay read merged answer called next_kind next_operation need fits serve console_written chunk_moved serial_moved raised do_point
 epochs_told =

@@ -115,6 +115,7 @@ pub record RunIntervals : Type 0 where
   -- but not if the interval ends there
   short_of_it : place (start (bad 1 1)) ≡ record { first = 1; commits = 0; now = Some (Ended (End.At 1)) }
 
+-- each of these replays begins, goes on and ends with its interval, or diverges as the play does
 pub run_intervals : RunIntervals
 unfolding serial_of loads_of next_of load_of store_of one lay read merged answer called bytes_put random_bytes random_after next_kind next_operation need fits serve console_written play_one dma_verdict has_left_over now_at chunk_verdict serial_verdict on_option choose at_limit reading storing loading running step first_slot free_slot meets grant_chunk grant_serial asking chunk_moved serial_moved dma_moved raised next draining delivering retiring act happens placing raising do_point shown head_of turn_against limit_of limit_after stepping cutting transfer transferring
 run_intervals =

@@ -99,6 +99,7 @@ pub record RunTwoChunks : Type 0 where
   pub serial : replies (world_of (exits 2)) (Event.Step 0 ∷ Event.Step 0 ∷ Event.Step 0 ∷ Event.Step 0 ∷ [])
       ≡ Reply.Ran ∷ Reply.Ran ∷ Reply.Closed How.Serial ∷ Reply.Waiting ∷ []
 
+-- a core that may have two chunks runs and commits both, and waits if none may follow
 pub two_chunks : RunTwoChunks
 unfolding serial_of loads_of next_of load_of store_of one lay read merged answer called bytes_put random_bytes random_after next_kind next_operation need fits serve console_written play_one dma_verdict has_left_over now_at chunk_verdict serial_verdict on_option choose at_limit reading storing loading running step first_slot free_slot meets grant_chunk grant_serial asking chunk_moved serial_moved dma_moved raised next draining delivering retiring act happens placing raising do_point shown head_of turn_against limit_of limit_after stepping cutting transfer transferring
 two_chunks = record { two = refl; sizes = refl; one = refl; back = refl; loaded = refl; piece = refl; serial = refl }

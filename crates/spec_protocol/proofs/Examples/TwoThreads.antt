@@ -86,6 +86,7 @@ pub record AreNoted : Type 0 where
       ∷ Actor.Dma ∷ Actor.Thread 1 ∷ Actor.Thread 0 ∷ []
   pub fails : given (played ModeName.Picolog) ≡ Some 1 ∷ Some 0 ∷ []
 
+-- in each mode the points tell a log of these bytes, and in picolog its play is complete
 pub logs_noted : AreNoted
 unfolding serial_of loads_of next_of load_of store_of one lay read merged answer called bytes_put next_kind next_operation need fits serve console_written play_one dma_verdict has_left_over now_at chunk_verdict serial_verdict chunk_moved serial_moved dma_moved do_point
 logs_noted = record { sized = refl; unsized = refl; in_turn = refl; complete = refl; turns = refl; fails = refl }

@@ -85,6 +85,7 @@ chunk_lacks w c h good held none =
     (apart-covered h.chunk.sphere f.writes h.chunk.writes f.words h.chunk.done.words (held.chunk.writes_size ∙ sym cov.size) (subst (λ (n : ℕ). CoversWords n f.writes f.words) same cov.words) held.chunk.writes
     (never_hits w h.chunk none k f is).1))
 
+-- a core's chunk that no flight hits comes out the same on the sphere's current memory
 pub chunk_live : (w : World) (c : ℕ) (h : Occupant) → IsGoodHeld w c h → first_slot (meets_chunk h.chunk.reads h.chunk.writes) w.slots ≡ None → IsCurrent (current w h.chunk.sphere) h.chunk
 chunk_live w c h held none = held.chunk.live (record { misses = λ k f is same untold. (never_hits w h.chunk none k f is).0 })
 

@@ -33,6 +33,7 @@ use Rattle.spec_play.proofs.Threads.{branch}
 
 -- ---- a request that is granted, or diverges
 
+-- the flight of the words that a core's granted request stores, told to that core alone
 abbrev pub request_flight : World → (core : ℕ) → CommitRequest → Signature → MovedSphere → Flight
 request_flight w c q writes v = record { sphere = q.sphere; words = v.words; writes = writes; told = 2 ^ c }
 

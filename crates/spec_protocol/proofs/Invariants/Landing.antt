@@ -32,6 +32,7 @@ use Rattle.spec_protocol.specs.promises.Invariants.{IsFlightCovered, IsGoodChunk
 
 -- ---- a chunk at its beginning
 
+-- a new chunk may run at least one instruction, if the standard size is above 0
 pub limit-positive : (s : ℕ) (role : Role) (k : ℕ) (t : Parts) → 0 < s → 0 < limit_of s role k t
 unfolding limit_of
 limit-positive s Plain k t positive = positive

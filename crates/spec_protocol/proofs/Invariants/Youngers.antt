@@ -297,6 +297,7 @@ hit-outcome w c k h y x =
     ∙ ap (λ (b : Bool). after_ (record { reply = Deliver.Delivered; slot = slot }) b) (ap (hits_younger (Some f)) x.younger ∙ x.hits)
     ∙ ap (λ (o : Option Chunk). answered (with_core (with_slot w k slot) c (Some (record h { younger = option_map squash o }))) Reply.Squashed) x.younger
 
+-- a flight that hits only the younger chunk makes it begin again; the older stays as it is
 pub hits_spare : HitsSpareTheOlder
 unfolding happens act
 hits_spare w c k h y x =
@@ -455,6 +456,7 @@ module _ (w : World) (d : ℕ) (h : Occupant) (y : Chunk) (good : IsGood w) (is 
   unfolding happens
   as-asked c a = a
 
+-- after a granted ask the younger chunk is kept exactly if no interrupt of a log was taken
 pub interrupts_abandon : InterruptsAbandon
 interrupts_abandon s es c h y setup is younger =
     let w = after s es in

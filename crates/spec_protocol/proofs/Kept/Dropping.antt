@@ -28,6 +28,7 @@ use Rattle.spec_sphere.proofs.PlayingBack.Moves.{recorded_dma}
 abbrev pub cut_at : (b : ℕ) → Progress → Progress
 cut_at b g = record g { first = b; commits = drop b g.commits }
 
+-- a recorded sphere with this memory, these threads, this progress and this recording
 abbrev pub recorded_so : (m : List ℕ) → List Parts → Progress → Recording → Sphere
 recorded_so m ts g r = record { memory = m; threads = ts; progress = g; role = Record r }
 

@@ -81,6 +81,7 @@ words-other i f ne = ap (λ (b : Bool). cond b f.words []) (ne_eqb f.sphere i ne
 
 -- ---- a new flight
 
+-- if the slots aren't full, one of them is free
 pub free_if : (xs : List (Option Flight)) → is_full xs ≡ false → (k : ℕ) × (free_slot xs ≡ Some k)
 free_if xs e =
     elim (free_slot xs) as (λ (o : Option ℕ). is_none o ≡ false → (k : ℕ) × (o ≡ Some k)) [
@@ -94,6 +95,7 @@ pub record Filled (xs ys : List (Option Flight)) (f : Flight) (k : ℕ) : Type 0
   pub free : at xs k ≡ None
   pub is : ys ≡ set xs k (Some f)
 
+-- if the slots aren't full, a new flight goes into a free one and the others stay
 pub fill-filled : (xs : List (Option Flight)) (f : Flight) → is_full xs ≡ false → (k : ℕ) × Filled xs (fill f xs) f k
 fill-filled xs f e =
     let s = free_if xs e in (

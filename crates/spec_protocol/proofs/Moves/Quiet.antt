@@ -71,6 +71,7 @@ is_quiet (Event.Place c i k) = true
 is_quiet (Event.Raise i k value) = false
 is_quiet (Event.Dma i) = false
 
+-- an event that is no ask, raise or DMA makes no point
 pub quiet-act : (w : World) (e : Event) → is_quiet e ≡ true → (act w e).point ≡ None
 unfolding act stepping cutting draining delivering retiring placing
 quiet-act w (Event.Step c) q = step_quiet w (core_no w c) (at w.cores (core_no w c))

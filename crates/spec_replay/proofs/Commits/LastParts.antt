@@ -38,6 +38,7 @@ play_says log y k t size = chunk_verdict log y.progress y.used k (run y.memory t
 turn_says : (log : LogParts) (y : Played) (k : ℕ) (t : Parts) (n : ℕ) → 0 < n → (run y.memory t n).n ≡ n → thread_verdict log y k t (next_kind t y.memory) ≡ play_says log y k t (size_or_standard log k t.commits)
 turn_says log y k t n some ran = ap (thread_verdict log y k t) (run-first y.memory t n some ran)
 
+-- a chunk that closes as a piece isn't closed by its limit
 pub not_limit : (how : How) → is_piece how ≡ true → how ≢ How.Limit
 not_limit How.Limit e = absurd (true≢false (sym e))
 not_limit How.Serial e = absurd (true≢false (sym e))

@@ -49,5 +49,6 @@ replays_reach image asked s es i p r none =
     (λ x j q is reaches moment what fits. what-stands asked start x j q c is reaches s.numbers moment what fits)
     (start_reaches asked s.numbers.s image r.standard none r.replays) r.shown
 
+-- after every schedule a sphere replayed without strata has followed its log's play
 pub replays_follow : ReplaysArePlays
 replays_follow image asked s es i p r none = (replays_reach image asked s es i p r none).follows

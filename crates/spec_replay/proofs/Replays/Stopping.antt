@@ -39,6 +39,7 @@ pub record Reached (asked : ReplaySetup) (start : Played) (p : Sphere) (b : Curs
   pub here : IsAt asked (plays asked.log start (done_in p)) p b
   pub within : done_in p ≤ commits_of asked
 
+-- a replay that reaches its log's play is at the play after its own number of commits
 pub reached : (asked : ReplaySetup) (start : Played) (p : Sphere) (b : Cursor) → IsStart asked start → p.role ≡ Replay b → Reaches asked start p → Reached asked start p b
 reached asked start p b from role r =
     record { from = from; here = is_at asked (plays asked.log start (done_in p)) p b role r.follows; within = r.within }

@@ -42,6 +42,7 @@ pub record AreAsked (v : StrataParts) (image : SphereSetup) : Type 0 where
   pub some : HaveSome v.strata
   pub goes : GoesThrough (canonical v) (opened_by v image) v.strata
 
+-- strata that can be replayed on an image aren't empty, and the play goes through them
 pub are-asked : (v : StrataParts) (image : SphereSetup) → AreReplayable image.memory image.entry (in_strata v) → AreAsked v image
 are-asked v image a =
     let w : StrataParts = a.strata in
@@ -109,5 +110,6 @@ strata_reach image v s es i p r =
     after-stands (ComesTo v image) image s es i p r.setup r.there (strata-keep v image r.standard s.numbers r.setup.buffer)
     (start-comes v image s.numbers.s (are-asked v image r.strata) r.replays) r.shown
 
+-- after every schedule a sphere replayed in strata has come as far as its cursor says
 pub strata_follow : StrataAreFollowed
 strata_follow image v s es i p r = follows-in v image p (strata_reach image v s es i p r)

@@ -59,6 +59,7 @@ begun-none (Dma ∷ xs) j = refl
 
 -- ---- plays
 
+-- n + m commits of a play are n of them, and then m more
 pub plays-more : (log : LogParts) (y : Played) (n m : ℕ) → plays log y (n + m) ≡ plays log (plays log y n) m
 plays-more log y n zero = let e : n + 0 ≡ n = omega arith in ap (plays log y) e
 plays-more log y n (suc m) =
@@ -81,6 +82,7 @@ only-counted log y counts s is j l =
           )
     ]
 
+-- if only threads that are there have chunks in a stratum, only they have any done
 pub only-few : (n : ℕ) (ds counts : List ℕ) → ((j : ℕ) → count_at ds j ≤ count_at counts j) → OnlyOf n counts → OnlyOf n ds
 only-few n ds counts few only j l = let a = few j in let b = only j l in omega (arith, a, b)
 
@@ -123,6 +125,7 @@ pub record NextIs (v : StrataParts) (image : SphereSetup) (x : Standing) (z : Pl
   pub comes : Comes v image x
   pub at_ : stratum_at v image x ≡ z
 
+-- the play of the strata's canonical log on an image, before its first commit
 abbrev pub opened_by : StrataParts → SphereSetup → Played
 opened_by v image = opened (canonical v) image.memory image.entry
 

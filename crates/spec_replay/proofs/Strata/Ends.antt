@@ -254,6 +254,7 @@ ends-so v image st ds n p b s c a how =
 
 -- ---- the promise
 
+-- a sphere replayed in strata never diverges, and is complete exactly if no stratum is left
 pub strata_end : StrataNeverDiverge
 strata_end image v s es i p r =
     let c : ComesTo v image p = strata_reach image v s es i p r in

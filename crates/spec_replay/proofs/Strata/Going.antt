@@ -55,6 +55,7 @@ pub record ComesTo (v : StrataParts) (image : SphereSetup) (p : Sphere) : Type 0
   pub comes : Comes v image standing
   pub is : IsThere (canonical v) (stratum_at v image standing) standing p cursor
 
+-- a sphere that has come as far as the strata say follows the play in them
 pub follows-in : (v : StrataParts) (image : SphereSetup) (p : Sphere) → ComesTo v image p → FollowsInStrata v image p
 follows-in v image p c =
     record {

@@ -14,6 +14,7 @@ use Rattle.spec_strata.proofs.Plays.Turning.{turn-there}
 use Rattle.spec_strata.proofs.Images.Following.{named-thread, named-dma}
 use Rattle.spec_sphere.specs.sphere.Commits.{now_by}
 
+-- the turn of the head if commits are left, or else how the replay ends
 abbrev pub now_if : LogParts → Standing → Progress → Used → List Parts → Bool → TurnOrEnd
 now_if log x p u ts b = cond b (turn_of (position p) ts (head_standing x)) (at_end (position p) (has_left_over log u ts))
 
@@ -23,6 +24,7 @@ turn-by log x p u ts k below head l =
     ap (now_if log x p u ts) (lt-ltb (position p) log.count below)
     ∙ ap (turn_of (position p) ts) head ∙ ap (turn_of_thread (position p) k) l.is ∙ turn-there (position p) k l.thread l.live
 
+-- a DMA that is the head has the turn while commits are left
 pub dma-by : (log : LogParts) (x : Standing) (p : Progress) (u : Used) (ts : List Parts) → position p < log.count → head_standing x ≡ Some Actor.Dma → now_by (Some x) log p u ts ≡ TurnOfDma
 dma-by log x p u ts below head =
     ap (now_if log x p u ts) (lt-ltb (position p) log.count below) ∙ ap (turn_of (position p) ts) head
@@ -47,5 +49,6 @@ dma-if i ts o false left e = end-dma i left e
 pub head-named : (log : LogParts) (x : Standing) (p : Progress) (u : Used) (ts : List Parts) (k : ℕ) → now_by (Some x) log p u ts ≡ Turn k → head_standing x ≡ Some (Actor.Thread k)
 head-named log x p u ts k e = named-if (position p) k ts (head_standing x) (nat_lt (position p) log.count) (has_left_over log u ts) e
 
+-- if it is the turn of a DMA, that is the head
 pub head-dma : (log : LogParts) (x : Standing) (p : Progress) (u : Used) (ts : List Parts) → now_by (Some x) log p u ts ≡ TurnOfDma → head_standing x ≡ Some Actor.Dma
 head-dma log x p u ts e = dma-if (position p) ts (head_standing x) (nat_lt (position p) log.count) (has_left_over log u ts) e

@@ -54,11 +54,13 @@ position-from v image x c =
 abbrev pub now_in_strata : StrataParts → SphereSetup → Standing → TurnOrEnd
 now_in_strata v image x = let y = stratum_at v image x in now_by (Some x) (canonical v) y.progress y.used y.threads
 
+-- with nothing done of the present stratum it is the turn that the stratum begins with
 pub now-at-start : (v : StrataParts) (image : SphereSetup) (x : Standing) → Comes v image x → x.done ≡ [] → now_in_strata v image x ≡ (let y = stratum_from v image x in now_by (Some x) (canonical v) y.progress y.used y.threads)
 now-at-start v image x c none =
     ap (λ (y : Played). now_by (Some x) (canonical v) y.progress y.used y.threads)
     (none-in (canonical v) (stratum_from v image x) x.done c.looked (λ j. ap (λ (ds : List ℕ). count_at ds j) none))
 
+-- while strata are left, the replay of them isn't over
 pub goes-on : (v : StrataParts) (image : SphereSetup) (st : List Stratum) (ds : List ℕ) (n : ℕ) → 0 < v.s → Comes v image (at_standing st ds n) → (st ≡ []) ⊎ (is_over (now_in_strata v image (at_standing st ds n)) ≡ false)
 goes-on v image [] ds n s c = inl refl
 goes-on v image (Chunks counts ∷ xs) ds n s c =
@@ -134,6 +136,7 @@ whole-played v image st ds n p b s c a w stopped =
           )
     ]
 
+-- replay roles that are the same have the same cursor
 pub same_cursor : (b c : Cursor) → Replay b ≡ Replay c → b ≡ c
 same_cursor b c e = cc
 

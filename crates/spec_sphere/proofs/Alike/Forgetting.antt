@@ -71,32 +71,38 @@ stopped-without n Plain = refl
 stopped-without n (Record recording) = refl
 stopped-without n (Replay b) = refl
 
+-- a role that has forgotten is a replay exactly if it was one before
 pub replays-without : (n : ℕ) (r : Role) → replays (role_without n r) ≡ replays r
 replays-without n Plain = refl
 replays-without n (Record recording) = refl
 replays-without n (Replay b) = refl
 
+-- a role that has forgotten has squashes halve limits exactly if it did before
 pub halves-without : (n : ℕ) (r : Role) → halves (role_without n r) ≡ halves r
 halves-without n Plain = refl
 halves-without n (Record recording) = refl
 halves-without n (Replay b) = refl
 
+-- a role that has forgotten has pieces of the present commit exactly if it had some before
 pub pieces-without : (n : ℕ) (r : Role) → is_in_pieces (role_without n r) ≡ is_in_pieces r
 pieces-without n Plain = refl
 pieces-without n (Record recording) = refl
 pieces-without n (Replay b) = refl
 
+-- a role that has forgotten allows as many threads as before
 pub most-without : (n : ℕ) (r : Role) → most_in (role_without n r) ≡ most_in r
 most-without n Plain = refl
 most-without n (Record recording) = refl
 most-without n (Replay b) = refl
 
+-- a role that has forgotten gives a new chunk of a thread the same limit
 pub limit-without : (n s : ℕ) (r : Role) (k : ℕ) (t : Parts) → limit_of s (role_without n r) k t ≡ limit_of s r k t
 unfolding limit_of
 limit-without n s Plain k t = refl
 limit-without n s (Record recording) k t = refl
 limit-without n s (Replay b) k t = refl
 
+-- a role that has forgotten gives a thread's following chunk the same limit
 pub limit_after-without : (n s : ℕ) (r : Role) (k : ℕ) (t : Parts) → limit_after s (role_without n r) k t ≡ limit_after s r k t
 unfolding limit_after
 limit_after-without n s Plain k t = refl
@@ -116,6 +122,7 @@ turn_in_role m ts g (Record recording) (Actor.Thread k) =
 turn_in_role m ts g (Record recording) Actor.Dma = refl
 turn_in_role m ts g (Replay b) actor = refl
 
+-- an actor is kept from committing by the same turn in a sphere that has forgotten
 pub turn-forgotten : (p : Sphere) (actor : Actor) → turn_against (forgotten p) actor ≡ turn_against p actor
 turn-forgotten p actor = turn_in_role p.memory p.threads p.progress p.role actor
 

@@ -51,15 +51,18 @@ replay_whole Plain e = refl
 replay_whole (Record recording) e = absurd (true≢false (sym e))
 replay_whole (Replay b) e = refl
 
+-- two spheres that are alike are the same if the second is a replay
 pub same-if-replayed : (p q : Sphere) → forgotten p ≡ forgotten q → replays q.role ≡ true → p ≡ q
 same-if-replayed p q same e = same-unless-epochs p q same (replay_whole q.role e)
 
 -- ---- numbers
 
+-- two spheres that are alike have done the same number of commits
 pub position-alike : (p q : Sphere) → forgotten p ≡ forgotten q → position p.progress ≡ position q.progress
 position-alike p q same =
     sym (position-without (epochs_in p.role) p.progress) ∙ ap (λ (x : Sphere). position x.progress) same ∙ position-without (epochs_in q.role) q.progress
 
+-- of two spheres that are alike both are replays, or neither is
 pub replays-alike : (p q : Sphere) → forgotten p ≡ forgotten q → replays p.role ≡ replays q.role
 replays-alike p q same = sym (replays-without _ p.role) ∙ ap (λ (x : Sphere). replays x.role) same ∙ replays-without _ q.role
 
@@ -68,8 +71,10 @@ replays-alike p q same = sym (replays-without _ p.role) ∙ ap (λ (x : Sphere).
 abbrev pub IsShownAs : Option Sphere → Sphere → Type 0
 IsShownAs o p = (q : Sphere) × (o ≡ Some q) × (forgotten p ≡ forgotten q)
 
+-- rows of spheres that are the same have the same first sphere
 pub head_same : {x y : Sphere} {xs ys : List Sphere} → x ∷ xs ≡ y ∷ ys → x ≡ y
 head_same e = cc
 
+-- rows of spheres that are the same have the same spheres after the first
 pub tail_same : {x y : Sphere} {xs ys : List Sphere} → x ∷ xs ≡ y ∷ ys → xs ≡ ys
 tail_same e = cc

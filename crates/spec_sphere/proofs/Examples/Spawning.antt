@@ -60,6 +60,7 @@ pub record AreSpawned : Type 0 where
   pub replayed_migrated : threads_after (replay_of (migrated (call_log 1))) ≡ 15
   pub replayed_more : threads_after (replay_of (call_log 2)) ≡ 16
 
+-- only a recording in version 2 and a replay of its log get the sixteenth thread
 pub threads_spawned : AreSpawned
 unfolding serial_of read called next_kind need serve serial_verdict serial_moved
 threads_spawned =

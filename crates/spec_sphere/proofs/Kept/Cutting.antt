@@ -118,6 +118,7 @@ since-later i (suc n) m (p ∷ ps) =
 
 -- ---- done one at a time
 
+-- a sphere's own point tells one actor if it is a commit, and none if it isn't
 pub own_commit : (i : ℕ) (p : Point) → is_of i p ≡ true → length (actors_of (p ∷ [])) ≡ cond (is_commit_of i p) 1 0
 own_commit i (Point.Commit moment j actor kind size short) e = sym (ap (λ (b : Bool). cond b 1 0) e)
 own_commit i (Point.Raise moment j k value) e = refl
@@ -127,10 +128,12 @@ pub other_commit : (i : ℕ) (p : Point) → is_of i p ≡ false → is_commit_o
 other_commit i (Point.Commit moment j actor kind size short) e = e
 other_commit i (Point.Raise moment j k value) e = refl
 
+-- points tell as many actors as the first of them and the later ones together
 pub actors_first : (p : Point) (ps : List Point) → length (actors_of (p ∷ ps)) ≡ length (actors_of (p ∷ [])) + length (actors_of ps)
 actors_first (Point.Commit moment j actor kind size short) ps = omega arith
 actors_first (Point.Raise moment j k value) ps = omega arith
 
+-- to add 1 or 0 by a test is to count one more if the test holds
 pub one_counted : (b : Bool) (n : ℕ) → cond b 1 0 + n ≡ cond b (suc n) n
 one_counted true n = omega arith
 one_counted false n = omega arith

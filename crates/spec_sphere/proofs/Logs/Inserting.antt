@@ -29,6 +29,7 @@ both_tests a b c d ne =
       | inr h ↦ and_left (eqb a c) (eqb b d) (ne_eqb a c h)
     ]
 
+-- a pair of numbers passes the test for being that pair
 pub same_tests : (a b : ℕ) → (eqb a a && eqb b b) ≡ true
 same_tests a b = (λ i. eq-eqb a a refl i && eq-eqb b b refl i)
 

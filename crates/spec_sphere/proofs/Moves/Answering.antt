@@ -11,6 +11,7 @@ use Rattle.spec_kernel.specs.Needs.{Need, Write, Read, Random, Clock, MomentWord
 use Rattle.spec_kernel.specs.Answers.{nothing_now, refused, Answered, went, write_answer, answer_write, read_answer, answer_read, answer, dma_bytes}
 use Rattle.spec_kernel.specs.Records.{fits_write, fits_read, fits}
 
+-- one of two tests holds if the second does
 pub or_second : (x y : Bool) → y ≡ true → (x || y) ≡ true
 or_second true y e = refl
 or_second false y e = e

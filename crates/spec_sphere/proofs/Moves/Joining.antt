@@ -23,9 +23,11 @@ pieces_none (Turn k) j = either_none (eqb k j)
 pieces_none TurnOfDma j = refl
 pieces_none (Ended how) j = refl
 
+-- a thread without the turn has no pieces of the present commit
 pub pieces_other : (k j total : ℕ) → j ≢ k → pieces_of (Turn k) j total ≡ 0
 pieces_other k j total ne = ap (λ (b : Bool). pieces_if b total) (ne_eqb k j (λ e. ne (sym e)))
 
+-- the thread that has the turn has all pieces of the present commit
 pub pieces_own : (k total : ℕ) → pieces_of (Turn k) k total ≡ total
 pieces_own k total = ap (λ (b : Bool). pieces_if b total) (eq-eqb k k refl)
 
@@ -70,6 +72,7 @@ joins-none : (o : Option Standing) (k total : ℕ) → o ≡ None → joins_in o
 joins-none None k total e j = true≢false (sym j)
 joins-none (Some x) k total e j = absurd (none-some x (sym e))
 
+-- in a replay without strata a thread that may commit has the turn
 pub turn_in_order : (b : Cursor) (k : ℕ) → MayGo b k → b.strata ≡ None → b.now ≡ Turn k
 turn_in_order b k may none = elim may.turn [
   | inl turn ↦ turn

@@ -66,6 +66,7 @@ grown_trans p q r plog qlog rlog a b =
 
 -- ---- a commit of a thread
 
+-- a sphere and its log grow by a thread's commit, if plays that follow them do it too
 pub commit_grown : (c : ThreadCommit) (p q : Sphere) (log qlog : LogParts) (e : Effect) → HasCommitted c p q log qlog
     → ((L : LogParts) (y : Played) → Stands p log → Ahead L p log → Ahead L q qlog → Follows L p log y → Effects L c p q qlog y e) → Grown p q log qlog
 commit_grown c p q log qlog e d effects =
@@ -128,6 +129,7 @@ taken_turn L recording p k t role mode is live free pico =
 
 -- ---- a chunk
 
+-- a number that isn't less than another is at least the other
 pub not_less : (m n : ℕ) → nat_lt m n ≡ false → n ≤ m
 not_less m n e = elim (cases_lt m n) [
   | inl l ↦ absurd (true≢false (sym (lt-ltb m n l) ∙ e))

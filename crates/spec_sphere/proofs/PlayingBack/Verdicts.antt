@@ -152,6 +152,7 @@ chunk-goes L y k n m t p u some ran is_m is_p is_u size =
 
 -- ---- a serial step
 
+-- the play gives a serial step the record that was noted for it, if it needs one
 pub given-taken : (o : Option Need) (d : Devices) (moment : ℕ) (all : List Input) (log : LogParts) (u : Used) → Behind all (input_noted (taken o d moment).input log).inputs → u.inputs ≡ length log.inputs
     → given o (slice_get all u.inputs) u ≡ Some (record { input = (taken o d moment).input; used = record u { inputs = length (input_noted (taken o d moment).input log).inputs } })
 given-taken None d moment all log u b e = (λ i. Some (record { input = None; used = record u { inputs = e i } }))

@@ -74,6 +74,7 @@ either_new false = (omega arith, omega arith)
 pub new-least : (version : ℕ) → 1 ≤ new_threads version
 new-least version = (either_new (eqb version 1)).0
 
+-- a new log of any version may have no more threads than any sphere
 pub new-most : (version : ℕ) → new_threads version ≤ most_threads
 new-most version = (either_new (eqb version 1)).1
 

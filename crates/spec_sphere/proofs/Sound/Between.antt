@@ -381,6 +381,7 @@ resting-by_points n =
           };
     }
 
+-- the thread that a sphere starts with has saved nothing and reserves nothing
 pub start-rest : (image : SphereSetup) → AllRest (first_threads image)
 start-rest image zero t e =
     subst Rests (same_Some (started image.entry) t e) (record { saves = record { saved_pc = refl; saved_a0 = refl; saved_a1 = refl; cause = tt }; reservation = refl })

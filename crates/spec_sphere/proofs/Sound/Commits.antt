@@ -69,10 +69,12 @@ inserted-length xs i x =
     let whole = sym (length-append (take i xs) (drop i xs)) ∙ ap length (take-append-drop i xs) in
     omega (arith, l, whole)
 
+-- with or without strata a thread's commit adds one to the sphere's number of commits
 pub commit-position : (o : Option Standing) (k : ℕ) (e : Effect) (p : Progress) → position (with_commit o k e p) ≡ suc (position p)
 commit-position None k e p = next-position k e p
 commit-position (Some x) k e p = let l = inserted-length p.commits (place_of k x) e.commit in omega (arith, l)
 
+-- with or without strata the request after a thread's commit is the one that the commit leaves
 pub commit-request : (o : Option Standing) (k : ℕ) (e : Effect) (p : Progress) → (with_commit o k e p).request ≡ e.request
 commit-request None k e p = refl
 commit-request (Some x) k e p = refl

@@ -24,18 +24,22 @@ use Rattle.spec_sphere.proofs.Sound.Threads.{Brings, BringsIf}
 
 -- ---- bytes
 
+-- the first n of a list of bytes are bytes
 pub take-bytes : (n : ℕ) (bs : List ℕ) → AreBytes bs → AreBytes (take n bs)
 take-bytes n bs h = All-take (λ byte. byte < 2 ^ 8) n bs h
 
+-- what comes after the first n of a list of bytes is bytes
 pub drop-bytes : (n : ℕ) (bs : List ℕ) → AreBytes bs → AreBytes (drop n bs)
 drop-bytes n bs h = All-drop (λ byte. byte < 2 ^ 8) n bs h
 
 append-bytes : (bs cs : List ℕ) → AreBytes bs → AreBytes cs → AreBytes (bs ++ cs)
 append-bytes bs cs h k = All-append (λ byte. byte < 2 ^ 8) bs cs h k
 
+-- an empty list is a list of bytes
 pub no-byte : AreBytes []
 no-byte k d l = absurd (omega arith)
 
+-- a memory of bytes is, taken as a list, a list of bytes
 pub memory-bytes : (m : List ℕ) → IsBytes m → AreBytes m
 memory-bytes m h = All-from_get_or (λ byte. byte < 2 ^ 8) m 0 (λ i _. h.each i)
 
@@ -45,6 +49,7 @@ random-are zero g k d l = absurd (omega arith)
 random-are (suc n) g zero d l = omega arith
 random-are (suc n) g (suc k) d l = random-are n (pcg32 g).1 k d (omega arith)
 
+-- there are as many random bytes as are asked for
 pub random-length : (n : ℕ) (g : Lcg) → length (random_bytes n g) ≡ n
 unfolding random_bytes
 random-length zero g = refl

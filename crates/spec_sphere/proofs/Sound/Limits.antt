@@ -36,6 +36,7 @@ get-in P [] k x all e = absurd (none-some x e)
 get-in P (y ∷ xs) zero x all e = subst P (let q : y ≡ x = cc in q) all.0
 get-in P (y ∷ xs) (suc k) x all e = get-in P xs k x all.1 e
 
+-- what holds of all elements holds of one that is found by a test
 pub find-in : {X : Type 0} (P : X → Type 0) (p : X → Bool) (xs : List X) (x : X) → AllIn P xs → find p xs ≡ Some x → P x
 find-in P p [] x all e = absurd (none-some x e)
 find-in P p (y ∷ xs) x all e =

@@ -25,11 +25,13 @@ use Rattle.spec_sphere.proofs.Sound.Words.{sound-none, copied-sound}
 
 -- ---- registers and the pc
 
+-- register 0 is still 0 after a value is put into any register
 pub register-zero : (x : List ℕ) (n v : ℕ) → slice_index x 0 ≡ 0 → slice_index (with_register x n v) 0 ≡ 0
 register-zero x n v e =
     branch (λ (y : List ℕ). slice_index y 0 ≡ 0) (eqb n 0) x (slice_set x n v) (λ _. e)
     (λ h. get_or-set_other x n 0 v 0 (λ same. eqb-false n 0 h (sym same)) ∙ e)
 
+-- there are still 32 registers after a value is put into one
 pub register-length : (x : List ℕ) (n v : ℕ) → length x ≡ 32 → length (with_register x n v) ≡ 32
 register-length x n v e =
     branch (λ (y : List ℕ). length y ≡ 32) (eqb n 0) x (slice_set x n v) (λ _. e) (λ _. length-set x n v ∙ e)
