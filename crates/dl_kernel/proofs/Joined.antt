@@ -43,7 +43,7 @@ put-before (x ∷ xs) (suc t) (suc k) c l =
     let m = all_of (take (suc k) (set xs t (get_or xs t [] ++ c ∷ []))) in
     omega (arith, put-before xs t k c (omega (arith, l)), length-append x m, length-append x (all_of (take (suc k) xs)))
 
--- with an entry more in a list, the lists up to it or to a later one have one more
+-- an entry put in a list adds one to the lists up to it and to later ones
 pub put-after : {X : Type 0} (lists : List (List X)) (t k : ℕ) (c : X) → t < length lists → t ≤ k
     → length (all_of (take (suc k) (set lists t (get_or lists t [] ++ c ∷ [])))) ≡ suc (length (all_of (take (suc k) lists)))
 put-after [] t k c there l = absurd (omega (arith, there))

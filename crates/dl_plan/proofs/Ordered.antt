@@ -13,7 +13,7 @@ use Rattle.dl_plan.specs.Values.{RoleValues, Plain, Record, Replay, InStrata, Re
 
 -- ---- what is there
 
--- if two steps in a row give a value, the first gives one, and the second does of that
+-- if two steps in a row give a value, the first gives what the second makes it of
 pub then_some : {A B : Type 0} (o : Option A) (f : A → Option B) (b : B) → (o >>= f) ≡ Some b → (a : A) × (o ≡ Some a) × (f a ≡ Some b)
 then_some None f b e = absurd (cc)
 then_some (Some a) f b e = (a, refl, e)

@@ -132,7 +132,7 @@ greatest-more g k n ds there e h =
           subst (λ (i : ℕ). IsGreatest i (set ds k n)) (sym m) (rest, inr (omega (arith, e, get_or-set_same ds k n 0 there)))
     ]
 
--- a chunk more of thread k makes the greatest thread with chunks done the greater of it and k
+-- after a chunk more of thread k, the greatest with chunks done is k, unless g is greater
 pub greatest_counted : (left : List Stratum) (ds : List ℕ) (g k n : ℕ) → IsSome (count_in left) → k < length ds → n ≡ suc (get_or ds k 0) → IsGreatest g (done_in left ds) → IsGreatest (max g k) (done_in left (set ds k n))
 greatest_counted [] ds g k n chunks there e h = absurd (true≢false (sym chunks))
 greatest_counted (Chunks counts ∷ xs) ds g k n chunks there e h = greatest-more g k n ds there e h
@@ -165,7 +165,7 @@ left-but i (c ∷ cs) (d ∷ ds) (suc k) other =
 first-place : (i k : ℕ) (o : Option ℕ) → o ≡ Some i → o ≡ Some (i + suc k) → ⊥
 first-place i k o here there = omega (arith, same_Some {A = ℕ} i (i + suc k) (sym here ∙ there))
 
--- after a chunk more of the least thread with chunks left, the next is found from that thread on
+-- after a chunk more of the least thread with chunks left, the next is found from it on
 pub left-from : (i : ℕ) (cs ds : List ℕ) (k : ℕ) → least_left i cs ds ≡ Some (i + k) → length cs ≡ length ds
     → least_left (i + k) (drop k cs) (drop k (with_one_done k ds)) ≡ least_left i cs (with_one_done k ds)
 left-from i [] ds k e l = absurd (none-some (i + k) e)
