@@ -33,6 +33,7 @@ pub numbered_read : {X : Type 0} (text : ℕ → X → List ℕ) (old : List ℕ
 numbered_read text old xs i x here read =
     ap (λ (y : _). old ++ numbered text 0 (take i xs) ++ text i y) read ∙ numbered_more text old xs i x here
 
+-- the same if the entries are numbered from n on
 pub numbered_read_on : {X : Type 0} (text : ℕ → X → List ℕ) (n : ℕ) (old : List ℕ) (xs : List X) (i : ℕ) (x : X) → i < length xs → x ≡ get_or xs i x → old ++ numbered text n (take i xs) ++ text (n + i) x ≡ old ++ numbered text n (take (i + 1) xs)
 numbered_read_on text n old xs i x here read =
     ap (λ (y : _). old ++ numbered text n (take i xs) ++ text (n + i) y) read ∙ numbered_on text n old xs i x here

@@ -30,6 +30,7 @@ shown_put m slots c n after a mask value apart room e =
 
 -- ---- the words laid over bytes
 
+-- no words at all, laid over bytes, leave bytes
 pub none_leave : LeaveBytes []
 none_leave = record { each = λ m bytes. bytes }
 

@@ -18,6 +18,7 @@ abbrev pub copies : ℕ → (line : List ℕ) → List ℕ
 copies zero line = []
 copies (suc n) line = line ++ copies n line
 
+-- n copies of a line are n times as long as the line
 pub length_copies : (n : ℕ) (line : List ℕ) → length (copies n line) ≡ n * length line
 length_copies zero line = omega arith
 length_copies (suc n) line = (let a = length-append line (copies n line) in let b = length_copies n line in grind arith)

@@ -38,6 +38,7 @@ ask_line m l rest =
     at-digits (λ (d : ℕ). lines_of (97 ∷ 115 ∷ 107 ∷ 32 ∷ (48 + d) ∷ 10 ∷ rest) ≡ Holds (Event.Ask d) ∷ lines_of rest)
     refl refl refl refl refl refl refl refl refl refl m l
 
+-- a line 'retire', with a digit, holds the event retire of that slot
 pub retire_line : (m : ℕ) → m < 10 → (rest : List ℕ) → lines_of (114 ∷ 101 ∷ 116 ∷ 105 ∷ 114 ∷ 101 ∷ 32 ∷ (48 + m) ∷ 10 ∷ rest) ≡ Holds (Event.Retire m) ∷ lines_of rest
 retire_line m l rest =
     at-digits (λ (d : ℕ). lines_of (114 ∷ 101 ∷ 116 ∷ 105 ∷ 114 ∷ 101 ∷ 32 ∷ (48 + d) ∷ 10 ∷ rest) ≡ Holds (Event.Retire d) ∷ lines_of rest)
@@ -46,6 +47,7 @@ retire_line m l rest =
 abbrev delivers : (c k : ℕ) (rest : List ℕ) → Type 0
 delivers c k rest = lines_of (100 ∷ 101 ∷ 108 ∷ 105 ∷ 118 ∷ 101 ∷ 114 ∷ 32 ∷ (48 + c) ∷ 32 ∷ (48 + k) ∷ 10 ∷ rest) ≡ Holds (Event.Deliver c k) ∷ lines_of rest
 
+-- a line 'deliver', with two digits, holds the event deliver of that core and that slot
 pub deliver_line : (c : ℕ) → c < 10 → (k : ℕ) → k < 10 → (rest : List ℕ) → delivers c k rest
 deliver_line c c_small k k_small rest =
     at-digits (λ (d : ℕ). delivers d k rest)

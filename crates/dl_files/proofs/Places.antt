@@ -131,6 +131,7 @@ none_past : (name : List ℕ) (es : List Entry) (b : Bool) → (b ≡ false → 
 none_past name es true h e = cc
 none_past name es false h e = found-past name es (h refl)
 
+-- a name that has no place among the entries has no bytes there
 pub found-absent : (name : List ℕ) (es : List Entry) → place_of name es ≡ None → found name es ≡ None
 found-absent name es e = none_past name es (nat_lt (first name es) (length es)) (λ t. ltb-false _ _ t) e
 

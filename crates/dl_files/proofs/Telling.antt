@@ -106,14 +106,17 @@ spoils_made f name to keeps (Some x) b (Some z) is e q =
       refused = p.refused;
     }
 
+-- a write that fails once its file is open was refused and has changed no other name
 pub made_spoils : {X E : Type 0} (r : Result X E) (f : Contents → Contents) (name to : List ℕ) → ((m : Contents) (other : List ℕ) → other ≢ name → get (f m) other ≡ get m other)
     → (a b c : Option Told) → IfSome a (λ _. to ≡ name) → b ≡ holding f (opening a) → OnErr r (Spoils to b c) → OnErr r (Spoils name (opening a) c)
 made_spoils (Ok x) f name to keeps a b c is e q = tt
 made_spoils (Err x) f name to keeps a b c is e q = spoils_made f name to keeps a b c is e q
 
+-- creating an empty file leaves other names as they are
 pub created_keeps : (name : List ℕ) (m : Contents) (other : List ℕ) → other ≢ name → get (insert m name []) other ≡ get m other
 created_keeps name m other n = get_other m name [] other n
 
+-- opening a file to append to it, or making it, leaves other names as they are
 pub added_keeps : (name : List ℕ) (m : Contents) (other : List ℕ) → other ≢ name → get (more name [] m) other ≡ get m other
 added_keeps name m other n = get_other m name _ other n
 

@@ -5,5 +5,6 @@ use Rattle.spec_strata.specs.declared.strata.StrataParts.{StrataParts}
 use Rattle.spec_strata.proofs.Images.Answers.{one_answer}
 use Rattle.spec_strata.proofs.Images.Found.{answers_are_found}
 
+-- if an answer is right for strata on an image, the definitions give the same one
 pub answered : (v : StrataParts) (memory : List ℕ) (entry : ℕ) (answer : StrataAnswer) → IsAnswer v memory entry answer → answer_of v memory entry ≡ answer
 answered v memory entry answer is = one_answer v memory entry (answer_of v memory entry) answer (answers_are_found v memory entry) is

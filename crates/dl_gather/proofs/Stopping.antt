@@ -153,6 +153,7 @@ there_at : (m : Contents) (name bytes : List ℕ) (o : Option (List ℕ)) → ok
 there_at m name bytes None e = absurd cc
 there_at m name bytes (Some b) e = refl
 
+-- once a file's bytes are read, the file is there
 pub file_there : (m : Contents) (name bytes : List ℕ) → read_at m name ≡ Ok bytes → IsSome (get m name)
 file_there m name bytes e = there_at m name bytes (get m name) e
 

@@ -6,9 +6,11 @@ use Rattle.std.proofs.lemmas.List.{append-nil, take_more_set, drop_more, drop-se
 use Rattle.std.proofs.lemmas.List.Concat.{flat_map-append}
 use Rattle.std.proofs.lemmas.List.Edits.{insert-append_left, insert-append_right, insert_end}
 
+-- all entries of the lists, one list after the other
 abbrev pub all_of : {X : Type 0} → List (List X) → List X
 all_of lists = flat_map (λ x. x) lists
 
+-- the entries of each vector, as lists
 abbrev pub items_of : {X : Type 0} → List (Vec X Global) → List (List X)
 items_of lists = map (λ v. v.items) lists
 
@@ -41,6 +43,7 @@ put-before (x ∷ xs) (suc t) (suc k) c l =
     let m = all_of (take (suc k) (set xs t (get_or xs t [] ++ c ∷ []))) in
     omega (arith, put-before xs t k c (omega (arith, l)), length-append x m, length-append x (all_of (take (suc k) xs)))
 
+-- an entry put in a list adds one to the lists up to it and to later ones
 pub put-after : {X : Type 0} (lists : List (List X)) (t k : ℕ) (c : X) → t < length lists → t ≤ k
     → length (all_of (take (suc k) (set lists t (get_or lists t [] ++ c ∷ [])))) ≡ suc (length (all_of (take (suc k) lists)))
 put-after [] t k c there l = absurd (omega (arith, there))
@@ -87,6 +90,7 @@ one-more-first lists new n e =
     ap (λ (xs : List (List _)). all_of (take n xs)) (map-append (λ w. w.items) lists (new ∷ []) ∙ ap (λ (x : List _). items_of lists ++ x ∷ []) e)
     ∙ empty-more (items_of lists) n
 
+-- an empty vector more leaves all entries of the vectors as they are
 pub one-more : {X : Type 0} (lists : List (Vec X Global)) (new : Vec X Global) → new.items ≡ [] → all_of (items_of (lists ++ new ∷ [])) ≡ all_of (items_of lists)
 one-more lists new e =
     ap all_of (map-append (λ w. w.items) lists (new ∷ []))
@@ -134,6 +138,7 @@ front-set lists t new l =
 pub none-waits : {X : Type 0} (whole : List X) (lists : List (List X)) → all_of lists ≡ [] → (k : ℕ) → length whole + length (all_of (take (suc k) lists)) ≡ length (whole ++ all_of lists)
 none-waits whole lists none k = omega (arith, none-first lists (suc k) none, ap length none, length-append whole (all_of lists))
 
+-- a list of length 0 is empty
 pub none-left : {X : Type 0} (xs : List X) → length xs ≡ 0 → xs ≡ []
 none-left [] e = refl
 none-left (x ∷ xs) e = absurd (omega (arith, e))

@@ -215,6 +215,7 @@ pub named : {A B : Type 0} (g : A → B) (r : Occupant → A) (o : Option Occupa
 named g r None x e = absurd (none-some x (sym e))
 named {B = B} g r (Some h) x e = ap (λ y. Some (g y)) (same_Some _ _ e)
 
+-- the reply that a core gives is the reply of the event's outcome
 pub reply_done : (w : World) (c : ℕ) (r : Occupant → Reply) (f : Occupant → Pair) (o : Option Occupant) (reply : Reply) (a : EventOutcome) → Some reply ≡ option_map r o → Some a ≡ option_map (done_to w c r f) o → reply ≡ a.reply
 reply_done w c r f None reply a er ea = absurd (none-some reply (sym er))
 reply_done w c r f (Some h) reply a er ea = same_Some _ _ er ∙ sym (ap (λ (b : EventOutcome). b.reply) (same_Some _ _ ea))

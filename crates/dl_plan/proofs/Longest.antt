@@ -12,6 +12,7 @@ role_can chunk (Record values) can = grind (arith, nat_tests)
 role_can chunk (Replay values) can = tt
 role_can chunk (InStrata strata) can = tt
 
+-- a chunk's length that passes the test of every sphere is one that each recorded log can have
 pub all_can : (chunk : ℕ) (spheres : List SphereValues) → list_all (λ (s : SphereValues). can_have chunk s.role) spheres ≡ true → CanAllHave chunk spheres
 all_can chunk [] can = tt
 all_can chunk (s ∷ ss) can = (role_can chunk s.role (and_parts _ _ can).0, all_can chunk ss (and_parts _ _ can).1)

@@ -13,14 +13,17 @@ use Rattle.dl_plan.specs.Values.{RoleValues, Plain, Record, Replay, InStrata, Re
 
 -- ---- what is there
 
+-- if two steps in a row give a value, the first gives what the second makes it of
 pub then_some : {A B : Type 0} (o : Option A) (f : A → Option B) (b : B) → (o >>= f) ≡ Some b → (a : A) × (o ≡ Some a) × (f a ≡ Some b)
 then_some None f b e = absurd (cc)
 then_some (Some a) f b e = (a, refl, e)
 
+-- what a test lets through was there before it
 pub passed : {A : Type 0} (test : Bool) (o : Option A) (a : A) → (if test then o else None) ≡ Some a → o ≡ Some a
 passed true o a e = e
 passed false o a e = absurd (cc)
 
+-- two values are the same if they are the same as optional ones
 pub same : {A : Type 0} (a b : A) → Some a ≡ Some b → a ≡ b
 same a b e = cc
 
@@ -92,6 +95,7 @@ with_more : (v : SphereValues) (rest : Option (List SphereValues)) (vs : List Sp
 with_more v None vs e one more = absurd (cc)
 with_more v (Some ws) vs e one more = subst AreAllOrdered (same (v ∷ ws) vs e) (one, more ws refl)
 
+-- if each sphere's interval passes its test, no replay of the plan ends before it begins
 pub all_ordered : (ss : List SphereEntries) (vs : List SphereValues) → each_of sphere_asked ss ≡ Some vs → list_all has_good_interval ss ≡ true → AreAllOrdered vs
 all_ordered [] vs e good = subst AreAllOrdered (same [] vs e) tt
 all_ordered (s ∷ ss) vs e good =

@@ -85,6 +85,7 @@ with_more : (v : SphereValues) (rest : Option (List SphereValues)) (vs : List Sp
 with_more v None vs e one more = absurd (cc)
 with_more v (Some ws) vs e one more = subst CanAllBeInEpochs (same (v ∷ ws) vs e) (one, more ws refl)
 
+-- if each sphere's epochs pass their test, every recording in epochs has a log of version 2
 pub all_parted : (ss : List SphereEntries) (vs : List SphereValues) → each_of sphere_asked ss ≡ Some vs → list_all has_good_epochs ss ≡ true → CanAllBeInEpochs vs
 all_parted [] vs e good = subst CanAllBeInEpochs (same [] vs e) tt
 all_parted (s ∷ ss) vs e good =

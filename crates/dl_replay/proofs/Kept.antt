@@ -9,6 +9,7 @@ use Rattle.dl_mode.specs.declared.lists.Lists.{Lists}
 use Rattle.dl_mode.specs.Lists.{AreLists}
 use Rattle.dl_replay.specs.Lists.{lists_in}
 
+-- the lists taken from a log are lists of its mode, in the ranges of a log
 pub lists-are : (mode : ModeName) (log : LogParts) (lists : Lists) → IsLog log → log.mode ≡ mode → lists ≡ lists_in log → AreLists mode lists
 lists-are mode log lists is named same =
     let among = log-among log is in

@@ -102,6 +102,7 @@ pub none-of : (n : ℕ) → sum (replicate n 0) ≡ 0
 none-of zero = refl
 none-of (suc n) = omega (arith, none-of n, sum_by-cons (λ (x : ℕ). x) 0 (replicate n 0))
 
+-- numbers whose sum is 0 are all 0
 pub zeros : (ds : List ℕ) → sum ds ≡ 0 → ds ≡ replicate (length ds) 0
 zeros [] none = refl
 zeros (d ∷ ds) none =
@@ -131,6 +132,7 @@ greatest-more g k n ds there e h =
           subst (λ (i : ℕ). IsGreatest i (set ds k n)) (sym m) (rest, inr (omega (arith, e, get_or-set_same ds k n 0 there)))
     ]
 
+-- after a chunk more of thread k, the greatest with chunks done is k, unless g is greater
 pub greatest_counted : (left : List Stratum) (ds : List ℕ) (g k n : ℕ) → IsSome (count_in left) → k < length ds → n ≡ suc (get_or ds k 0) → IsGreatest g (done_in left ds) → IsGreatest (max g k) (done_in left (set ds k n))
 greatest_counted [] ds g k n chunks there e h = absurd (true≢false (sym chunks))
 greatest_counted (Chunks counts ∷ xs) ds g k n chunks there e h = greatest-more g k n ds there e h
@@ -163,6 +165,7 @@ left-but i (c ∷ cs) (d ∷ ds) (suc k) other =
 first-place : (i k : ℕ) (o : Option ℕ) → o ≡ Some i → o ≡ Some (i + suc k) → ⊥
 first-place i k o here there = omega (arith, same_Some {A = ℕ} i (i + suc k) (sym here ∙ there))
 
+-- after a chunk more of the least thread with chunks left, the next is found from it on
 pub left-from : (i : ℕ) (cs ds : List ℕ) (k : ℕ) → least_left i cs ds ≡ Some (i + k) → length cs ≡ length ds
     → least_left (i + k) (drop k cs) (drop k (with_one_done k ds)) ≡ least_left i cs (with_one_done k ds)
 left-from i [] ds k e l = absurd (none-some (i + k) e)
@@ -214,6 +217,7 @@ abbrev number-of : Actor → ℕ
 number-of (Actor.Thread k) = k
 number-of Actor.Dma = 0
 
+-- an optional thread that is thread k as an actor is thread k
 pub own-thread : (o : Option ℕ) (k : ℕ) → option_map Actor.Thread o ≡ Some (Actor.Thread k) → o ≡ Some k
 own-thread None k e = absurd (none-some (Actor.Thread k) e)
 own-thread (Some j) k e = ap (λ (a : Actor). Some (number-of a)) (same_Some {A = Actor} (Actor.Thread j) (Actor.Thread k) e)
@@ -251,6 +255,7 @@ count-of-start [] (suc place) = refl
 count-of-start (x ∷ xs) zero = refl
 count-of-start (x ∷ xs) (suc place) = count-of-start xs place
 
+-- the head kept for the start of a stratum is its head with nothing done
 pub head-of-start : (strata : List Stratum) (place : ℕ) → (start_if (slice_get strata place)).head ≡ head_in (drop place strata) (nothing_done (drop place strata))
 head-of-start [] zero = refl
 head-of-start [] (suc place) = refl
@@ -295,6 +300,7 @@ has-left n (Chunks own ∷ xs) counts ds k chunks here = ap (λ (cs : List ℕ).
 has-left n (Serial thread ∷ xs) counts ds k chunks here = absurd (true≢false (sym chunks))
 has-left n (Dma ∷ xs) counts ds k chunks here = absurd (true≢false (sym chunks))
 
+-- the thread that is the head of a stratum of chunks has chunks left
 pub head-left : (left : List Stratum) (ds : List ℕ) (k : ℕ) → IsSome (count_in left) → head_in left ds ≡ Some (Actor.Thread k) → has_chunks_left left ds k ≡ true
 head-left [] ds k chunks head = absurd (true≢false (sym chunks))
 head-left (Chunks counts ∷ xs) ds k chunks head =
@@ -305,6 +311,7 @@ head-left (Dma ∷ xs) ds k chunks head = absurd (true≢false (sym chunks))
 
 -- ---- the start of a stratum
 
+-- zeros, one for each of n threads, are what is done of a stratum that begins
 pub begins : (n : ℕ) (xs : List Stratum) → All (CountsThreads n) xs → done_in xs (replicate n 0) ≡ nothing_done xs
 begins n [] all = refl
 begins n (Chunks counts ∷ xs) all = splat_is_map counts n 0 (all 0 Dma (omega arith))
@@ -325,6 +332,7 @@ none-map : (counts : List ℕ) → sum (map (λ _. 0) counts) ≡ 0
 none-map [] = refl
 none-map (c ∷ cs) = omega (arith, none-map cs, sum_by-cons (λ (x : ℕ). x) 0 (map (λ _. 0) cs))
 
+-- of a stratum that begins, no commit is done
 pub none-done : (xs : List Stratum) → sum (nothing_done xs) ≡ 0
 none-done [] = refl
 none-done (Chunks counts ∷ xs) = none-map counts
@@ -349,6 +357,7 @@ alone-in k x (Chunks counts ∷ xs) e = cc
 alone-in k x (Serial thread ∷ xs) e = refl
 alone-in k x (Dma ∷ xs) e = refl
 
+-- if the present stratum has no chunks, a thread's commit moves it on as a DMA does
 pub alone : (k : ℕ) (x : Standing) → count_in x.strata ≡ None → after_dma x ≡ after_thread k x
 alone k x e = alone-in k x x.strata e
 
@@ -398,6 +407,7 @@ set-beyond [] k n l = refl
 set-beyond (d ∷ ds) zero n l = absurd (omega (arith, l))
 set-beyond (d ∷ ds) (suc k) n l = ap (λ (xs : List ℕ). d ∷ xs) (set-beyond ds k n (omega (arith, l)))
 
+-- a chunk more of a thread makes at most one more of all
 pub one-more-done : (k : ℕ) (ds : List ℕ) → sum (with_one_done k ds) ≤ sum ds + 1
 one-more-done k ds =
     elim (cases_Bool (nat_lt k (length ds))) [
@@ -409,6 +419,7 @@ one-more-done k ds =
           omega (arith, ap sum (set-beyond ds k (suc (get_or ds k 0)) l))
     ]
 
+-- with no more commits before it than are done, a stratum that begins counts no more
 pub begun-within : (xs : List Stratum) (before n : ℕ) → before ≤ n → IsWithin (stratum_begun xs before) n
 begun-within xs before n l = omega (arith, l, none-done xs)
 
@@ -437,6 +448,7 @@ dma-in : (x : Standing) (xs : List Stratum) (n : ℕ) → IsWithin x n → IsWit
 dma-in x [] n within = omega (arith, within)
 dma-in x (s ∷ xs) n within = begun-within xs (suc x.before) (n + 1) (omega (arith, within))
 
+-- after a DMA, strata count no more commits than are done
 pub dma-within : (o : Option Standing) (n : ℕ) → IsWithinIf o n → IsWithinIf (option_map after_dma o) (n + 1)
 dma-within None n within = tt
 dma-within (Some x) n within = dma-in x x.strata n within

@@ -55,6 +55,7 @@ free-head r used loads p actor going out free = has-turn r.now actor going (sym 
 
 -- ---- told the head
 
+-- an actor that passes the test for the head is the head
 pub is-head : (o : Option Actor) (a : Actor) → is_head o a ≡ true → o ≡ Some a
 is-head None a e = absurd (true≢false (sym e))
 is-head (Some (Actor.Thread j)) (Actor.Thread k) e = ap (λ (n : ℕ). Some (Actor.Thread n)) (eqb-true j k e)
@@ -62,6 +63,7 @@ is-head (Some (Actor.Thread j)) Actor.Dma e = absurd (true≢false (sym e))
 is-head (Some Actor.Dma) (Actor.Thread k) e = absurd (true≢false (sym e))
 is-head (Some Actor.Dma) Actor.Dma e = refl
 
+-- the head passes the test for the head
 pub own-head : (a : Actor) → is_head (Some a) a ≡ true
 own-head (Actor.Thread k) = eq-eqb k k refl
 own-head Actor.Dma = refl
@@ -91,6 +93,7 @@ none-joins : (r : Following) (a : Actor) → nat_eq r.total 0 ≡ false → join
 none-joins r (Actor.Thread k) e = none-in r.strata r.total k e
 none-joins r Actor.Dma e = refl
 
+-- a number that isn't 0 fails the test for 0
 pub not-zero : (n : ℕ) → (n ≡ 0 → ⊥) → nat_eq n 0 ≡ false
 not-zero n some = elim (cases_Bool (nat_eq n 0)) [ inl e ↦ absurd (some (eqb-true n 0 e)) | inr e ↦ e ]
 
@@ -98,6 +101,7 @@ or-false : (b : Bool) → b || false ≡ b
 or-false true = refl
 or-false false = refl
 
+-- either of two tests passes if the second one does
 pub or-right : (b c : Bool) → c ≡ true → b || c ≡ true
 or-right true c e = refl
 or-right false c e = e

@@ -72,6 +72,7 @@ as_many es r over = (run es r over).spheres
 pub few_spheres : (es : List Event) (r : Ran) → IsOver es r → length r.setup.spheres ≤ 8
 few_spheres es r over = over.limits.few.1
 
+-- each sphere of a run that is over is as the promise of runs says
 pub described : (es : List Event) (r : Ran) (i : ℕ) → IsOver es r → i < length r.setup.spheres → IsDescribed r.setup es i (image_at r.setup i) (sphere_at r.world i)
 described es r i over inside =
     spheres_described r.setup es r.world i (image_at r.setup i) over.limits over.world (image_there r.setup.spheres i inside)
@@ -262,6 +263,7 @@ diverges-replayed es r i asked how over inside is ended =
 
 -- ---- rows of spheres
 
+-- the setups from place i on are the one there, and those after it
 pub image-next : (xs : List SphereSetup) (i : ℕ) → i < length xs → drop i xs ≡ get_or xs i no_image ∷ drop (suc i) xs
 image-next [] i l = absurd (omega (arith, l))
 image-next (x ∷ xs) zero l = refl

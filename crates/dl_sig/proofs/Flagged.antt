@@ -43,6 +43,7 @@ pub flags_apart : (xs ys : List Bool) → (of_flags ys).size ≡ (of_flags xs).s
 flags_apart xs ys same none =
     apart_below (has_flag xs) (has_flag ys) (length xs) none ∙ ap (λ (n : ℕ). meets (of_flags xs).set (set_below (has_flag ys) n)) (sym same)
 
+-- the flags that are set in either of two banks
 abbrev pub either_flags : (xs ys : List Bool) → List Bool
 either_flags xs ys = zip2 ◌||◌ xs ys
 

@@ -37,6 +37,7 @@ member_step has n p false e before =
       ]
     ])
 
+-- the set has a number exactly if the number is below the bound and passes the test
 pub member : (has : ℕ → Bool) (n p : ℕ) → set.contains (set_below has n) p ≡ (ltb p n && has p)
 unfolding set_below
 member has zero p = contains-empty nat_cmp p ∙ sym (λ i. le-ltb p 0 (omega arith) i && has p)

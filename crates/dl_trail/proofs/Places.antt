@@ -16,6 +16,7 @@ found-there [] n x l e = absurd (omega arith)
 found-there (y ∷ ys) zero x l e = ap Some (sym e)
 found-there (y ∷ ys) (suc n) x l e = found-there ys n x (omega arith) e
 
+-- the lesser of two numbers, times a third, is at most the greater times it
 pub times_most : (m n every : ℕ) → m ≤ n → m * every ≤ n * every
 times_most zero n every l = omega arith
 times_most (suc m) zero every l = absurd (omega arith)

@@ -28,6 +28,7 @@ at_end p xs none =
 
 -- ---- one more
 
+-- if none passed before, the one added at the end is the first to pass
 pub position-new : {X : Type 0} (p : X → Bool) (xs : List X) (y : X) → position p xs ≡ None → p y ≡ true → position p (xs ++ y ∷ []) ≡ Some (length xs)
 position-new p xs y none passes =
     let end : position_or_len p xs ≡ length xs = at_end p xs none in
@@ -35,6 +36,7 @@ position-new p xs y none passes =
     let inside : position_or_len p (xs ++ y ∷ []) < length (xs ++ y ∷ []) = rw (e, length-append) (omega arith) in
     some_before p (xs ++ y ∷ []) inside ∙ ap (λ n. Some n) (omega arith)
 
+-- one added at the end that fails doesn't change which is the first to pass
 pub position-other : {X : Type 0} (p : X → Bool) (xs : List X) (y : X) → p y ≡ false → position p (xs ++ y ∷ []) ≡ position p xs
 position-other p xs y fails =
     elim (cases_lt (position_or_len p xs) (length xs)) [
@@ -48,6 +50,7 @@ position-other p xs y fails =
           none_at_end p (xs ++ y ∷ []) (rw (e, length-append) (omega arith)) ∙ sym (none_at_end p xs outside)
     ]
 
+-- putting one in place of another that is tested the same doesn't change which passes first
 pub position-again : {X : Type 0} (p : X → Bool) (xs : List X) (i : ℕ) (y d : X) → p y ≡ p (get_or xs i d) → position p (slice_set xs i y) ≡ position p xs
 position-again p xs i y d e = rw (position_or_len-set p xs i y d e, length-set xs i y) refl
 
@@ -100,6 +103,7 @@ left_at d k = rw (le-ltb (d + k) d (omega arith)) (ap (λ n. Some n) (omega arit
 left_gone : (d : ℕ) → left (1 + d) (Some (d + 0)) ≡ None
 left_gone d = rw (lt-ltb (d + 0) (1 + d) (omega arith)) refl
 
+-- once the first word is taken out, a number's kept place gives its position among the rest
 pub left-drained : (d a : ℕ) (o : Option ℕ) (s : Stored) (ss : List Stored) → Lacks s.number ss → left d o ≡ position (is_of a) (s ∷ ss) → left (1 + d) o ≡ position (is_of a) ss
 left-drained d a o s ss lacks h =
     elim (eqb_tells s.number a) [

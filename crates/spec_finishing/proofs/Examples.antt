@@ -130,6 +130,7 @@ pub record AreFinished : Type 0 where
   -- five instructions and two commits
   pub reserves_work : plays_work (replay reserves two_log).spheres ≡ 7
 
+-- replays of short programs have this work and this rank, and finish with these events
 pub replays_finish : AreFinished
 unfolding share_more serial_of loads_of next_of load_of store_of one lay read merged answer called bytes_put random_bytes random_after next_kind next_operation need fits serve console_written play_one dma_verdict has_left_over now_at chunk_verdict serial_verdict on_option choose at_limit reading storing loading running step first_slot free_slot meets grant_chunk grant_serial asking chunk_moved serial_moved dma_moved raised next draining delivering retiring act happens placing raising head_of turn_against limit_of stepping cutting transfer transferring commit_work replay_left price under_way
 replays_finish =

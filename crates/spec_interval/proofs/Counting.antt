@@ -59,6 +59,7 @@ from_min log memory entry i j =
           ∙ ap (λ (cs : List Commit). slice_of i cs v) (sym (drop_all i v.commits (omega (arith, past, least))))
     ]
 
+-- numbers past a log's count give the same slice as the count itself
 pub slices_stop_at_count : SlicesStopAtCount
 slices_stop_at_count log memory entry i j =
     ap (λ (v : Walked). slice_of (min i log.count) (drop (min i log.count) v.commits) v) (walked_min log memory entry j)

@@ -61,6 +61,7 @@ lines_join log memory entry i j k low high =
     ∙ ap (λ (cs : List Commit). numbered commit_lines i (drop i cs) ++ numbered commit_lines j (drop j (take k all))) (sym of_j)
     ∙ ap (λ (cs : List Commit). lines_between log memory entry i j ++ numbered commit_lines j (drop j cs)) (sym of_k)
 
+-- a slice is the lines of its first commits and the slice of the others
 pub slices_join : SlicesJoin
 slices_join log memory entry i j k low high =
     let v = walked log memory entry k in
@@ -81,6 +82,7 @@ ends_at_count log to i now how past e =
     let looked : is_looked_at log to i ≡ true = or_right _ _ (le-leb log.count to past) in
     ap (walk_end log to i) e ∙ ap (λ (b : Bool). cond b (WalkEnd.Ended how) (WalkEnd.Reached i)) looked
 
+-- the slice of all commits is the log's account, except for the last line of a complete one
 pub slices_are_accounts : SlicesAreAccounts
 slices_are_accounts log memory entry =
     let y : Played = play log memory entry in

@@ -61,6 +61,7 @@ role_any i j image (StrataRead read) r e = strata_any i j image read r e
 same_setup : (x y : SphereSetup) → ◌≡◌ {A = Result SphereSetup Refused} (Ok x) (Ok y) → x ≡ y
 same_setup x y e = cc
 
+-- each sphere that was read has a setup, made of its own image and role
 pub sphere_made : (k i : ℕ) (ss : List SphereRead) (images : List Image) (xs : List SphereSetup) (s : SphereRead) → images_of k ss ≡ Ok images → spheres_of k ss images ≡ Ok xs → slice_get ss i ≡ Some s
     → (x : SphereSetup) × (slice_get xs i ≡ Some x) × IsMade s x
 sphere_made k i [] images xs s are made at = absurd (none-some s at)

@@ -183,6 +183,7 @@ epochs-so s role asked x recorded epochs is =
 pub has-size : (s : ℕ) (role : RoleSetup) (asked : RecordSetup) (x : EpochSetup) → role ≡ IsRecorded asked → asked.epochs ≡ Some x → IsRole s role → 1 ≤ x.size
 has-size s role asked x recorded epochs is = (epochs-so s role asked x recorded epochs is).least
 
+-- a recording in epochs that is within the limits keeps at least one epoch
 pub keeps-some : (s : ℕ) (role : RoleSetup) (asked : RecordSetup) (x : EpochSetup) → role ≡ IsRecorded asked → asked.epochs ≡ Some x → IsRole s role → 1 ≤ x.keep
 keeps-some s role asked x recorded epochs is = (epochs-so s role asked x recorded epochs is).some
 

@@ -15,6 +15,7 @@ leb-capped m k l = grind (arith, nat_tests)
 leb-same : (m k : ℕ) → k < 2 ^ 33 → leb m k ≡ true → capped m ≡ m
 leb-same m k l e = grind (arith, nat_tests)
 
+-- a cut number is in a range whose bounds are below the cut exactly if the number is
 pub within-capped : (below above : ℕ) (n : Number) → below < 2 ^ 33 → above < 2 ^ 33 → within below above (number_capped n) ≡ within below above n
 within-capped below above n l m = elim n.negative as (λ b. leb (capped n.magnitude) (cond b below above) ≡ leb n.magnitude (cond b below above)) [
   | true ↦ leb-capped n.magnitude below l

@@ -111,6 +111,7 @@ any-below p [] (suc i) = grind (arith, nat_tests)
 any-below p (x ∷ xs) zero = grind (arith, nat_tests)
 any-below p (x ∷ xs) (suc i) = any-front p x xs i (p x) refl (any-below p xs i)
 
+-- whether a line was found, and it is before line i
 abbrev pub is_before : Option ℕ → ℕ → Bool
 is_before None i = false
 is_before (Some k) i = ltb k i

@@ -50,6 +50,7 @@ point_in w held kind n short = Point.Commit (moment w) held.sphere (Actor.Thread
 abbrev pub chunk_of : Occupant → Chunk
 chunk_of h = h.chunk
 
+-- the younger chunk that an occupant has, if any
 abbrev pub younger_in : Occupant → Option Chunk
 younger_in h = h.younger
 
@@ -125,6 +126,7 @@ younger_is (Some h) held e = refl
 
 -- ---- a chunk
 
+-- a thread's commit request for a chunk that was closed so, with its younger chunk, if any
 abbrev pub chunk_asked : World → Seen → How → Chunk → (younger : Option Chunk) → CommitRequest
 chunk_asked w held how ch younger =
     record {
@@ -163,6 +165,7 @@ chunk_after w c how (Some h) held ch y marks v eh ec ey em ev =
 
 -- ---- a serial step
 
+-- a thread's commit request for a serial step: of size 0, without a younger chunk
 abbrev pub serial_asked : Seen → CommitRequest
 serial_asked held =
     record {
@@ -179,6 +182,7 @@ serial_is : (w : World) (c : ℕ) (h : Occupant) → grant_serial w c h ≡ (let
 unfolding grant_serial
 serial_is w c h = refl
 
+-- what a granted serial step comes to, by what it makes of its sphere
 abbrev pub serial_after_of : World → (core : ℕ) → Seen → MovedSphere → EventOutcome
 serial_after_of w c held v = granted w c (serial_asked held) (signed held.sphere v.words (nothing w.numbers.bits)) v v.outcome
 

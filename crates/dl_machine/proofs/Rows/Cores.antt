@@ -33,6 +33,7 @@ cores_set most words lines depth row i c d held are within at is =
       each = All-set (IsAlike most words lines depth) row i d (alike_holding most words lines depth c d held (alike_at most words lines depth row i c are within at) is) are.each;
     }
 
+-- a row of cores, seen as the sizes that they share and what each holds
 abbrev pub cores_of : (most words lines depth : ℕ) → List Core → Cores
 cores_of most words lines depth row = record { most = most; capacity = words; bits = lines; depth = depth; held = map held_by row }
 

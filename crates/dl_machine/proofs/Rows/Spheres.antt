@@ -8,6 +8,7 @@ use Rattle.dl_sphere.specs.Setups.{standard_in}
 use Rattle.dl_sphere.specs.SizedSpheres.{SizedSphere}
 use Rattle.dl_machine.specs.Rows.{AreSpheres, IsOfStandard, Spheres, sphere_in, nth_sphere, with_nth}
 
+-- a row of spheres, seen as the plan's standard size, the greatest one, and the spheres
 abbrev pub spheres_of : (s most : ℕ) → List SizedSphere → Spheres
 spheres_of s most row = record { s = s; most = most; spheres = map sphere_in row }
 

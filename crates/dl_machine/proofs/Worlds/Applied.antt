@@ -28,6 +28,7 @@ use Rattle.dl_machine.proofs.Worlds.Promised.{led_on, run_more}
 pub few_events : (e : Event) (now between : World) → between ≡ left (act now e) → between.counts.events ≡ now.counts.events
 few_events e now between is = ap (λ (w : World). w.counts.events) is ∙ ap (λ (n : Counts). n.events) (act_counts now e)
 
+-- in the world that an act leaves, no reply was given more often than there were events
 pub few_replies : (e : Event) (now between : World) → IsReady now → between ≡ left (act now e) → (k : ℕ) → slice_index between.counts.replies k ≤ between.counts.events
 few_replies e now between ready is k =
     let same : between.counts ≡ now.counts = ap (λ (w : World). w.counts) is ∙ act_counts now e in

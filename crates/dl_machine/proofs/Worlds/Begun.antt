@@ -145,5 +145,6 @@ begun_whole from now i b all = let many = spheres_kept from now i b in b.first �
 pub begun_some : (from now new : World) (i : ℕ) → HaveBegun from now i → new ≡ now → HasBegunSome from new
 begun_some from now new i b same = record { many = i; begun = same ∙ b.first }
 
+-- if an epoch is due in sphere i, one is due in some sphere of the world
 pub one_due : (now new : World) (i : ℕ) → has_due (sphere_at now i) ≡ true → new ≡ now → IsOneDue new
 one_due now new i due same = record { sphere = i; due = ap (λ (w : World). has_due (sphere_at w i)) same ∙ due }

@@ -24,6 +24,7 @@ no-interrupt : (f : Interrupt → Bool) (is : List Interrupt) (k i : ℕ) → in
 no-interrupt f is k i e =
     ap (option_map (λ (s : Interrupt). s.value)) (none-left (λ (s : Interrupt). eqb s.thread k && eqb s.index i) f is (none-there is k i e))
 
+-- if the next interrupt is of a new moment, it still is once some are dropped
 pub fresh-left : (f : Interrupt → Bool) (ts : List Parts) (is : List Interrupt) → AreFresh ts is → AreFresh ts (filter f is)
 fresh-left f ts is h =
     record {

@@ -320,6 +320,7 @@ piece-in (Some x) now b k first commits there turn h may =
 
 -- ---- as it is judged
 
+-- after a thread's commit that went and was put in its list, the lists still fit the strata
 pub commit-in : (r : Following) (s : State) (p : Progress) (k : ℕ) (v : LogVerdict) (j : Judged) (b : Cursor) (c : Commit) (first : ℕ) (old new : Listed)
     → j ≡ judged r s p k v → j.verdict ≡ Verdict.Went → b.strata ≡ r.strata → b.now ≡ r.now → AreInStrataIf r.strata r.now first old → MayCommit b k
     → IsPutIn k (option_map begins j.replay.strata) c old new → AreInStrataIf j.replay.strata j.replay.now first new
@@ -329,12 +330,14 @@ commit-in r s p k (Goes e u) j b c first old new is went there turn h may put =
     subst (λ (g : Judged). AreInStrataIf g.replay.strata g.replay.now first new) (sym is)
     (goes-in r.strata r.now b r.log r.interval (with_commit r.strata k e p) u (with_threads k e s.threads) k c first old new there turn h may put_)
 
+-- if a thread's commit diverged and none was moved, the lists still fit the strata
 pub failed-in : (r : Following) (s : State) (p : Progress) (k : ℕ) (v : LogVerdict) (why : Why) (j : Judged) (first : ℕ) (old new : Listed)
     → j ≡ judged r s p k v → j.verdict ≡ Verdict.Diverged why → AreSame new old → AreInStrataIf r.strata r.now first old → AreInStrataIf j.replay.strata j.replay.now first new
 failed-in r s p k (Fails w) why j first old new is failed same h =
     subst (λ (g : Judged). AreInStrataIf g.replay.strata g.replay.now first new) (sym is) (ended-in r.strata r.now (End.Diverged s.commits w) first old new same h)
 failed-in r s p k (Goes e u) why j first old new is failed same h = (let x : Verdict.Went ≡ Verdict.Diverged why = ap (λ (g : Judged). g.verdict) (sym is) ∙ failed in cc)
 
+-- after a DMA that went and comes last, with none waiting, the lists still fit the strata
 pub dma-commit-in : (r : Following) (s : State) (p : Progress) (v : DmaVerdict) (j : Judged) (c : Commit) (first : ℕ) (old new : Listed)
     → j ≡ dma_judged r s p v → j.verdict ≡ Verdict.Went → r.now ≡ TurnOfDma → AreInStrataIf r.strata r.now first old
     → listed new ≡ listed old ++ c ∷ [] → NoneWaits new → AreInStrataIf j.replay.strata j.replay.now first new
@@ -343,6 +346,7 @@ dma-commit-in r s p (DmaGoes words) j c first old new is went turn h put none =
     subst (λ (g : Judged). AreInStrataIf g.replay.strata g.replay.now first new) (sym is)
     (dma-goes-in r.strata r.now r.log r.interval (with_dma p) (with_dma_used s.used) s.threads c first old new turn h put none)
 
+-- if a DMA diverged and no commit was moved, the lists still fit the strata
 pub dma-failed-in : (r : Following) (s : State) (p : Progress) (v : DmaVerdict) (why : Why) (j : Judged) (first : ℕ) (old new : Listed)
     → j ≡ dma_judged r s p v → j.verdict ≡ Verdict.Diverged why → AreSame new old → AreInStrataIf r.strata r.now first old → AreInStrataIf j.replay.strata j.replay.now first new
 dma-failed-in r s p (DmaFails w) why j first old new is failed same h =
@@ -356,6 +360,7 @@ room-if : (o : Option Standing) (k : ℕ) (commits : Listed) → HasRoomIn k (op
 room-if None k commits room = room
 room-if (Some x) k commits room = room
 
+-- if a thread's commit has room in the lists before it is judged, it has room after
 pub room-in : (r : Following) (s : State) (p : Progress) (k : ℕ) (v : LogVerdict) (j : Judged) (commits : Listed) → j ≡ judged r s p k v → HasRoomIn k (option_map begins r.strata) commits → HasRoomIn k (option_map begins j.replay.strata) commits
 room-in r s p k (Fails why) j commits is room = subst (λ (g : Judged). HasRoomIn k (option_map begins g.replay.strata) commits) (sym is) room
 room-in r s p k (Goes e u) j commits is room = subst (λ (g : Judged). HasRoomIn k (option_map begins g.replay.strata) commits) (sym is) (room-if r.strata k commits room)
@@ -369,6 +374,7 @@ placed : (o : Option Standing) (f : Standing → Standing) (now : TurnOrEnd) (k 
 placed None f now k c first old new h put = put
 placed (Some x) f now k c first old new h put = put-any (begins (f x)) k c old new put ∙ ap (λ (n : ℕ). insert (listed old) n c) (h.ends k)
 
+-- a commit that is put in is at its canonical place, or without strata after all others
 pub put-in-place : (r : Following) (s : State) (p : Progress) (k : ℕ) (v : LogVerdict) (j : Judged) (c : Commit) (first : ℕ) (old new : Listed) → j ≡ judged r s p k v → AreInStrataIf r.strata r.now first old
     → IsPutIn k (option_map begins j.replay.strata) c old new → listed new ≡ put_at (option_map (place_of k) r.strata) c (listed old)
 put-in-place r s p k (Fails why) j c first old new is h put =
@@ -412,6 +418,7 @@ first-takes v p u ts a some none e =
 abbrev pub BeginsIf : Option Standing → TurnOrEnd → (first : ℕ) → Type 0
 BeginsIf o now first = (commits : Listed) → listed commits ≡ [] → NoneWaits commits → AreInStrataIf o now first commits
 
+-- with no commit done or listed, the lists fit strata of which nothing is done
 pub begins-in : (v : StrataParts) (p : Progress) (u : Used) (ts : List Parts) → HaveSome v.strata → position p ≡ 0 → BeginsIf (Some (stratum_begun v.strata 0)) (now_at (canonical v) p u ts) 0
 begins-in v p u ts some none commits empty settled_ =
     next-in (stratum_begun v.strata 0) (now_at (canonical v) p u ts) 0 commits refl (settled v.strata 0 commits some settled_ (ap length empty))

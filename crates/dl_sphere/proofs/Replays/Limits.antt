@@ -72,6 +72,7 @@ may_be b k may = elim may [
   | inr joins ↦ record { going = joins.going; turn = inr joins.joins }
 ]
 
+-- a replay in which some thread may commit isn't over
 pub may_going : (b : Cursor) (k : ℕ) → MayCommit b k → is_over b.now ≡ false
 may_going b k may = (may_be b k may).going
 

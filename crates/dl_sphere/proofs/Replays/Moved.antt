@@ -125,10 +125,12 @@ Counts (Verdict.Diverged why) s t = t ≡ s
 abbrev pub HasCounted : State → Judged → Type 0
 HasCounted s j = Counts j.verdict s j.state
 
+-- judging a thread's commit counts one more if it goes, and leaves the state if it diverges
 pub commit_counted : (r : Following) (s : State) (p : Progress) (k : ℕ) (v : LogVerdict) → HasCounted s (judged r s p k v)
 commit_counted r s p k (Fails why) = refl
 commit_counted r s p k (Goes e u) = refl
 
+-- judging a DMA counts one more if it goes, and leaves the state if it diverges
 pub dma_counted : (r : Following) (s : State) (p : Progress) (v : DmaVerdict) → HasCounted s (dma_judged r s p v)
 dma_counted r s p (DmaFails why) = refl
 dma_counted r s p (DmaGoes words) = refl
@@ -140,6 +142,7 @@ pub commit_log : (r : Following) (s : State) (p : Progress) (k : ℕ) (v : LogVe
 commit_log r s p k (Fails why) = refl
 commit_log r s p k (Goes e u) = refl
 
+-- judging a DMA leaves the replay's log as it is
 pub dma_log : (r : Following) (s : State) (p : Progress) (v : DmaVerdict) → (dma_judged r s p v).replay.log ≡ r.log
 dma_log r s p (DmaFails why) = refl
 dma_log r s p (DmaGoes words) = refl

@@ -55,9 +55,11 @@ zeros zero k = refl
 zeros (suc n) zero = refl
 zeros (suc n) (suc k) = zeros n k
 
+-- at the start no thread has more than 0 commits
 pub no-more : (entry k : ℕ) → commits_in (started entry ∷ []) k ≤ 0
 no-more entry k = let e = no-commits entry k in omega arith
 
+-- at the start 63 zeros count the commits that each thread has done
 pub none-done : (entry k : ℕ) → slice_index (let none : ℕ = 0 in replicate 63 none) k ≡ commits_in (started entry ∷ []) k
 none-done entry zero = refl
 none-done entry (suc k) = zeros 62 k

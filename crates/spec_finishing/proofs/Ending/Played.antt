@@ -24,6 +24,7 @@ pub last_next : (w : World) (es : List Event) → Finishes w es → next (world_
 last_next w [] f = f
 last_next w (e ∷ es) f = last_next (happens w e).world es f.1
 
+-- two schedules in a row lead where the second leads from the end of the first
 pub after_both : (w : World) (es fs : List Event) → world_after w (es ++ fs) ≡ world_after (world_after w es) fs
 after_both w [] fs = refl
 after_both w (e ∷ es) fs = after_both (happens w e).world es fs

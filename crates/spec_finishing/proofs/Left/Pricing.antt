@@ -8,6 +8,7 @@ pub price-none : (c : ℕ) → price c 0 ≡ 0
 unfolding price
 price-none c = omega arith
 
+-- one unit of work more costs as many events as there are cores, plus six
 pub price-more : (c n : ℕ) → price c (suc n) ≡ price c n + (c + 6)
 unfolding price
 price-more c n = grind arith

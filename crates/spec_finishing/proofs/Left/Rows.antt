@@ -13,6 +13,7 @@ use Rattle.spec_finishing.specs.Rank.{role_rank, spheres_rank}
 abbrev pub sphere_rank : (c : ℕ) → SphereSetup → Sphere → ℕ
 sphere_rank c image p = role_rank c image p p.role
 
+-- if one sphere becomes another, what is left of all changes by the difference between the two
 pub spheres-set : (c : ℕ) (images : List SphereSetup) (ps : List Sphere) (i : ℕ) (image : SphereSetup) (p q : Sphere) → slice_get images i ≡ Some image → slice_get ps i ≡ Some p
     → spheres_rank c images (set ps i q) + sphere_rank c image p ≡ spheres_rank c images ps + sphere_rank c image q
 spheres-set c [] ps i image p q there is = absurd (none-some image there)

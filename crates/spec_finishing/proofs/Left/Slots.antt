@@ -16,6 +16,7 @@ flights-set c [] k v l = absurd (omega arith)
 flights-set c (x ∷ xs) zero v l = omega arith
 flights-set c (x ∷ xs) (suc k) v l = let r = flights-set c xs k v (omega arith) in omega (arith, r)
 
+-- if no slot holds a flight, nothing is left of the flights
 pub flights-none : (c : ℕ) (xs : List (Option Flight)) → ((k : ℕ) → at xs k ≡ None) → flights_rank c xs ≡ 0
 flights-none c [] none = refl
 flights-none c (x ∷ xs) none =
@@ -32,6 +33,7 @@ pub one_at_most : (b : Bool) → one_unless b ≤ 1
 one_at_most true = omega arith
 one_at_most false = omega arith
 
+-- of the first n cores at most n weren't told
 pub untold-most : (n t : ℕ) → untold_cores n t ≤ n
 untold-most zero t = omega arith
 untold-most (suc n) t = let h = one_at_most (told_at t n) in let r = untold-most n t in omega (arith, h, r)

@@ -35,6 +35,7 @@ act_flies c w (Event.Place d i k) good = place-flies c w (core_no w d) (sphere_n
 act_flies c w (Event.Raise i k value) good = raise-flies c w (sphere_no w i) k value
 act_flies c w (Event.Dma i) good = dma-flies c w (sphere_no w i)
 
+-- no event leaves flights with more left than before, except for the flight of its move
 pub happens-flies : (c : ℕ) (w : World) (e : Event) → IsGood w → Flies c w (happens w e)
 unfolding happens
 happens-flies c w e good = act_flies c w e good

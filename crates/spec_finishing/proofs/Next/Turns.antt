@@ -62,6 +62,7 @@ found_by i p ps who Plain is e later = later e
 found_by i p ps who (Record recording) is e later = later e
 found_by i p ps who (Replay b) is e later = found_now i p ps who b (actor_of b.now) is refl e later
 
+-- the lowest replay found to go on is one of the spheres, and its actor has the turn
 pub least-some : (i : ℕ) (ps : List Sphere) (who : SphereTurn) → least i ps ≡ Some who → FoundIn i ps who
 least-some i [] who e = absurd (none-some who e)
 least-some i (p ∷ ps) who e = found_by i p ps who p.role refl e (λ h. found_later i p ps who (least-some (suc i) ps who h))

@@ -90,6 +90,7 @@ on-core w i k c e =
     let p = and_parts (eqb f.0.chunk.sphere i) (eqb f.0.thread k) f.2 in
     (f.0, record { there = f.1; sphere = eqb-true f.0.chunk.sphere i p.0; thread = eqb-true f.0.thread k p.1 })
 
+-- what is left of all spheres pays for the running chunk of the thread that has the turn
 pub core-paid : (s : Setup) (w : World) (i k c : ℕ) (h : Occupant) → Known s w → standing w ≡ None → HasActor s w i (Actor.Thread k) → OnCore w i k c h → paid s.cores h.chunk.done.n ≤ spheres_rank s.cores s.spheres w.spheres
 core-paid s w i k c h known none a on =
     held_paid s w c h known none on.there

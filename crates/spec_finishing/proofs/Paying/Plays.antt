@@ -20,6 +20,7 @@ use Rattle.spec_finishing.proofs.Paying.Affording.{Afforded, Enough, Lone}
 abbrev pub first_of : SphereSetup → Cursor → Played
 first_of image b = first_played image (asked_of b)
 
+-- how many commits the play of a replay does
 abbrev pub count_of : Cursor → ℕ
 count_of b = commits_of (asked_of b)
 
