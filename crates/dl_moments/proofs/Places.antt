@@ -36,7 +36,7 @@ Below {V} index marks p = (k : ℕ) (d : Mark V) → k < p → (get_or marks k d
 below-rest : {V : Type 0} (index : ℕ) (m : Mark V) (ms : List (Mark V)) (p : ℕ) → Below index (m ∷ ms) (suc p) → Below index ms p
 below-rest index m ms p h k d l = h (suc k) d (omega arith)
 
--- between lower marks and a higher one an index's value is put in as a new mark
+-- after lower marks, and before a higher one if any, an index's value is put in as a new mark
 pub with_mark-insert : {V : Type 0} (index : ℕ) (value : V) (marks : List (Mark V)) (p : ℕ) → p ≤ length marks → Below index marks p
     → ((d : Mark V) → p < length marks → index < (get_or marks p d).index)
     → with_mark index value marks ≡ take p marks ++ record { index = index; value = value } ∷ drop p marks

@@ -101,7 +101,7 @@ pub may-note : {V : Type 0} (looked : V → Looked) (Read : V → ℕ → V → 
 may-note looked Read h None v w e = ap looked e
 may-note looked Read h (Some a) v w r = h v w a r
 
--- if no write changes what a view has looked at, nor does a write that may be made
+-- if no write changes what a view has looked at, neither does a write that may be made
 pub may-keep : {V : Type 0} (looked : V → Looked) (Wrote : V → Stored → V → Type 0) → ((v w : V) (b : Stored) → Wrote v b w → looked w ≡ looked v)
     → (o : Option Stored) (v w : V) → MayWrite Wrote o v w → looked w ≡ looked v
 may-keep looked Wrote h None v w e = ap looked e
