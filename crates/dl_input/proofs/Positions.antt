@@ -47,6 +47,7 @@ bytes_at-found position (m ∷ ms) (suc p) x within below is here =
     let less : m.position < position = below 0 m (omega arith) in
     rw (ne_eqb m.position position (λ e. omega arith)) (bytes_at-found position ms p x (omega arith) (below-rest position m ms p below) is here)
 
+-- no bytes are found at a position that none of the records has
 pub bytes_at-none : (position : ℕ) (dmas : List (DmaRecord)) → ((k : ℕ) (d : DmaRecord) → k < length dmas → (get_or dmas k d).position ≡ position → ⊥)
     → None ≡ bytes_at position dmas
 bytes_at-none position [] h = refl

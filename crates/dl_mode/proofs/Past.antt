@@ -17,6 +17,7 @@ use Rattle.dl_mode.proofs.SizeLookups.{length-done_with}
 
 -- ---- counting
 
+-- counting the commits of an order leaves as many counts as there were
 pub length-fold : (counts : List ℕ) (order : List Actor) → length (fold done_with counts order) ≡ length counts
 length-fold counts [] = refl
 length-fold counts (a ∷ order) = length-fold (done_with counts a) order ∙ length-done_with counts a
@@ -68,6 +69,7 @@ few-first counts (Thread t) order few =
       | inr past ↦ omega (arith, get_or_past counts t 0 past)
     ]
 
+-- in an order of few commits, each can be counted in 32 bits after those before it
 pub few-next : (counts : List ℕ) (order : List Actor) (i : ℕ) (d : Actor) → AreFew counts order → i < length order
     → done_by (fold done_with counts (take i order)) (get_or order i d) + 1 < 2 ^ 32
 few-next counts [] i d few h = absurd (omega arith)

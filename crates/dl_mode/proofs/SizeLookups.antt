@@ -161,10 +161,12 @@ fold-few : (done : List ℕ) (order : List Actor) (n : ℕ) → AreAmong n done 
 fold-few done [] n h t = omega (arith, h t)
 fold-few done (a ∷ order) n h t = omega (arith, fold-few (done_with done a) order (n + 1) (done_with-few done a n h) t)
 
+-- among the first i commits of an order no thread has more than i
 pub counted-few : (order : List Actor) (i : ℕ) → AreAmong i (counted (take i order))
 counted-few order i t =
     omega (arith, fold-few (replicate most_threads 0) (take i order) 0 (AreAmong-none (replicate most_threads 0) 0 refl) t, length-take i order)
 
+-- counting one more commit leaves as many counts as there were
 pub length-done_with : (done : List ℕ) (actor : Actor) → length (done_with done actor) ≡ length done
 length-done_with done (Thread u) = length-set done u (get_or done u 0 + 1)
 length-done_with done Dma = refl

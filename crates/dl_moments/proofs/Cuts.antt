@@ -5,6 +5,7 @@ use Rattle.std.proofs.lemmas.List.Sums.{length-filter, count_by-le-length}
 use Rattle.dl_moments.specs.declared.lane.Mark.{Mark}
 use Rattle.dl_moments.specs.Marks.{marks_from, lanes_from}
 
+-- what passes a test that only the first i entries fail is the list from i on
 pub drop-filter : {X : Type 0} (p : X → Bool) (xs : List X) (i : ℕ) → i ≤ length xs
     → ((k : ℕ) (d : X) → k < i → p (get_or xs k d) ≡ false) → ((k : ℕ) (d : X) → i ≤ k → k < length xs → p (get_or xs k d) ≡ true)
     → drop i xs ≡ filter p xs
@@ -24,6 +25,7 @@ lanes_from-at starts t u [] k e h = absurd (omega arith)
 lanes_from-at starts t u (lane ∷ lanes) zero e h = let same : u ≡ t = omega arith in rw same refl
 lanes_from-at starts t u (lane ∷ lanes) (suc k) e h = lanes_from-at starts (suc t) u lanes k (omega arith) (omega arith)
 
+-- lanes that are cut at their starts are as many as before
 pub length-lanes_from : {V : Type 0} (starts : List ℕ) (t : ℕ) (lanes : List (List (Mark V))) → length (lanes_from starts t lanes) ≡ length lanes
 length-lanes_from starts t [] = refl
 length-lanes_from starts t (lane ∷ lanes) = ap suc (length-lanes_from starts (suc t) lanes)

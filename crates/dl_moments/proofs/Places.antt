@@ -36,6 +36,7 @@ Below {V} index marks p = (k : ℕ) (d : Mark V) → k < p → (get_or marks k d
 below-rest : {V : Type 0} (index : ℕ) (m : Mark V) (ms : List (Mark V)) (p : ℕ) → Below index (m ∷ ms) (suc p) → Below index ms p
 below-rest index m ms p h k d l = h (suc k) d (omega arith)
 
+-- after lower marks, and before a higher one if any, an index's value is put in as a new mark
 pub with_mark-insert : {V : Type 0} (index : ℕ) (value : V) (marks : List (Mark V)) (p : ℕ) → p ≤ length marks → Below index marks p
     → ((d : Mark V) → p < length marks → index < (get_or marks p d).index)
     → with_mark index value marks ≡ take p marks ++ record { index = index; value = value } ∷ drop p marks
@@ -49,6 +50,7 @@ with_mark-insert index value (m ∷ ms) (suc p) within below above =
     let rest = with_mark-insert index value ms p (omega arith) (below-rest index m ms p below) (λ d l. above d (omega arith)) in
     rw (lt-ltb m.index index less, rest) refl
 
+-- after lower marks, a value put at an index replaces the mark that has the index
 pub with_mark-set : {V : Type 0} (index : ℕ) (value : V) (marks : List (Mark V)) (p : ℕ) → p < length marks → Below index marks p
     → ((d : Mark V) → (get_or marks p d).index ≡ index)
     → with_mark index value marks ≡ set marks p (record { index = index; value = value })
@@ -61,6 +63,7 @@ with_mark-set index value (m ∷ ms) (suc p) within below here =
     let rest = with_mark-set index value ms p (omega arith) (below-rest index m ms p below) here in
     rw (lt-ltb m.index index less, rest) refl
 
+-- a mark of the index that comes after lower ones gives the value at the index
 pub value_at-found : {V : Type 0} (index : ℕ) (marks : List (Mark V)) (p : ℕ) (x : Mark V) → p < length marks → Below index marks p
     → x ≡ get_or marks p x → x.index ≡ index → Some x.value ≡ value_at index marks
 value_at-found index [] p x within below is here = absurd (omega arith)
@@ -71,6 +74,7 @@ value_at-found index (m ∷ ms) (suc p) x within below is here =
     let less : m.index < index = below 0 m (omega arith) in
     rw (ne_eqb m.index index (λ e. omega arith)) (value_at-found index ms p x (omega arith) (below-rest index m ms p below) is here)
 
+-- no value is found at an index that none of the marks has
 pub value_at-none : {V : Type 0} (index : ℕ) (marks : List (Mark V)) → ((k : ℕ) (d : Mark V) → k < length marks → (get_or marks k d).index ≡ index → ⊥)
     → None ≡ value_at index marks
 value_at-none index [] h = refl

@@ -18,6 +18,7 @@ find-append t (x ∷ xs) ys =
       | false ↦ find-append t xs ys
     ]
 
+-- of three optional values the first that is there is the same, however they are paired
 pub or_or : {X : Type 0} (a b c : Option X) → option_or (option_or a b) c ≡ option_or a (option_or b c)
 or_or None b c = refl
 or_or (Some x) b c = refl
@@ -52,12 +53,14 @@ none-after : (o : Option Line) → option_or o None ≡ o
 none-after None = refl
 none-after (Some l) = refl
 
+-- a store in front, to the word and below commit i, is the last if no other is
 pub who-hit : (s : Store) (ss : List Store) (a i : ℕ) → s.address ≡ a → s.commit < i → who (s ∷ ss) a i ≡ option_or (who ss a i) (Some (line_of s))
 who-hit s ss a i is below =
     ap (λ (ls : List Line). find (is_below i) (reverse ls)) (watch-hit s ss a is)
     ∙ last-more (line_of s) (watch ss a) i
     ∙ ap (λ (b : Bool). option_or (who ss a i) (cond b (Some (line_of s)) None)) (lt-ltb s.commit i below)
 
+-- a store in front, to the word but not below commit i, isn't the last one
 pub who-late : (s : Store) (ss : List Store) (a i : ℕ) → s.address ≡ a → i ≤ s.commit → who (s ∷ ss) a i ≡ who ss a i
 who-late s ss a i is late =
     ap (λ (ls : List Line). find (is_below i) (reverse ls)) (watch-hit s ss a is)
@@ -65,6 +68,7 @@ who-late s ss a i is late =
     ∙ ap (λ (b : Bool). option_or (who ss a i) (cond b (Some (line_of s)) None)) (le-ltb s.commit i late)
     ∙ none-after (who ss a i)
 
+-- a store in front, to another word, isn't the last one
 pub who-miss : (s : Store) (ss : List Store) (a i : ℕ) → s.address ≢ a → who (s ∷ ss) a i ≡ who ss a i
 who-miss s ss a i not = ap (λ (ls : List Line). find (is_below i) (reverse ls)) (watch-miss s ss a not)
 
@@ -73,11 +77,13 @@ who-miss s ss a i not = ap (λ (ls : List Line). find (is_below i) (reverse ls))
 abbrev differs : (value : ℕ) → Line → Bool
 differs v l = not (eqb l.value v)
 
+-- a store in front, to the word and of another value, is the first change
 pub change-hit : (s : Store) (ss : List Store) (a v : ℕ) → s.address ≡ a → s.value ≢ v → change (s ∷ ss) a v ≡ Some (line_of s)
 change-hit s ss a v is other =
     ap (find (differs v)) (watch-hit s ss a is)
     ∙ ap (λ (b : Bool). cond (not b) (Some (line_of s)) (change ss a v)) (ne_eqb s.value v other)
 
+-- a store in front, to the word but of the same value, isn't the first change
 pub change-same : (s : Store) (ss : List Store) (a v : ℕ) → s.address ≡ a → s.value ≡ v → change (s ∷ ss) a v ≡ change ss a v
 change-same s ss a v is same =
     ap (find (differs v)) (watch-hit s ss a is)
@@ -86,6 +92,7 @@ change-same s ss a v is same =
       | inr h ↦ absurd (h.1 same)
     ]
 
+-- a store in front, to another word, isn't the first change
 pub change-miss : (s : Store) (ss : List Store) (a v : ℕ) → s.address ≢ a → change (s ∷ ss) a v ≡ change ss a v
 change-miss s ss a v not = ap (find (differs v)) (watch-miss s ss a not)
 
@@ -110,6 +117,7 @@ pub watch-done : (ss : List Store) (i a : ℕ) (lines : List Line) → length ss
 watch-done ss i a lines past so_far =
     sym (append-nil lines) ∙ sym (ap (λ (ls : List Line). lines ++ ls) (at_drop_all (λ (xs : List Store). watch xs a) ss i past)) ∙ so_far
 
+-- a next store to the word and below commit n becomes the last one so far
 pub who-noted : (ss : List Store) (i : ℕ) (d : Store) (a n : ℕ) (last : Option Line) → i < length ss → (get_or ss i d).address ≡ a → (get_or ss i d).commit < n → option_or (who (drop i ss) a n) last ≡ who ss a n
     → option_or (who (drop (i + 1) ss) a n) (Some (line_of (get_or ss i d))) ≡ who ss a n
 who-noted ss i d a n last h is below so_far =
@@ -122,14 +130,17 @@ who-passed : (ss : List Store) (i : ℕ) (d : Store) (a n : ℕ) (last : Option 
 who-passed ss i d a n last h same so_far =
     ap (λ (o : Option Line). option_or o last) (sym same ∙ sym (at_drop_more (λ (xs : List Store). who xs a n) ss i d h)) ∙ so_far
 
+-- after a next store to another word the last one so far stays
 pub who-other : (ss : List Store) (i : ℕ) (d : Store) (a n : ℕ) (last : Option Line) → i < length ss → (get_or ss i d).address ≢ a → option_or (who (drop i ss) a n) last ≡ who ss a n
     → option_or (who (drop (i + 1) ss) a n) last ≡ who ss a n
 who-other ss i d a n last h not so_far = who-passed ss i d a n last h (who-miss (get_or ss i d) (drop (i + 1) ss) a n not) so_far
 
+-- after a next store to the word but not below commit n the last one so far stays
 pub who-above : (ss : List Store) (i : ℕ) (d : Store) (a n : ℕ) (last : Option Line) → i < length ss → (get_or ss i d).address ≡ a → n ≤ (get_or ss i d).commit → option_or (who (drop i ss) a n) last ≡ who ss a n
     → option_or (who (drop (i + 1) ss) a n) last ≡ who ss a n
 who-above ss i d a n last h is late so_far = who-passed ss i d a n last h (who-late (get_or ss i d) (drop (i + 1) ss) a n is late) so_far
 
+-- once no store is left, the last one so far is the answer
 pub who-done : (ss : List Store) (i a n : ℕ) (last : Option Line) → length ss ≤ i → option_or (who (drop i ss) a n) last ≡ who ss a n → last ≡ who ss a n
 who-done ss i a n last past so_far = sym (ap (λ (o : Option Line). option_or o last) (at_drop_all (λ (xs : List Store). who xs a n) ss i past)) ∙ so_far
 
@@ -139,16 +150,19 @@ pub change-found : (ss : List Store) (i : ℕ) (d : Store) (a v : ℕ) → i < l
 change-found ss i d a v h is other so_far =
     sym so_far ∙ at_drop_more (λ (xs : List Store). change xs a v) ss i d h ∙ change-hit (get_or ss i d) (drop (i + 1) ss) a v is other
 
+-- if the next store is to another word, the first change, if any, comes after it
 pub change-other : (ss : List Store) (i : ℕ) (d : Store) (a v : ℕ) → i < length ss → (get_or ss i d).address ≢ a → change (drop i ss) a v ≡ change ss a v
     → change (drop (i + 1) ss) a v ≡ change ss a v
 change-other ss i d a v h not so_far =
     sym (at_drop_more (λ (xs : List Store). change xs a v) ss i d h ∙ change-miss (get_or ss i d) (drop (i + 1) ss) a v not) ∙ so_far
 
+-- if the next store leaves the word's value, the first change, if any, comes after it
 pub change-kept : (ss : List Store) (i : ℕ) (d : Store) (a v : ℕ) → i < length ss → (get_or ss i d).address ≡ a → (get_or ss i d).value ≡ v → change (drop i ss) a v ≡ change ss a v
     → change (drop (i + 1) ss) a v ≡ change ss a v
 change-kept ss i d a v h is same so_far =
     sym (at_drop_more (λ (xs : List Store). change xs a v) ss i d h ∙ change-same (get_or ss i d) (drop (i + 1) ss) a v is same) ∙ so_far
 
+-- if no store is left and none was a change, there is no change
 pub change-never : (ss : List Store) (i a v : ℕ) → length ss ≤ i → change (drop i ss) a v ≡ change ss a v → change ss a v ≡ None
 change-never ss i a v past so_far = sym so_far ∙ at_drop_all (λ (xs : List Store). change xs a v) ss i past
 

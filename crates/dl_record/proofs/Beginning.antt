@@ -151,6 +151,7 @@ gone keep (p ∷ q ∷ es) e n m c d f few counted s i g =
       follow = all.3;
     })
 
+-- if a new epoch makes a recording give up its earliest, it goes on with the others
 pub gives_up : (x : Epochs) (e : Epoch) (n m : ℕ) (c d : Epoch) → AreEpochs x n m → IsCounted e.state → e.state.commits ≡ n → e.inputs ≡ m
     → given_up x.keep (x.begun ++ e ∷ []) ≡ Some (c, d) → IsGivenUp x (without_first (with_epoch e x)) c d n m
 gives_up x e n m c d a counted s i g =

@@ -147,6 +147,7 @@ sizes-since n done at (Short sizes) h =
     ap Short (filter-same (λ x. nat_le (slice_index done x.thread) x.index) (λ x. not (was_done at x.thread x.index))
     (λ x. rw (h x.thread) (le-not_lt (commits_of (slice_get at x.thread)) x.index)) sizes)
 
+-- what is kept without the first n commits is the same by counts as by a state's threads
 pub kept-since : (n : ℕ) (done : List ℕ) (at : List Parts) (kept : Kept) → ((t : ℕ) → slice_index done t ≡ commits_of (slice_get at t))
     → kept_since n done kept ≡ kept_from n at kept
 kept-since n done at kept h = rw (sizes-since n done at kept.sizes h) refl
@@ -181,6 +182,7 @@ filter-map f p (x ∷ xs) =
       | inr e ↦ rw e (filter-map f p xs)
     ]
 
+-- interrupts from each thread's start on are those that weren't raised yet in a state
 pub interrupts-since : (starts : List ℕ) (at : List Parts) (entries : List Tracked) → ((t : ℕ) → slice_index starts t ≡ unraised_of (slice_get at t))
     → map interrupt_of (tracked_since starts entries) ≡ filter (λ x. not (was_raised at x.thread x.index)) (map interrupt_of entries)
 interrupts-since starts at entries h =

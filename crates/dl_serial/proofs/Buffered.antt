@@ -6,6 +6,7 @@ use Rattle.spec_isa.specs.Words.{Stored}
 use Rattle.spec_isa.specs.Inside.{AreInside}
 use Rattle.spec_query.specs.declared.Store.{Store}
 
+-- each word of a list is inside the memory if all of them are
 pub each_inside : (size : ℕ) (ws : List Stored) (i : ℕ) (s : Stored) → slice_get ws i ≡ Some s → AreInside size ws → 4 * s.number + 4 ≤ size
 each_inside size [] i s e all = cc
 each_inside size (r ∷ rs) zero s e all = subst (λ (q : Stored). 4 * q.number + 4 ≤ size) (same_Some r s e) all.0

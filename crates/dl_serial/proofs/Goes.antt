@@ -41,6 +41,7 @@ effect_of d (Fails why) = d
 abbrev IsLike : Effect → Effect → Type 0
 IsLike e f = record f { thread = e.thread } ≡ e
 
+-- an interrupt that a commit takes at its end changes only the thread of its effect
 pub interrupted-like : (o : Option ℕ) (e : Effect) (u : Used) (f : Effect) (w : Used) → with_interrupted o e u ≡ Goes f w → IsLike e f
 unfolding goes effect_of
 interrupted-like None e u f w is = ap (λ (x : Effect). record x { thread = e.thread }) (sym (ap (effect_of e) is))
@@ -50,6 +51,7 @@ interrupted-like (Some value) e u f w is =
       | false ↦ λ h. absurd (true≢false (sym (ap goes h)))
     ]) is
 
+-- a commit that passes a check goes by the verdict that it has without the check
 pub unless-goes : (o : Option Why) (v : LogVerdict) (f : Effect) (w : Used) → unless o v ≡ Goes f w → v ≡ Goes f w
 unfolding goes
 unless-goes None v f w is = is

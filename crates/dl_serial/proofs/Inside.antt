@@ -67,6 +67,7 @@ looked-inside t m a e =
 
 -- ---- a run
 
+-- each word that a run looks at is inside its memory
 pub looks-inside : (m : List ℕ) (t : Parts) (n a : ℕ) → looks m t n a ≡ true → 4 * a + 4 ≤ length m
 looks-inside m t zero a e = absurd (true≢false (sym e))
 looks-inside m t (suc n) a e =

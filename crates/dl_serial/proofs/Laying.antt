@@ -11,6 +11,7 @@ use Rattle.dl_thread.specs.Sight.{Lays}
 use Rattle.spec_isa.specs.Inside.{AreInside}
 use Rattle.dl_serial.specs.Overlays.{sight_of, with_word}
 
+-- the first word of a list is inside the memory if all of them are
 pub first_inside : (size : ℕ) (ws : List Stored) (s : Stored) → slice_get ws 0 ≡ Some s → AreInside size ws → 4 * s.number + 4 ≤ size
 first_inside size [] s e all = cc
 first_inside size (r ∷ rs) s e all = subst (λ (q : Stored). 4 * q.number + 4 ≤ size) (let h : r ≡ s = cc in h) all.0
@@ -24,13 +25,16 @@ rest_inside : (size : ℕ) (ws : List Stored) → AreInside size ws → AreInsid
 rest_inside size [] all = tt
 rest_inside size (r ∷ rs) all = all.1
 
+-- with any word laid, the words after the first are inside the memory still
 pub first_rest_inside : (m : List ℕ) (ws : List Stored) (s : Stored) → AreInside (length m) ws → AreInside (length (lay m s)) (drop 1 ws)
 first_rest_inside m ws s all = subst (λ (n : ℕ). AreInside n (drop 1 ws)) (sym (length_lay m s)) (rest_inside (length m) ws all)
 
+-- a list of words that has a first one is shorter without it
 pub shorter : (ws : List Stored) (s : Stored) → slice_get ws 0 ≡ Some s → length (drop 1 ws) < length ws
 shorter [] s e = cc
 shorter (r ∷ rs) s e = omega arith
 
+-- a list of words that has no first one is empty
 pub no_first : (ws : List Stored) → slice_get ws 0 ≡ None → ws ≡ []
 no_first [] e = refl
 no_first (r ∷ rs) e = cc

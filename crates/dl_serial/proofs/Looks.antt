@@ -29,12 +29,14 @@ or-false : (b : Bool) → (b || false) ≡ b
 or-false true = refl
 or-false false = refl
 
+-- an or of three truths is the same in either grouping
 pub or-assoc : (a b c : Bool) → ((a || b) || c) ≡ (a || (b || c))
 or-assoc true b c = refl
 or-assoc false b c = refl
 
 -- ---- numbers in a list
 
+-- a list with a number put at its end has that number, and those that it had
 pub has-push : (xs : List ℕ) (x a : ℕ) → has (xs ++ x ∷ []) a ≡ (has xs a || nat_eq x a)
 has-push [] x a = or-false (nat_eq x a)
 has-push (y ∷ ys) x a = ap (λ (b : Bool). nat_eq y a || b) (has-push ys x a) ∙ sym (or-assoc (nat_eq y a) (has ys a) (nat_eq x a))
@@ -93,11 +95,13 @@ looked-is m ws t d l1 l2 a is fetch load =
 
 -- ---- by a view
 
+-- if each read of a view notes its word, a read that may be made notes it, too
 pub may-note : {V : Type 0} (looked : V → Looked) (Read : V → ℕ → V → Type 0) → ((v w : V) (a : ℕ) → Read v a w → looked w ≡ noted (looked v) a)
     → (o : Option ℕ) (v w : V) → MayRead Read o v w → NotedIf o (looked v) (looked w)
 may-note looked Read h None v w e = ap looked e
 may-note looked Read h (Some a) v w r = h v w a r
 
+-- if no write changes what a view has looked at, neither does a write that may be made
 pub may-keep : {V : Type 0} (looked : V → Looked) (Wrote : V → Stored → V → Type 0) → ((v w : V) (b : Stored) → Wrote v b w → looked w ≡ looked v)
     → (o : Option Stored) (v w : V) → MayWrite Wrote o v w → looked w ≡ looked v
 may-keep looked Wrote h None v w e = ap looked e
@@ -120,6 +124,7 @@ stopped-looks m t n limit a l some = by (next_kind (run m t n).thread (lays m (r
 
 -- ---- words that are stored
 
+-- the first i + 1 stores hold the words of the first i and of the next
 pub holds-more : (ws : List Stored) (i : ℕ) (s : Stored) (a : ℕ) → slice_get ws i ≡ Some s → holds (take (i + 1) ws) a ≡ (holds (take i ws) a || nat_eq s.number a)
 holds-more ws i s a is =
     let next : take (i + 1) ws ≡ take i ws ++ s ∷ [] =

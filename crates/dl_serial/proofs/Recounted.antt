@@ -33,12 +33,15 @@ uncounted_yet b j [] (suc k) = refl
 uncounted_yet b j (x ∷ first) zero = refl
 uncounted_yet b j (x ∷ first) (suc k) = uncounted_yet b (suc j) first k
 
+-- at first no thread is counted from the recording's start yet
 pub first-counted : (b : ℕ → ℕ) (first : List Parts) → AreCounted b first first 0
 first-counted b first = record { all = refl; so_far = refl }
 
+-- the next thread to be counted is still as it was at first
 pub its-own : (b : ℕ → ℕ) (first ts : List Parts) (k : ℕ) (p : Parts) → AreCounted b first ts k → slice_get ts k ≡ Some p → slice_get first k ≡ Some p
 its-own b first ts k p c is = sym (uncounted_yet b 0 first k) ∙ sym (ap (λ (us : List Parts). slice_get us k) c.so_far) ∙ is
 
+-- once the next thread has its commits before the base added, one more is counted
 pub next-counted : (b : ℕ → ℕ) (first ts : List Parts) (k : ℕ) (p : Parts) → AreCounted b first ts k → slice_get ts k ≡ Some p
     → AreCounted b first (slice_set ts k (record p { commits = b k + p.commits })) (k + 1)
 next-counted b first ts k p c is =
@@ -53,6 +56,7 @@ next-counted b first ts k p c is =
           ∙ counted_next b 0 first k p own;
     })
 
+-- if no thread is left, all of them are counted from the recording's start
 pub all-counted : (b : ℕ → ℕ) (first ts : List Parts) (k : ℕ) → length first ≤ k → AreCounted b first ts k → ts ≡ counted_from b 0 first
 all-counted b first ts k past c =
     c.so_far

@@ -38,6 +38,7 @@ serial_outside t f size e = rw e refl
 abbrev pub kind_of : List ℕ → Words → Parts → Option Kind
 kind_of m ws t = serial_of t (fetched_word (sight_of m ws) t) (length (lays m ws.words))
 
+-- over a memory with a buffer an instruction is serial, or runs if its store has room
 pub did_is : (m : List ℕ) (ws : Words) (t : Parts) → let s = sight_of m ws in did s t ≡ unless_serial (kind_of m ws t) (room_or_none s (load_made s t) (store_made s t))
 unfolding room_or_none
 did_is m ws t =
@@ -90,6 +91,7 @@ next-more m ws new r t next load is same d moved stored =
     ∙ ap (followed r) outcome
     ∙ ap (λ (xs : List Stored). record { thread = next; words = xs; loads = with_load r.loads load; n = suc r.n }) words
 
+-- an instruction's store leaves the capacity of the buffer as it was
 pub next-room : (ws new : Words) (store : Option Stored) → new ≡ overlay.with_store ws store → new.capacity ≡ ws.capacity
 next-room ws new store is = ap (λ (w : Words). w.capacity) is ∙ capacity_stored ws store
 
@@ -131,6 +133,7 @@ unfolding room_or_none
 full_by s (Some k) made store there e = cc
 full_by s None made store there e = let h : Did.NoRoom ≡ Did.Next made = e ∙ ap (λ (b : Bool). if b then Did.Next made else Did.NoRoom) there in cc
 
+-- a buffer with fewer words than its capacity has room for any instruction's store
 pub never-full : (m : List ℕ) (ws : Words) (t : Parts) → length ws.words < ws.capacity → Did.NoRoom ≡ did (sight_of m ws) t → ⊥
 never-full m ws t few d =
     let s = sight_of m ws in full_by s (kind_of m ws t) (load_made s t) (store_made s t) (room_there m ws (store_made s t) few) (d ∙ did_is m ws t)
@@ -141,5 +144,6 @@ bounced_by s (Some kind) made store k e = cc
 bounced_by s None made store k e =
     elim (sight_room s store) as (λ (b : Bool). Did.Bounced k ≡ (if b then Did.Next made else Did.NoRoom) → ⊥) [ true ↦ λ h. cc | false ↦ λ h. cc ] e
 
+-- no flight holds up an instruction over a memory with a buffer
 pub never-held : (m : List ℕ) (ws : Words) (t : Parts) (k : ℕ) → Did.Bounced k ≡ did (sight_of m ws) t → ⊥
 never-held m ws t k d = let s = sight_of m ws in bounced_by s (kind_of m ws t) (load_made s t) (store_made s t) k (d ∙ did_is m ws t)

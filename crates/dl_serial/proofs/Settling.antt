@@ -94,6 +94,7 @@ both-playing (Ok x) r new s n left words c p is more at sound noted laid still h
 both-playing (Err x) r new s n left words c p is more at sound noted laid still h =
     noted-playing r new s n left left.memory c p is more at sound noted still refl h
 
+-- after a thread's commit that goes a sphere plays on, even if memory ran out for its words
 pub gone-playing : {A E : Type 0} (result : Result A E) (r new : Following) (s n : Sphere) (left : State) (k : ℕ) (v : LogVerdict) (words : List Stored) (c : Commit) → (g : HasGone r s.past.state (progress_in s.past) new left k v) → IsReplaying new left
     → IsSoundIf (length s.past.state.memory) g.effect.request → IsNoted s n c → OnOk result (n.past.state ≡ record left { memory = lays left.memory words }) → OnErr result (n.past.state ≡ left) → IsPlaying r s → IsPlaying new n
 gone-playing result r new s n left k v words c g at sound noted laid still h =
@@ -102,6 +103,7 @@ gone-playing result r new s n left k v words c g at sound noted laid still h =
     (g.replay ∙ ap (λ (x : State). followed r.log r.interval None p x.used x.threads) (sym g.state)) (ap (λ (x : State). x.commits) g.state) at
     (subst (λ (x : State). IsSoundIf (length x.memory) x.request) (sym g.state) sound) noted laid still h
 
+-- after a DMA that goes a sphere plays on, even if memory ran out for its words
 pub transferred-playing : {A E : Type 0} (result : Result A E) (r new : Following) (s n : Sphere) (left : State) (v : DmaVerdict) (words : List Stored) (c : Commit) → (g : HasTransferred r s.past.state (progress_in s.past) new left v) → IsReplaying new left
     → IsNoted s n c → OnOk result (n.past.state ≡ record left { memory = lays left.memory words }) → OnErr result (n.past.state ≡ left) → IsPlaying r s → IsPlaying new n
 transferred-playing result r new s n left v words c g at noted laid still h =

@@ -48,11 +48,13 @@ always_looked log i =
 abbrev stopped_at : State → Walked
 stopped_at s = record { commits = []; threads = s.threads; memory = s.memory; request = s.request; end = WalkEnd.Ended (End.Diverged 0 Why.Interrupt) }
 
+-- if an interrupt is refused at the base, the walk has no commits and diverges at once
 pub stopped-walk : (log : LogParts) (s : State) → walked_at log log.count (played_from log s true) ≡ stopped_at s
 stopped-walk log s =
     ap (walked_at log log.count) (stays log (begun_play log s true) (End.Diverged 0 Why.Interrupt) log.count refl)
     ∙ ap (λ (b : Bool). record (stopped_at s) { end = cond b (WalkEnd.Ended (End.Diverged 0 Why.Interrupt)) (WalkEnd.Reached (s.commits + 0)) }) (always_looked log (s.commits + 0))
 
+-- if an interrupt is refused at the base, the play stays in the state it began in
 pub stopped-state : (log : LogParts) (s : State) → state_of (played_from log s true) ≡ s
 stopped-state log s =
     let none : s.commits + 0 ≡ s.commits = omega arith in

@@ -44,6 +44,7 @@ pub record IsLook (log : LogParts) (y : Played) (k : ℕ) (t : Parts) (limit : �
   pub stored : (a : ℕ) → has f.stored.items a ≡ holds (run y.memory t limit).words a
   pub inside : AreInside (length y.memory) (run y.memory t limit).words
 
+-- what a run of the whole commit looks at is the footprint of the next chunk
 pub has-looked : (log : LogParts) (y : Played) (ss : List Store) (v : Playing) (k : ℕ) (t : Parts) (limit : ℕ) (f : Footprint)
     → (let w : Playing = record { log = log; played = y; stores = ss } in w ≡ v) → IsLook log y k t limit f → HasLooked v f
 has-looked log y ss v k t limit f is l =

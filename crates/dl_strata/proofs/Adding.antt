@@ -48,10 +48,12 @@ now-size log y (Ended how) = refl
 now-size log y TurnOfDma = dma-size log y (dma_verdict log y.progress y.used)
 now-size log y (Turn k) = thread-size log y k (slice_get y.threads k)
 
+-- one commit more of a play leaves the size of its memory as it was
 pub one-size : (log : LogParts) (y : Played) → length (play_one log y).memory ≡ length y.memory
 unfolding play_one
 one-size log y = now-size log y y.now
 
+-- any number of commits more of a play leave the size of its memory as it was
 pub plays-size : (log : LogParts) (y : Played) (n : ℕ) → length (plays log y n).memory ≡ length y.memory
 plays-size log y zero = refl
 plays-size log y (suc n) = one-size log (plays log y n) ∙ plays-size log y n
@@ -79,6 +81,7 @@ next-chunk p c cs k f some follows looked actor kind =
     let goes : ChunkGoes p.log p.played k = chunk-goes p.log p.played k c t.does kind in
     record { some = some; goes = goes; footprint = looked-at-chunk p k f some goes t.turn looked }
 
+-- the first of the commits that follow is the play's next, with the footprint looked at
 pub next-commit : (p : Playing) (c : Commit) (cs : List Commit) (f : Footprint) → 0 < p.log.s → Follows p.log p.played (c ∷ cs) → HasLooked p f → IsNextCommit p.log p.played c f
 next-commit p c cs f some follows looked =
     record {

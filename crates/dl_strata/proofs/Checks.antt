@@ -22,6 +22,7 @@ Leads old new ks left =
     (all : ℕ → Bool) (js : List ℕ) (xs : List Stratum) → IsInStratum all old.player old.touches.touches (ks ++ js) xs
     → IsInStratum all new.player new.touches.touches (left ++ js) xs
 
+-- before any chunk is checked, all of them are left
 pub leads-start : (c : Checker) (ks left : List ℕ) → ks ≡ left → Leads c c ks left
 leads-start c ks left e all js xs w = subst (λ (is : List ℕ). IsInStratum all c.player c.touches.touches (is ++ js) xs) e w
 
@@ -61,9 +62,11 @@ leads-end old new ks left e leads all js xs w =
 
 -- ---- which chunks are next
 
+-- if i of a thread's n chunks are done, one more comes next, and then the others
 pub one-of : (n i k : ℕ) → i < n → replicate (n - i) k ≡ (k ∷ []) ++ replicate (n - (i + 1)) k
 one-of n i k l = let e : n - i ≡ suc (n - (i + 1)) = omega (arith, l) in ap (λ (m : ℕ). replicate m k) e
 
+-- the chunks of the threads from i on are those of thread i, and then the later threads'
 pub thread-of : (counts : List ℕ) (i k d : ℕ) → k ≡ i → i < length counts
     → rising i (drop i counts) ≡ replicate (get_or counts i d) k ++ rising (i + 1) (drop (i + 1) counts)
 thread-of counts i k d same l =
@@ -81,11 +84,13 @@ begun all old now counts xs player touches before =
     (subst (λ (ts : List Touch). IsInStratum all old.player ts (rising 0 counts) xs) (sym touches)
     (within-begins all old.player old.touches.touches counts xs before)))
 
+-- if a stratum of chunks can be checked, so can its chunks once no word is touched
 pub can-begin : (old now : Checker) (counts : List ℕ) → now.player ≡ old.player → now.touches.touches ≡ map (λ (t : Touch). Untouched) old.touches.touches → CanCheck old (Chunks counts)
     → CanCheckChunks now (rising 0 counts)
 can-begin old now counts player touches can =
     record { all = can.all; threads = []; strata = can.strata; within = begun can.all old now counts can.strata player touches can.before }
 
+-- a stratum of chunks is checked if its chunks are, with no word touched at first
 pub chunks-checked : (old now new : Checker) (counts : List ℕ) (result : Result (Unit {0}) CheckError) → now.player ≡ old.player → now.touches.touches ≡ map (λ (t : Touch). Untouched) old.touches.touches
     → ChecksChunks (rising 0 counts) now result new → Checks (Chunks counts) old result new
 chunks-checked old now new counts (Ok done) player touches checks all xs before =
@@ -93,11 +98,13 @@ chunks-checked old now new counts (Ok done) player touches checks all xs before 
 chunks-checked old now new counts (Err error) player touches checks all xs before =
     checks all [] xs (begun all old now counts xs player touches before)
 
+-- a stratum that is a serial step is checked once the play has advanced by it
 pub serial-checked : (old new : Checker) (k : ℕ) → new.player ≡ advanced old.player → new.touches.touches ≡ old.touches.touches → Checks (Serial k) old (Ok tt) new
 serial-checked old new k player touches all xs before =
     subst (λ (p : Playing). IsBetween all p new.touches.touches xs) (sym player)
     (subst (λ (ts : List Touch). IsBetween all (advanced old.player) ts xs) (sym touches) (serial-passed all old.player old.touches.touches k xs before))
 
+-- a stratum that is a DMA is checked once the play has advanced by it
 pub dma-checked : (old new : Checker) → new.player ≡ advanced old.player → new.touches.touches ≡ old.touches.touches → Checks Dma old (Ok tt) new
 dma-checked old new player touches all xs before =
     subst (λ (p : Playing). IsBetween all p new.touches.touches xs) (sym player)
@@ -114,13 +121,16 @@ between-next : (all : ℕ → Bool) (c : Checker) (xs : List Stratum) (i : ℕ) 
     → IsBetween all c.player c.touches.touches (x ∷ drop (i + 1) xs)
 between-next all c xs i x l is between = subst (IsBetween all c.player c.touches.touches) (next-stratum xs i x l is) between
 
+-- a check that has come to the strata from i on can check stratum i
 pub can-check-next : (all : ℕ → Bool) (c : Checker) (xs : List Stratum) (i : ℕ) (x : Stratum) → i < length xs → x ≡ get_or xs i x → IsBetween all c.player c.touches.touches (drop i xs) → CanCheck c x
 can-check-next all c xs i x l is between = record { all = all; strata = drop (i + 1) xs; before = between-next all c xs i x l is between }
 
+-- once stratum i is checked without a conflict, the check has come to the strata after it
 pub checked-next : (all : ℕ → Bool) (old new : Checker) (xs : List Stratum) (i : ℕ) (x : Stratum) → i < length xs → x ≡ get_or xs i x → IsBetween all old.player old.touches.touches (drop i xs)
     → Checks x old (Ok tt) new → IsBetween all new.player new.touches.touches (drop (i + 1) xs)
 checked-next all old new xs i x l is between checks = checks all (drop (i + 1) xs) (between-next all old xs i x l is between)
 
+-- a conflict that the check of stratum i finds is the first one of all commits
 pub checked-error : (all : ℕ → Bool) (old new : Checker) (xs : List Stratum) (i : ℕ) (x : Stratum) (error : CheckError) → i < length xs → x ≡ get_or xs i x
     → IsBetween all old.player old.touches.touches (drop i xs) → Checks x old (Err error) new → IsFirst all error
 checked-error all old new xs i x error l is between checks = checks all (drop (i + 1) xs) (between-next all old xs i x l is between)

@@ -43,6 +43,7 @@ one-as : (log : LogParts) (y : Played) (now : TurnOrEnd) → y.now ≡ now → p
 unfolding play_one
 one-as log y now e = ap (play_turn log y) e
 
+-- a chunk that goes as logged takes the play's position up by one
 pub chunk-position : (log : LogParts) (y : Played) (k : ℕ) → y.now ≡ Turn k → ChunkGoes log y k → position (play_one log y).progress ≡ suc (position y.progress)
 chunk-position log y k turn c =
     let end : play_one log y ≡ settled log y k (Goes c.effect c.used) =
@@ -50,12 +51,14 @@ chunk-position log y k turn c =
     ∙ ap (λ (o : Option Kind). settled log y k (thread_verdict log y k c.thread o)) c.chunk ∙ ap (settled log y k) c.goes in
     ap (λ (z : Played). position z.progress) end ∙ position-more y.progress c.effect.commit
 
+-- a serial step that goes as logged takes the play's position up by one
 pub serial-position : (log : LogParts) (y : Played) (k : ℕ) → SerialGoes log y k → position (play_one log y).progress ≡ suc (position y.progress)
 serial-position log y k s =
     let end : play_one log y ≡ settled log y k (Goes s.step.effect s.step.used) =
     one-as log y (Turn k) s.turn ∙ ap (play_thread log y k) s.step.there ∙ ap (settled log y k) s.step.goes in
     ap (λ (z : Played). position z.progress) end ∙ position-more y.progress s.step.effect.commit
 
+-- a DMA that goes as logged takes the play's position up by one
 pub dma-position : (log : LogParts) (y : Played) → y.now ≡ TurnOfDma → GoesNow log y TurnOfDma → position (play_one log y).progress ≡ suc (position y.progress)
 dma-position log y turn g =
     ap (λ (z : Played). position z.progress) (one-as log y TurnOfDma turn ∙ ap (dma_settled log y) g.1)
@@ -183,6 +186,7 @@ serial-passed all p touches k xs b =
           (alone-next p.log p.played xs false) b.left;
     }
 
+-- after a DMA, which conflicts with nothing, the check has come to the next strata
 pub dma-passed : (all : ℕ → Bool) (p : Playing) (touches : List Touch) (xs : List Stratum) → IsBetween all p touches (Dma ∷ xs) → IsBetween all (advanced p) touches xs
 dma-passed all p touches xs b =
     record {

@@ -97,6 +97,7 @@ free-on log y k f touches x free =
       stores = λ a held. free.stored a (x.footprint.stored a ∙ held);
     }
 
+-- a chunk whose looks and stores no touch bars is free in the table
 pub free-in : (log : LogParts) (y : Played) (k : ℕ) (f : Footprint) (touches : List Touch) (x : IsNextChunk log y k f) → FreeOn log (touch_of touches) k y.memory x.goes.thread → IsFreeIn touches k f
 free-in log y k f touches x free =
     let t : Parts = x.goes.thread in
@@ -119,6 +120,7 @@ touched-as log y k f old new x is a =
     is.each a ∙ (λ i. touched_by (touch_of old a) k (x.footprint.looked a i) (x.footprint.stored a i))
     ∙ touched-is (touch_of old a) k _ _
 
+-- touches that are the same at every word are touches of the same shares
 pub touches-as : (shares : List Share) (touches others : ℕ → Touch) → ((a : ℕ) → others a ≡ touches a) → AreTouches shares touches → AreTouches shares others
 touches-as shares touches others e are =
     record {
@@ -128,6 +130,7 @@ touches-as shares touches others e are =
 
 -- ---- a chunk that joins others
 
+-- a free chunk that is counted and noted joins the present ones as the code keeps them
 pub joined : (counted : ℕ) (log : LogParts) (y : Played) (k : ℕ) (f : Footprint) (old new : List Touch) (counts : List ℕ) (p : Present) → k < counted → IsNextChunk log y k f
     → IsPresent counted y old counts p → IsFreeIn old k f → Touched old k f new
     → IsPresent counted (play_turn log y (Turn k)) new (slice_set counts k (slice_index counts k + 1)) (with_chunk log p k)
@@ -142,11 +145,13 @@ joined counted log y k f old new counts p l x is free noted =
 
 -- ---- a chunk that begins a stratum
 
+-- in a table of untouched words any word is untouched
 pub untouched-at : (touches : List Touch) (a : ℕ) → touch_of (map (λ (t : Touch). Untouched) touches) a ≡ Untouched
 untouched-at [] a = refl
 untouched-at (t ∷ ts) zero = refl
 untouched-at (t ∷ ts) (suc a) = untouched-at ts a
 
+-- a chunk that begins a stratum is counted and noted as its only present one
 pub begun : (counted : ℕ) (log : LogParts) (y : Played) (k : ℕ) (f : Footprint) (old new : List Touch) → k < counted → IsNextChunk log y k f → Touched (map (λ (t : Touch). Untouched) old) k f new
     → IsPresent counted (play_turn log y (Turn k)) new (slice_set (replicate counted 0) k (slice_index (replicate counted 0) k + 1)) (with_chunk log (no_chunks y) k)
 begun counted log y k f old new l x noted =
@@ -168,6 +173,7 @@ begun counted log y k f old new l x noted =
 or-none : (a b : Bool) → a ≡ false → b ≡ false → (a || b) ≡ false
 or-none a b p q = (λ i. p i || q i)
 
+-- a free chunk of a thread that has fewer than 255 joins the present chunks
 pub joins : (counted : ℕ) (log : LogParts) (y : Played) (k : ℕ) (f : Footprint) (old : List Touch) (counts : List ℕ) (p : Present) → k < counted → IsNextChunk log y k f
     → IsPresent counted y old counts p → slice_index counts k < 255 → IsFreeIn old k f → is_apart log p k ≡ false
 joins counted log y k f old counts p l x is few free =
@@ -177,6 +183,7 @@ joins counted log y k f old counts p l x is few free =
     (ne_eqb (counts_of p.threads k) most_chunks (λ e. omega (arith, n, e, few)))
     ((tells-next log y p.state k c.thread (touch_of old) is.touches_are is.come c.there).joins (free-on log y k f old x free))
 
+-- a chunk that isn't free, or whose thread has 255 already, can't join the present chunks
 pub parts : (counted : ℕ) (log : LogParts) (y : Played) (k : ℕ) (f : Footprint) (old : List Touch) (counts : List ℕ) (p : Present) → k < counted → IsNextChunk log y k f
     → IsPresent counted y old counts p → slice_index counts k ≤ 255 → ((slice_index counts k < 255) × IsFreeIn old k f → ⊥) → is_apart log p k ≡ true
 parts counted log y k f old counts p l x is most apart =

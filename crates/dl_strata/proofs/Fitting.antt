@@ -42,6 +42,7 @@ length-kinds (Chunks counts) = length-replicate (sum counts) CommitKind.Chunk
 length-kinds (Serial thread) = refl
 length-kinds Dma = refl
 
+-- strata hold as many kinds as they have commits
 pub length-held : (xs : List Stratum) → length (flat_map kinds_of xs) ≡ commits_in_all xs
 length-held [] = refl
 length-held (x ∷ xs) =
@@ -120,6 +121,7 @@ pub record HasPlayed (v : StrataParts) (memory : List ℕ) (entry : ℕ) (cs : L
   pub commits : cs ≡ (play (canonical v) memory entry).progress.commits
   pub kinds : ks ≡ flat_map kinds_of v.strata
 
+-- the first commit of another kind than is held is also the first in the canonical log's play
 pub held-by : (v : StrataParts) (memory : List ℕ) (entry : ℕ) (cs : List Commit) (ks : List CommitKind) (o : Option ℕ) → HasPlayed v memory entry cs ks → IsFirstOther (map (λ c. c.kind) cs) ks o
     → IsFirstOther (map (λ c. c.kind) (play (canonical v) memory entry).progress.commits) (flat_map kinds_of v.strata) o
 held-by v memory entry cs ks o h is =
@@ -183,6 +185,7 @@ come-through log y (Dma ∷ xs) (c ∷ cs) f actors kinds =
 ordered : (ModeName.OrderOnly ≡ ModeName.Picolog) → ⊥
 ordered e = cc
 
+-- if all commits fit, the strata come one after the other in the canonical log's play
 pub strata-come : (v : StrataParts) (memory : List ℕ) (entry : ℕ) → AllFit v memory entry → StrataCome (canonical v) (opened (canonical v) memory entry) v.strata
 strata-come v memory entry fit =
     let log : LogParts = canonical v in

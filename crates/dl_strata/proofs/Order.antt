@@ -53,6 +53,7 @@ put-next i thread d counts order new all same below put was =
 pub few-actors : (v : StrataParts) (order : List Actor) → AreStrata v → order ≡ flat_map order_of v.strata → length order ≤ 2 ^ 24
 few-actors v order good is = let n = ap (λ (xs : List Actor). length xs) is in let l = length-orders v.strata in let most = good.commits in omega (arith, n, l, most)
 
+-- a log in order-only with the order, sizes and records of strata is their canonical log
 pub is-canonical : (v : StrataParts) (count : ℕ) (order : List Actor) (sizes : List ShortSize) (interrupts : List Interrupt) (inputs : List Input) (dmas : List DmaRecord)
     → count ≡ length order → order ≡ flat_map order_of v.strata → sizes ≡ v.sizes → interrupts ≡ v.interrupts → inputs ≡ v.inputs → dmas ≡ v.dmas
     → ◌≡◌ {A = LogParts} (record {

@@ -19,6 +19,7 @@ module _ {D : Type 0} (one : D → Reader D) (n done : ℕ) (d : D) (bytes : Lis
   pub repeated-not : (fault : Fault) → one d bytes at ≡ Err fault → repeated one (n - done) d bytes at ≡ Err fault
   repeated-not fault h = ap (λ (k : ℕ). repeated one k d bytes at) left ∙ rw h refl
 
+-- once all n times are done, nothing more is read
 pub repeated-all : {D : Type 0} (one : D → Reader D) (n done : ℕ) (d : D) (bytes : List ℕ) (at : ℕ) → n ≡ done
     → repeated one (n - done) d bytes at ≡ Ok (record { value = d; after = at })
 repeated-all one n done d bytes at all = let none : n - done ≡ 0 = omega (arith, all) in ap (λ (k : ℕ). repeated one k d bytes at) none
@@ -29,6 +30,7 @@ pub fault-made : {X Y : Type 0} (part : Result (Read X) Fault) (whole : Result (
 fault-made part whole (Malformed fault) old new end at after same made = same fault made.0
 fault-made part whole OutOfMemory old new end at after same made = tt
 
+-- if a part that is read in place stops with a fault, so does the whole
 pub fault-left : {X Y : Type 0} (part : Result (Read X) Fault) (whole : Result (Read Y) Fault) (error : LogError) (new : X) (end : Y) (at after : ℕ)
     → ((fault : Fault) → part ≡ Err fault → whole ≡ Err fault) → Leaves part (Err error) new at → Leaves whole (Err error) end after
 fault-left part whole (Malformed fault) new end at after same leaves = same fault leaves

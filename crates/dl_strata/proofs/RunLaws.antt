@@ -135,6 +135,7 @@ Codes-next counted before few =
 
 -- ---- so many
 
+-- reads so many strata, with so many commits before them
 abbrev pub runs : (counted before n : ℕ) → Reader (List Stratum)
 runs counted before zero bytes start = gives [] bytes start
 runs counted before (suc n) bytes start =
@@ -193,6 +194,7 @@ pub record AreAll (counted : ℕ) (xs : List Stratum) : Type 0 where
   pub each : All (IsStratumOf counted) xs
   pub commits : commits_in_all xs ≤ 2 ^ 24
 
+-- reads the number of the strata, and then as many strata
 abbrev pub counted_runs : (counted : ℕ) → Reader (List Stratum)
 counted_runs counted = read (any 4) (λ n. runs counted 0 n)
 

@@ -81,6 +81,7 @@ four shape d =
     read (staged (listed (one_more (λ x y. nat_lt x.position y.position) dma)) d.dmas) (λ ds.
     gives (record d { sizes = zs; interrupts = is; inputs = ns; dmas = ds })))))
 
+-- the stages of sizes, interrupts, inputs and DMAs read the four sections one after another
 pub sections-are : (d : StrataDraft) (shape : Shape) → shape ≡ shape_of d → (bytes : List ℕ) (at : ℕ)
     → all_of (sizes ∷ interrupts ∷ inputs ∷ dmas ∷ []) d bytes at ≡ four shape d bytes at
 sections-are d shape is =

@@ -22,10 +22,12 @@ all-untouched n (mark ∷ marks) old =
     let ne : nat_eq mark.stratum (n + 1) ≡ false = ne_eqb mark.stratum (n + 1) (λ e. omega (arith, l, e)) in
     (λ i. (ap (λ (b : Bool). if b then mark.touch else Untouched) ne) i ∷ all-untouched n marks (All-tail (λ (m : Mark). m.stratum ≤ n) mark marks old) i)
 
+-- in a table of new marks no word is touched
 pub none-marked : (n : ℕ) → map (fresh 0) (replicate n (let m : Mark = record { stratum = 0; touch = Untouched } in m)) ≡ replicate n Untouched
 none-marked zero = refl
 none-marked (suc n) = ap (λ (ts : List Touch). Untouched ∷ ts) (none-marked n)
 
+-- a mark put at word k in the present stratum makes its touch that of the word
 pub mark-set : (n : ℕ) (marks : List Mark) (k : ℕ) (touch : Touch) → map (fresh n) (slice_set marks k (let m : Mark = record { stratum = n; touch = touch } in m)) ≡ slice_set (map (fresh n) marks) k touch
 mark-set n [] k touch = refl
 mark-set n (mark ∷ marks) zero touch = ap (λ (b : Bool). (if b then touch else Untouched) ∷ map (fresh n) marks) (eq-eqb n n refl)
@@ -33,6 +35,7 @@ mark-set n (mark ∷ marks) (suc k) touch = ap (λ (ts : List Touch). fresh n ma
 
 -- ---- a word of the table
 
+-- a touch put at a word of the table is that word's, and others keep theirs
 pub touch-set : (touches : List Touch) (n a : ℕ) (touch : Touch) → n < length touches → touch_of (slice_set touches n touch) a ≡ (if nat_eq n a then touch else touch_of touches a)
 touch-set [] n a touch l = absurd (omega arith)
 touch-set (t ∷ ts) zero zero touch l = refl
@@ -49,6 +52,7 @@ touch-set (t ∷ ts) (suc n) (suc a) touch l =
 
 -- ---- numbers in a list
 
+-- a list with a number put at its end has that number, and those that it had
 pub has-push : (xs : List ℕ) (x a : ℕ) → has (xs ++ x ∷ []) a ≡ (has xs a || nat_eq x a)
 has-push [] x a = or-false (nat_eq x a)
   where
@@ -61,9 +65,11 @@ has-push (y ∷ ys) x a = ap (λ (b : Bool). nat_eq y a || b) (has-push ys x a) 
     assoc true b c = refl
     assoc false b c = refl
 
+-- the first i + 1 numbers of a list are the first i, and the next one
 pub has-more : (xs : List ℕ) (i a : ℕ) → i < length xs → has (take (i + 1) xs) a ≡ (has (take i xs) a || nat_eq (get_or xs i 0) a)
 has-more xs i a l = ap (λ (ys : List ℕ). has ys a) (take_more xs i 0 l) ∙ has-push (take i xs) (get_or xs i 0) a
 
+-- a list has the number at each of its places
 pub has-item : (xs : List ℕ) (i : ℕ) → i < length xs → has xs (get_or xs i 0) ≡ true
 has-item [] i l = absurd (omega arith)
 has-item (x ∷ xs) zero l = or_left (nat_eq x x) (has xs x) (eq-eqb x x refl)
@@ -132,9 +138,11 @@ store-noted old now k n a looked stored l is =
 
 -- ---- what is barred
 
+-- false is the right answer to what can't be so
 pub not-free : (P : Type 0) → (P → ⊥) → (IsTrue false → P) × (P → IsTrue false)
 not-free P never = ((λ e. absurd (true≢false (sym e))), (λ p. absurd (never p)))
 
+-- true is the right answer to what is so
 pub all-free : (P : Type 0) → P → (IsTrue true → P) × (P → IsTrue true)
 all-free P p = ((λ e. p), (λ q. refl))
 
