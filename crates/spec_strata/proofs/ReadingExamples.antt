@@ -30,9 +30,11 @@ bytes =
     ∷ 3 ∷ 0 ∷ 0 ∷ 0 ∷ 0 ∷ 0 ∷ 0 ∷ 0 ∷ 0 ∷ 3 ∷ 0 ∷ 0 ∷ 0 ∷ 0 ∷ 2 ∷ 0 ∷ 0 ∷ 0 ∷ 2 ∷ 0 ∷ 0 ∷ 0 ∷ 1 ∷ 0 ∷ 0 ∷ 0 ∷ 0 ∷ 3 ∷ 0 ∷ 0 ∷ 0
     ∷ 0 ∷ 0 ∷ 0 ∷ 0 ∷ 0 ∷ 0 ∷ 0 ∷ 0 ∷ 0 ∷ 0 ∷ 0 ∷ 0 ∷ []
 
+-- the strata of two threads are written as exactly these bytes
 pub strata_bytes-two : strata_bytes two ≡ bytes
 strata_bytes-two = refl
 
+-- those bytes are read back as the strata of two threads
 pub read_of-two : read_of bytes ≡ Ok two
 read_of-two = refl
 
@@ -41,6 +43,7 @@ pub canonical-two : (canonical two).order
     ≡ Actor.Thread 1 ∷ Actor.Thread 0 ∷ Actor.Thread 0 ∷ Actor.Thread 1 ∷ Actor.Thread 0 ∷ Actor.Thread 1 ∷ []
 canonical-two = refl
 
+-- the canonical log of those strata has six commits
 pub canonical-count : (canonical two).count ≡ 6
 canonical-count = refl
 
@@ -58,6 +61,7 @@ many =
       dmas = record { position = 256; bytes = 0x41 ∷ [] } ∷ [];
     }
 
+-- strata with an entry in each section are read back as they were written
 pub read_of-many : read_of (strata_bytes many) ≡ Ok many
 read_of-many = refl
 
@@ -70,6 +74,7 @@ fault number offset = Err (record { number = number; offset = offset })
 pub read_of-cut : read_of (take 70 bytes) ≡ fault 1 70
 read_of-cut = refl
 
+-- a byte after the last section is refused, at that byte
 pub read_of-a_byte_more : read_of (bytes ++ 0 ∷ []) ≡ fault 7 71
 read_of-a_byte_more = refl
 
@@ -77,6 +82,7 @@ read_of-a_byte_more = refl
 pub read_of-other_magic : read_of (slice_set bytes 0 0) ≡ fault 2 0
 read_of-other_magic = refl
 
+-- a file of version 2 is refused at its version
 pub read_of-version_2 : read_of (slice_set bytes 4 2) ≡ fault 3 4
 read_of-version_2 = refl
 
@@ -84,12 +90,15 @@ read_of-version_2 = refl
 pub read_of-no_thread : read_of (slice_set bytes 5 0) ≡ fault 5 5
 read_of-no_thread = refl
 
+-- a count of 64 threads is refused, at the count
 pub read_of-thread_64 : read_of (slice_set bytes 5 64) ≡ fault 5 5
 read_of-thread_64 = refl
 
+-- more counted threads than the sphere may have are refused
 pub read_of-too_many : read_of (slice_set bytes 5 16) ≡ fault 5 6
 read_of-too_many = refl
 
+-- a sphere that may have 16 threads is refused, as only 15 and 63 are allowed
 pub read_of-threads_16 : read_of (slice_set bytes 6 16) ≡ fault 5 6
 read_of-threads_16 = refl
 
@@ -101,8 +110,10 @@ read_of-small = refl
 pub read_of-stratum_3 : read_of (slice_set bytes 16 3) ≡ fault 5 16
 read_of-stratum_3 = refl
 
+-- chunks that are none of any thread are refused, at the stratum's first byte
 pub read_of-no_chunks : read_of (slice_set bytes 18 0) ≡ fault 5 16
 read_of-no_chunks = refl
 
+-- a serial step of a thread that isn't counted is refused
 pub read_of-thread_2 : read_of (slice_set bytes 20 2) ≡ fault 5 20
 read_of-thread_2 = refl

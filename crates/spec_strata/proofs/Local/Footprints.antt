@@ -39,6 +39,7 @@ looks-more m t (suc n) i a l e =
           )
     ]
 
+-- all words that a run fetches or loads are among those that it looks at
 pub looks-touches : (m : List ℕ) (t : Parts) (n : ℕ) → RunTouches (looks m t n) m t n
 looks-touches m t n i l = looks-at-touches (looks m t n) _ _ (λ a e. looks-more m t n i a l e)
 
@@ -57,6 +58,7 @@ looks-at-local seen t m n a g touches =
     (is-loaded-same (serial_of t (fetched t m) (length m)) (loads_of t (fetched t n)) (loads_of t (fetched t m)) a
     (λ none. ap (loads_of t) (fetched_local seen t m n g touches (s ∙ none))))
 
+-- a run looks at the same words on a memory that agrees on what it fetches and loads
 pub looks-local : (seen : ℕ → Bool) (m n : List ℕ) (t : Parts) (k a : ℕ) → Agree seen m n → RunTouches seen m t k → looks n t k a ≡ looks m t k a
 looks-local seen m n t zero a g touches = refl
 looks-local seen m n t (suc k) a g touches =
@@ -96,6 +98,7 @@ stuck m t (suc k) l = let r = run m t k in stuck-step m t k (one r.thread (lays 
 pub Agree-less : (seen fewer : ℕ → Bool) (m n : List ℕ) → ((a : ℕ) → fewer a ≡ true → seen a ≡ true) → Agree seen m n → Agree fewer m n
 Agree-less seen fewer m n less g = record { size = g.size; bytes = λ i e. g.bytes i (less (i / 4) e) }
 
+-- a commit does the same on a memory that agrees on the words that it looks at
 pub alike : (m n : List ℕ) (t : Parts) (k : ℕ) → Agree (looks m t k) m n → IsAlike m n t k
 alike m n t k g =
     let touches = looks-touches m t k in
@@ -109,11 +112,13 @@ alike m n t k g =
           (s.serial, kind_local (looks m t k) r.thread (lays m r.words) (lays n r.words) (Agree-lays (looks m t k) m n r.words g) s.touched);
     }
 
+-- a commit does the same on a memory that agrees on its footprint
 pub commits_are_local : CommitsAreLocal
 commits_are_local m n t k g = alike m n t k (Agree-less (footprint m t k) (looks m t k) m n (λ a e. or_left _ _ e) g)
 
 -- ---- two commits
 
+-- if 'x or y' is false, so are both x and y
 pub or_neither : (x y : Bool) → (x || y) ≡ false → (x ≡ false) × (y ≡ false)
 or_neither false y e = (refl, e)
 or_neither true y e = absurd (true≢false e)
@@ -155,6 +160,7 @@ Unseen-less seen fewer (w ∷ ws) less u = (
   Unseen-less seen fewer ws less u.1,
 )
 
+-- two commits without conflict do the same in either order, and leave the same memory
 pub commits_commute : CommitsCommute
 commits_commute m t k u l e =
     let a = run m t k in

@@ -22,6 +22,7 @@ or_twice true b = refl
 or_twice false true = refl
 or_twice false false = refl
 
+-- a run before a serial instruction looks at no more words, however many instructions it may run
 pub looks-stays : (m : List ℕ) (t : Parts) (i n a : ℕ) (kind : Kind) → let r = run m t i in one r.thread (lays m r.words) ≡ Serial kind → i < n → looks m t n a ≡ looks m t (suc i) a
 looks-stays m t i zero a kind e l = absurd (omega arith)
 looks-stays m t i (suc n) a kind e l =
@@ -36,6 +37,7 @@ looks-stays m t i (suc n) a kind e l =
       | inr h ↦ (let same : suc n ≡ suc i = omega arith in ap (λ (k : ℕ). looks m t k a) same)
     ]
 
+-- a run before a serial instruction keeps its footprint, however many instructions it may run
 pub footprints_stay : FootprintsStay
 footprints_stay m t i n kind e l =
     let same : run m t n ≡ run m t (suc i) = run-stays m t i n kind e (omega arith) ∙ sym (run-stays m t i (suc i) kind e (omega arith)) in

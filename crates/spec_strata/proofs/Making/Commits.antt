@@ -195,6 +195,7 @@ serial-more log p u k ts t m =
     unless-more log.threads ts t (serial_why (size_in log (Actor.Thread k) t.commits)) (served_verdict log p k ts t m (given (need t m) (slice_get log.inputs u.inputs) u))
     (served-more log p k ts t m (given (need t m) (slice_get log.inputs u.inputs) u))
 
+-- a commit that goes is counted by its thread, and new threads have none and aren't too many
 pub verdict-more : (log : LogParts) (y : Played) (k : ℕ) (t : Parts) (o : Option Kind) → IsOneMore log.threads y.threads t (thread_verdict log y k t o)
 verdict-more log y k t None =
     let n : ℕ = size_or_standard log k t.commits in
@@ -210,6 +211,7 @@ commits_at ts k = elim (slice_get ts k) [ None ↦ 0 | Some t ↦ t.commits ]
 at-same : (ts us : List Parts) (k : ℕ) → slice_get us k ≡ slice_get ts k → commits_at us k ≡ commits_at ts k
 at-same ts us k e = ap (λ (o : Option Parts). elim o [ None ↦ 0 | Some t ↦ t.commits ]) e
 
+-- the number of commits of a thread that is there is the one that it counts
 pub at-thread : (ts : List Parts) (k : ℕ) (t : Parts) → slice_get ts k ≡ Some t → commits_at ts k ≡ t.commits
 at-thread ts k t e = ap (λ (o : Option Parts). elim o [ None ↦ 0 | Some t ↦ t.commits ]) e
 
@@ -237,9 +239,11 @@ thread-is k j e = eq-eqb j k e
 thread-isnt : (k j : ℕ) → j ≢ k → is_thread k (Actor.Thread j) ≡ false
 thread-isnt k j ne = ne_eqb j k ne
 
+-- a first commit that is thread k's comes first among its own commits
 pub own-is : (k : ℕ) (c : Commit) (cs : List Commit) → is_thread k c.actor ≡ true → own k (c ∷ cs) ≡ c ∷ own k cs
 own-is k c cs e = ap (λ (b : Bool). if b then c ∷ own k cs else own k cs) e
 
+-- a first commit that isn't thread k's is left out of its own commits
 pub own-isnt : (k : ℕ) (c : Commit) (cs : List Commit) → is_thread k c.actor ≡ false → own k (c ∷ cs) ≡ own k cs
 own-isnt k c cs e = ap (λ (b : Bool). if b then c ∷ own k cs else own k cs) e
 
@@ -287,6 +291,7 @@ counted-step log y TurnOfDma k c turn does =
       other = λ isnt. ap (λ (x : Played). commits_at x.threads k) one;
     }
 
+-- a step adds one to the count of the thread that does it, and changes no other count
 pub step-counted : (log : LogParts) (y : Played) (k : ℕ) (c : Commit) → Step log y c → Counted log y k c
 step-counted log y k c s = counted-step log y y.now k c refl s.does
 

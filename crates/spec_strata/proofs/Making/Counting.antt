@@ -14,6 +14,7 @@ use Rattle.spec_strata.proofs.Making.Cutting.{AllBelow}
 
 -- ---- numbers of commits
 
+-- commits of two lists in a row are counted by counting the first list and then the second
 pub bumps-append : (c : ℕ → ℕ) (ks js : List ℕ) (j : ℕ) → bumps c (ks ++ js) j ≡ bumps (bumps c ks) js j
 bumps-append c [] js j = refl
 bumps-append c (k ∷ ks) js j = bumps-append (bump c k) ks js j
@@ -33,10 +34,12 @@ pub bumps-at : (c d : ℕ → ℕ) (ks : List ℕ) (j : ℕ) → c j ≡ d j →
 bumps-at c d [] j e = e
 bumps-at c d (k ∷ ks) j e = bumps-at (bump c k) (bump d k) ks j (bump-at c d k j e)
 
+-- n commits of thread k add n to its number
 pub bumps-often : (c : ℕ → ℕ) (n k : ℕ) → bumps c (replicate n k) k ≡ c k + n
 bumps-often c zero k = omega arith
 bumps-often c (suc n) k = let h = bumps-often (bump c k) n k in let s = bump_same c k in omega (arith, h, s)
 
+-- any number of commits of thread k leaves another thread's number as it was
 pub bumps-other : (c : ℕ → ℕ) (n k j : ℕ) → j ≢ k → bumps c (replicate n k) j ≡ c j
 bumps-other c zero k j ne = refl
 bumps-other c (suc n) k j ne = bumps-other (bump c k) n k j ne ∙ bump_other c k j ne
@@ -88,6 +91,7 @@ none-above counted (k ∷ ks) j all l =
     bumps-at (bump (λ (i : ℕ). 0) k) (λ (i : ℕ). 0) ks j (bump_other (λ (i : ℕ). 0) k j (λ e. omega (arith, e, below, l)))
     ∙ none-above counted ks j all.1 l
 
+-- commits put in canonical order are as many of each thread as they were before
 pub counts-same : (counted : ℕ) (ks : List ℕ) (j : ℕ) → AllBelow counted ks → counts_of (rising 0 (map (counts_of ks) (range_with_len 0 counted))) j ≡ counts_of ks j
 counts-same counted ks j all =
     elim (cases_lt j counted) [
@@ -97,6 +101,7 @@ counts-same counted ks j all =
 
 -- ---- live threads
 
+-- a thread with at least one of these commits is live, if all of their threads are
 pub live-of : (y : Played) (ks : List ℕ) (j : ℕ) → AreLive y ks → 0 < counts_of ks j → (t : Parts) → slice_get y.threads j ≡ Some t → is_live t ≡ true
 live-of y [] j live l t is = absurd (omega (arith, l))
 live-of y (k ∷ ks) j live l t is =

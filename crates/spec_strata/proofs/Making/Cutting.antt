@@ -40,22 +40,27 @@ use Rattle.spec_strata.proofs.Images.Going.{next-clear, chunk-goes, actor_in}
 
 -- ---- one more at the end
 
+-- chunks that go as logged do so with one more at the end that goes after them
 pub goes-push : (log : LogParts) (y : Played) (ks : List ℕ) (k : ℕ) → ChunksGo log y ks → ChunkGoes log (plays_of log y ks) k → ChunksGo log y (ks ++ k ∷ [])
 goes-push log y [] k go c = (c, tt)
 goes-push log y (j ∷ ks) k go c = (go.0, goes-push log (play_turn log y (Turn j)) ks k go.1 c)
 
+-- commits without conflict stay so with one more at the end that conflicts with no other thread's
 pub clear-push : (q : ℕ → Rule) (x : StratumState) (ks : List ℕ) (k : ℕ) → AreClear q x ks → ((p : Share) → slice_get (commits_more q x ks).shares k ≡ Some p → IsClear (q k) (commits_more q x ks) k p) → AreClear q x (ks ++ k ∷ [])
 clear-push q x [] k clear c = (c, tt)
 clear-push q x (j ∷ ks) k clear c = (clear.0, clear-push q (commit_more q x j) ks k clear.1 c)
 
+-- one more commit at the end is done on the state of the stratum after the others
 pub more-push : (q : ℕ → Rule) (x : StratumState) (ks : List ℕ) (k : ℕ) → commits_more q x (ks ++ k ∷ []) ≡ commit_more q (commits_more q x ks) k
 more-push q x [] k = refl
 more-push q x (j ∷ ks) k = more-push q (commit_more q x j) ks k
 
+-- one more commit at the end is done in the play that the others have left
 pub plays-push : (log : LogParts) (y : Played) (ks : List ℕ) (k : ℕ) → plays_of log y (ks ++ k ∷ []) ≡ play_turn log (plays_of log y ks) (Turn k)
 plays-push log y [] k = refl
 plays-push log y (j ∷ ks) k = plays-push log (play_turn log y (Turn j)) ks k
 
+-- one more commit at the end adds one to the number of its thread
 pub bumps-push : (c : ℕ → ℕ) (ks : List ℕ) (k j : ℕ) → bumps c (ks ++ k ∷ []) j ≡ bump (bumps c ks) k j
 bumps-push c [] k j = refl
 bumps-push c (i ∷ ks) k j = bumps-push (bump c i) ks k j
@@ -77,11 +82,13 @@ below-push counted (j ∷ ks) k all l = (all.0, below-push counted ks k all.1 l)
 
 -- ---- threads never get fewer
 
+-- a list with an element replaced is as long as before
 pub length-set : {A : Type 0} (xs : List A) (k : ℕ) (x : A) → length (set xs k x) ≡ length xs
 length-set [] k x = refl
 length-set (y ∷ ys) zero x = refl
 length-set (y ∷ ys) (suc k) x = ap suc (length-set ys k x)
 
+-- an index at which a list has an element is below the list's length
 pub get-below : {A : Type 0} (xs : List A) (k : ℕ) (x : A) → slice_get xs k ≡ Some x → k < length xs
 get-below [] k x e = absurd (none-some x e)
 get-below (y ∷ ys) zero x e = omega arith
@@ -110,6 +117,7 @@ one-threads : (log : LogParts) (y : Played) → length y.threads ≤ length (pla
 unfolding play_one
 one-threads log y = now-threads log y y.now
 
+-- a play never has fewer threads after more commits
 pub plays-threads : (log : LogParts) (y : Played) (n : ℕ) → length y.threads ≤ length (plays log y n).threads
 plays-threads log y zero = omega arith
 plays-threads log y (suc n) =
@@ -149,6 +157,7 @@ GoesBy counted log y [] = Over log y
 GoesBy counted log y (Chunks ks js ∷ bs) = CutRight counted log y ks js × GoesBy counted log (plays_of log y ks) bs
 GoesBy counted log y (Alone now ∷ bs) = AloneRight counted log y now × GoesBy counted log (play_turn log y now) bs
 
+-- the stratum that a block becomes, which counts chunks for so many threads
 abbrev pub stratum_for : (counted : ℕ) → Block → Stratum
 stratum_for counted (Chunks ks js) = StratumChunks (map (counts_of ks) (range_with_len 0 counted))
 stratum_for counted (Alone (Turn k)) = Serial k
@@ -179,6 +188,7 @@ abbrev pub At : (counted : ℕ) → LogParts → (y0 y : Played) → Option Pres
 At counted log y0 y None = y0 ≡ y
 At counted log y0 y (Some p) = Open counted log y0 y p × (0 < length p.threads)
 
+-- these strata, and the present chunks if there are any
 abbrev pub cuts : List Stratum → Option Present → Cuts
 cuts strata o = record { strata = strata; present = o }
 
@@ -368,6 +378,7 @@ one-now log y = refl
 nothing-cut : (counted : ℕ) (log : LogParts) (y : Played) → Over log y → (before : List Stratum) → CutInto counted log y y before before
 nothing-cut counted log y over before = record { blocks = []; last = refl; go = over; are = sym (append-nil before) }
 
+-- a play's remaining commits are cut into strata of blocks that it goes through, to its end
 pub cutting : (counted : ℕ) (log : LogParts) (y : Played) (cs : List Commit) → Follows log y cs → length (plays log y (length cs)).threads ≤ counted → Cutting counted log y (plays log y (length cs)) cs
 cutting counted log y [] f most y0 before o at_ = closed counted log y0 y y before _ o at_ (nothing-cut counted log y f (cut_off counted (cuts before o)))
 cutting counted log y (c ∷ cs) f most y0 before o at_ =

@@ -46,6 +46,7 @@ split true false true d e = cc
 split true true c d e = cc
 split false b c d e = cc
 
+-- if nothing is left over, all sizes, interrupts, inputs and DMA records of the log are used
 pub nothing-left : (log : LogParts) (u : Used) (ts : List Parts) → has_left_over log u ts ≡ false → NothingLeft log u ts
 unfolding has_left_over
 nothing-left log u ts e =

@@ -215,6 +215,7 @@ version-two version threads s v standard = let most = standard-few version threa
 are-threads : (version counted threads : ℕ) → IsVersion version threads → 1 ≤ counted → counted ≤ threads → AreThreads counted threads
 are-threads version counted threads v some few = (elim v [ inl one ↦ inl one.1 | inr two ↦ two.1 ], some, few)
 
+-- the strata that a fitting log is cut into are within their ranges and in order
 pub made_are_strata : MadeAreStrata
 made_are_strata log memory entry good fits =
     let v : StrataParts = made log memory entry in

@@ -120,6 +120,7 @@ names-of log i (k ∷ ks) rest order =
       names-of log (suc i) ks rest (λ j. let s : suc i + j ≡ i + suc j = omega arith in ap (slice_get log.order) s ∙ order (suc j)),
     )
 
+-- past the end of the first list, two lists in a row have the elements of the second
 pub get-after : {A : Type 0} (xs ys : List A) (j : ℕ) → slice_get (xs ++ ys) (length xs + j) ≡ slice_get ys j
 get-after [] ys j = let e : 0 + j ≡ j = omega arith in ap (slice_get ys) e
 get-after (x ∷ xs) ys j = let e : length (x ∷ xs) + j ≡ suc (length xs + j) = omega arith in ap (slice_get (x ∷ (xs ++ ys))) e ∙ get-after xs ys j
@@ -170,6 +171,7 @@ length-often : (n : ℕ) (kind : CommitKind) → length (replicate n kind) ≡ n
 length-often zero kind = refl
 length-often (suc n) kind = ap suc (length-often n kind)
 
+-- a stratum has as many kinds as it has commits
 pub length-kinds : (x : Stratum) → length (kinds_of x) ≡ commits_in x
 length-kinds (StratumChunks counts) = length-often (commits_in (StratumChunks counts)) CommitKind.Chunk
 length-kinds (Serial k) = refl
@@ -290,6 +292,7 @@ now-through counted log other knows (Turn k) bs rest y z go like looked order to
     let turn : z.now ≡ Turn k = looked ∙ turn-now other z.progress z.used z.threads k t knows.ordered (omega (arith, sum, total)) (ap (slice_get other.order) e ∙ order 0) there facts.1 in
     alone-through counted log other knows (Turn k) bs y z go.0 go.1 like order total turn refl (λ i. refl) (serial-left other z k t kind.0 there serial b.goes) rest
 
+-- a log that says the same goes through the strata of these blocks, and its play ends alike
 pub through : (counted : ℕ) (log other : LogParts) → Knows log other → (bs : List Block) → Goal counted log other bs
 through counted log other knows [] y z go like looked order total =
     record {

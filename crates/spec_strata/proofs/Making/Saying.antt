@@ -141,6 +141,7 @@ sizes-are log y k i (d ∷ cs) c f is =
 abbrev second : Actor × ℕ → ℕ
 second p = p.1
 
+-- if each commit has a size, a thread has as many sizes as commits
 pub own-sizes : (k : ℕ) (cs : List Commit) (zs : List ℕ) → length zs ≡ length cs → length (sizes_of_thread k (map actor_in cs) zs) ≡ length (own k cs)
 own-sizes k [] zs l = refl
 own-sizes k (c ∷ cs) [] l = absurd (omega (arith, l))
@@ -151,6 +152,7 @@ own-sizes k (c ∷ cs) (z ∷ zs) l =
       | inr is ↦ rw is rest
     ]
 
+-- a list has an element at each index below its length
 pub get-there : {A : Type 0} (xs : List A) (i : ℕ) → i < length xs → (x : A) × (slice_get xs i ≡ Some x)
 get-there [] i l = absurd (omega (arith, l))
 get-there (x ∷ xs) zero l = (x, refl)
@@ -210,10 +212,12 @@ pub record Counts (log : LogParts) (memory : List ℕ) (entry : ℕ) : Type 0 wh
   pub follows : Follows log (opened log memory entry) (play log memory entry).progress.commits
   pub numbers : (k : ℕ) → commits_at (play log memory entry).threads k ≡ length (own k (play log memory entry).progress.commits)
 
+-- at the start of a play no thread has any commits
 pub none-started : (entry k : ℕ) → commits_at (started entry ∷ []) k ≡ 0
 none-started entry zero = refl
 none-started entry (suc k) = refl
 
+-- if a log fits, its play does its commits, and each thread counts its own by the end
 pub counts : (log : LogParts) (memory : List ℕ) (entry : ℕ) → FitsImage log memory entry → Counts log memory entry
 counts log memory entry fits =
     let start : Played = opened log memory entry in
@@ -302,6 +306,7 @@ says-all log v s threads interrupts inputs dmas each =
     ]
     by Actor.Dma i none = refl
 
+-- a log with each commit's size isn't picolog, and has as many sizes and actors as commits
 pub each-mode : (mode : ModeName) (threads s count : ℕ) (zs : List ℕ) (order : List Actor) → IsSizes mode threads s count (Sizes.Each zs) → IsOrder mode threads count order
     → (mode ≢ ModeName.Picolog) × (length zs ≡ count) × (length order ≡ count)
 each-mode ModeName.OrderSize threads s count zs order sizes is = ((λ e. cc), sizes.0, is.0)
@@ -335,10 +340,12 @@ says-so log memory entry (Sizes.Each zs) is good fits over =
           ∙ used-all end.threads 0 (length end.threads) cs (λ k. let h = n.numbers k in omega (arith, h));
     }
 
+-- a play that goes on with these commits is over once they are done
 pub over-end : (log : LogParts) (y : Played) (cs : List Commit) → Follows log y cs → Over log (plays log y (length cs))
 over-end log y [] f = f
 over-end log y (c ∷ cs) f = subst (Over log) (plays-shift log y (length cs)) (over-end log (play_one log y) cs f.1)
 
+-- the strata that a fitting log is cut into are parallel, and their log's play is alike
 pub made_are_parallel : MadeAreParallel
 made_are_parallel log memory entry good fits =
     let n : Counts log memory entry = counts log memory entry fits in

@@ -56,9 +56,11 @@ its-one k i CommitKind.Serial c is = rw is refl
 its-one k i CommitKind.Dma c is = rw is refl
 its-one k i CommitKind.Piece c is = rw is refl
 
+-- a first commit of thread k gives its size, if it is a chunk, before later ones
 pub sizes-is : (k i : ℕ) (c : Commit) (cs : List Commit) → is_thread k c.actor ≡ true → chunk_sizes k i (c ∷ cs) ≡ chunk_size k i c ++ chunk_sizes k (suc i) cs
 sizes-is k i c cs e = ap (λ (b : Bool). if b then chunk_size k i c ++ chunk_sizes k (suc i) cs else chunk_sizes k i cs) e
 
+-- a first commit that isn't thread k's gives no size, and isn't counted among its commits
 pub sizes-isnt : (k i : ℕ) (c : Commit) (cs : List Commit) → is_thread k c.actor ≡ false → chunk_sizes k i (c ∷ cs) ≡ chunk_sizes k i cs
 sizes-isnt k i c cs e = ap (λ (b : Bool). if b then chunk_size k i c ++ chunk_sizes k (suc i) cs else chunk_sizes k i cs) e
 
@@ -130,9 +132,11 @@ others-none k j i n (c ∷ cs) ne =
       | inr is ↦ ap (find (is_for k i)) (sizes-isnt j n c cs is) ∙ others-none k j i n cs ne
     ]
 
+-- the sizes of the chunks of n threads, one thread after the other, from a number on
 abbrev pub all_sizes : (from n : ℕ) → List Commit → List ShortSize
 all_sizes from n cs = flat_map (λ k. chunk_sizes k 0 cs) (range_with_len from n)
 
+-- the sizes of several threads are those of the first, and then those of the others
 pub next-sizes : (from n : ℕ) (cs : List Commit) → all_sizes from (suc n) cs ≡ chunk_sizes from 0 cs ++ all_sizes (suc from) n cs
 next-sizes from n cs = let e : from + 1 ≡ suc from = omega arith in ap (λ (j : ℕ). chunk_sizes from 0 cs ++ all_sizes j n cs) e
 
@@ -143,6 +147,7 @@ found-out k i from (suc n) cs l =
     ∙ none-or (find (is_for k i) (chunk_sizes from 0 cs)) (find (is_for k i) (all_sizes (suc from) n cs)) (others-none k from i 0 cs (λ e. omega (arith, l, e)))
     ∙ found-out k i (suc from) n cs (omega (arith, l))
 
+-- for one of these threads, the size that is found for commit i is what it gives
 pub found-in : (k i from n : ℕ) (cs : List Commit) → from ≤ k → k < from + n → find (is_for k i) (all_sizes from n cs) ≡ given_by k i (slice_get (own k cs) i)
 found-in k i from zero cs low high = absurd (omega (arith, low, high))
 found-in k i from (suc n) cs low high =
@@ -155,6 +160,7 @@ found-in k i from (suc n) cs low high =
           ∙ found-in k i (suc from) n cs (omega (arith, low, ne)) (omega (arith, high))
     ])
 
+-- for a thread after all of these no size is found
 pub found-past : (k i from n : ℕ) (cs : List Commit) → from + n ≤ k → find (is_for k i) (all_sizes from n cs) ≡ None
 found-past k i from zero cs l = refl
 found-past k i from (suc n) cs l =
@@ -193,6 +199,7 @@ used-own ts k i (c ∷ cs) l =
           )
     ]
 
+-- all sizes are used, if no thread has more commits than it counts
 pub used-all : (ts : List Parts) (from n : ℕ) (cs : List Commit) → ((k : ℕ) → length (own k cs) ≤ commits_at ts k) → list_all (used_by ts) (all_sizes from n cs) ≡ true
 used-all ts from zero cs l = refl
 used-all ts from (suc n) cs l =

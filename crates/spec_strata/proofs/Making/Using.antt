@@ -225,6 +225,7 @@ step-within log y TurnOfDma c turn does w =
     let one : play_one log y ≡ dma_settled log y (DmaGoes does.words) = one-by log y TurnOfDma turn ∙ ap (dma_settled log y) does.goes in
     subst (Within log) (sym one) (record { threads = w.threads; taken = w.taken })
 
+-- a play that starts with few enough threads and taken interrupts ends with few enough of both
 pub all-within : (log : LogParts) (y : Played) (cs : List Commit) → Follows log y cs → Within log y → Within log (plays log y (length cs))
 all-within log y [] f w = w
 all-within log y (c ∷ cs) f w =

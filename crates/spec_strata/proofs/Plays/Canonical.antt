@@ -27,6 +27,7 @@ same-played log a b like commits last la lb =
     let now : b.now ≡ a.now = lb ∙ (λ i. now_at log (progress i) (like.used i) (like.threads i)) ∙ sym la in
     (λ i. record { memory = like.memory i; threads = like.threads i; progress = progress i; used = like.used i; now = now i })
 
+-- every play is alike to itself
 pub like_refl : (y : Played) → IsLike y y
 like_refl y = record { memory = refl; threads = refl; request = refl; used = refl; first = refl; count = refl; each = λ by. refl }
 
@@ -38,6 +39,7 @@ none-of f (o ∷ os) e =
     ap (λ (rs : List Run). map (f 0) rs ++ commits_of (λ j. f (suc j)) os) (e 0 o refl)
     ∙ none-of (λ j. f (suc j)) os (λ j p h. e (suc j) p h)
 
+-- the commits of some runs and then others are as many as the runs and the others together
 pub length-mapped : (f : Run → Commit) (rs : List Run) (cs : List Commit) → length (map f rs ++ cs) ≡ length rs + length cs
 length-mapped f [] cs = omega arith
 length-mapped f (r ∷ rs) cs = let h = length-mapped f rs cs in omega (arith, h)
@@ -52,6 +54,7 @@ place-last f (o ∷ os) (suc k) e =
     let h = length-mapped (f 0) o.runs (commits_of (λ j. f (suc j)) os) in
     let g = place-last (λ j. f (suc j)) os k (λ j p l is. e (suc j) p (omega arith) is) in omega (arith, h, g)
 
+-- an element that is inserted after all elements of a list comes last
 pub insert-last : {A : Type 0} (x : A) (xs : List A) → insert_at (length xs) x xs ≡ xs ++ x ∷ []
 insert-last x [] = refl
 insert-last x (y ∷ ys) = ap (λ zs. y ∷ zs) (insert-last x ys)
@@ -98,6 +101,7 @@ canonical-on log y count done (k ∷ ks) from parallel good few rising later_ =
 
 -- ---- the start
 
+-- if its turn is as the log says, a play is the one inside a stratum without commits
 pub at-none : (log : LogParts) (y : Played) → IsLooked log y → y ≡ in_stratum log y (λ k. 0)
 at-none log y looked =
     let none = none-committed chunk_commit y.threads in
@@ -117,15 +121,18 @@ canonical-prefix log y ks js l s looked rising few =
     ap (λ (w : Played). plays_of log w js) (at-none log y looked)
     ∙ canonical-on log y (counts_of ks) (λ i. 0) js 0 c.parallel c.good few rising (λ j h. refl)
 
+-- in canonical order the play inside a stratum is the one that its numbers of commits give
 pub canonical_order_plays : CanonicalOrderPlays
 canonical_order_plays log y ks l s rising looked = canonical-prefix log y ks ks l s looked rising (λ j. omega arith)
 
 -- ---- the play of the log
 
+-- a step and then i more are the same play as i + 1 steps
 pub plays-shift : (log : LogParts) (y : Played) (i : ℕ) → plays log (play_one log y) i ≡ plays log y (suc i)
 plays-shift log y zero = refl
 plays-shift log y (suc i) = ap (play_one log) (plays-shift log y i)
 
+-- if thread k has the turn, the play's next step is that thread's
 pub one-turn : (log : LogParts) (y : Played) (k : ℕ) → y.now ≡ Turn k → play_one log y ≡ play_turn log y (Turn k)
 unfolding play_one
 one-turn log y k e = ap (play_turn log y) e
@@ -147,6 +154,7 @@ fewer-taken done ks zero j = bumps_more done ks j
 fewer-taken done [] (suc i) j = omega arith
 fewer-taken done (k ∷ ks) (suc i) j = fewer-taken (bump done k) ks i j
 
+-- if turns are in canonical order, the log's play is at each commit what their numbers give
 pub canonical_plays : CanonicalPlays
 canonical_plays log y ks i l s rising looked turns few =
     plays-turns log y ks i turns few

@@ -34,6 +34,7 @@ pub record IsShareOf (x : StratumState) (k : ℕ) (t : Parts) : Type 0 where
   pub there : slice_get x.shares k ≡ Some share
   pub same : share.thread ≡ t
 
+-- each thread of a play has a share in its stratum's state, with the same thread in it
 pub share-of : (y : Played) (x : StratumState) (k : ℕ) (t : Parts) → HasCome y x → slice_get y.threads k ≡ Some t → IsShareOf x k t
 share-of y x k t h there =
     let a = mapped thread_in (slice_get x.shares k) t (sym (get-map thread_in x.shares k) ∙ ap (λ (ts : List Parts). slice_get ts k) (sym h.threads) ∙ there) in
@@ -45,9 +46,11 @@ threads-empty : (ts : List Parts) → ts ≡ map thread_in (map empty_share ts)
 threads-empty [] = refl
 threads-empty (t ∷ ts) = ap (λ (us : List Parts). t ∷ us) (threads-empty ts)
 
+-- a play has come to the start of a stratum that begins where it is
 pub come-start : (y : Played) → HasCome y (stratum_start y.memory y.threads)
 come-start y = record { memory = refl; threads = threads-empty y.threads }
 
+-- with a chunk that goes, the play has come to the stratum's state with that chunk's commit
 pub come-more : (log : LogParts) (y : Played) (x : StratumState) (k : ℕ) → 0 < log.s → ChunkGoes log y k → HasCome y x → HasCome (play_turn log y (Turn k)) (commit_more (rule_of log) x k)
 come-more log y x k some c h =
     let s : IsShareOf x k c.thread = share-of y x k c.thread h c.there in
@@ -99,6 +102,7 @@ pub record TellsNext (log : LogParts) (y : Played) (x : StratumState) (k : ℕ) 
   pub joins : FreeOn log touches k y.memory t → clashes_next (rule_of log) x k ≡ false
   pub free : clashes_next (rule_of log) x k ≡ false → FreeOn log touches k y.memory t
 
+-- the next chunk touches no barred word exactly if it conflicts with none of another thread
 pub tells-next : (log : LogParts) (y : Played) (x : StratumState) (k : ℕ) (t : Parts) (touches : ℕ → Touch) → AreTouches x.shares touches → HasCome y x → slice_get y.threads k ≡ Some t
     → TellsNext log y x k t touches
 tells-next log y x k t touches are h there =
@@ -116,6 +120,7 @@ abbrev pub touched_on : LogParts → (ℕ → Touch) → (k : ℕ) → (m : List
 touched_on log touches k m t =
     let n = size_or_standard log k t.commits in touched touches k (footprint m t n) (run m t n).words
 
+-- once a chunk that touches no barred word is done, the touches with its own are right again
 pub touches-more : (log : LogParts) (y : Played) (x : StratumState) (k : ℕ) (t : Parts) (touches : ℕ → Touch) → AreTouches x.shares touches → HasCome y x → slice_get y.threads k ≡ Some t
     → FreeOn log touches k y.memory t → AreTouches (commit_more (rule_of log) x k).shares (touched_on log touches k y.memory t)
 touches-more log y x k t touches are h there free =

@@ -30,6 +30,7 @@ last-same : (xs : List Commit) (a b : Commit) → xs ++ a ∷ [] ≡ xs ++ b ∷
 last-same [] a b e = cc
 last-same (x ∷ xs) a b e = last-same xs a b (let h : xs ++ a ∷ [] ≡ xs ++ b ∷ [] = cc in h)
 
+-- the last part of a commit in pieces goes as logged, and leaves what the whole commit leaves
 pub last_parts_go : LastPartsGo
 last_parts_go log y z ks done k total n t l s is few like sum =
     let q : ℕ → Rule = rule_of log in

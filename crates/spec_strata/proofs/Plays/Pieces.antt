@@ -61,6 +61,7 @@ held-longer m t i (suc n) a l e =
 
 -- ---- a piece
 
+-- pieces of a commit do on the memory of all threads what they do on their thread's own
 pub pieces_are_local : PiecesAreLocal
 pieces_are_local log y z ks done k total t l s is few like few_n =
     let c : Checked log y (plays_of log y ks) (counts_of ks) = checked-stratum log y ks l s in
@@ -129,9 +130,11 @@ shares-cost f q m (t ∷ ts) done count few =
     let y = cost-append (map (f 0) (alone (q 0) m t (count 0)).runs) (commits_of (λ k. f (suc k)) (shares_at (λ k. q (suc k)) m ts (λ k. count (suc k)))) in
     omega (arith, a, b, x, y)
 
+-- with fewer commits done a stratum has cost no more
 pub costs_grow : CostsGrow
 costs_grow log y done count few = shares-cost chunk_commit (rule_of log) y.memory y.threads done count few
 
+-- each commit adds itself and its instructions to what the stratum has cost
 pub costs_step : CostsStep
 costs_step log y z done k s =
     let q : ℕ → Rule = rule_of log in

@@ -24,6 +24,7 @@ use Rattle.spec_strata.specs.InPlay.{commits_by, IsLike}
 use Rattle.spec_strata.specs.Orders.{PlaysStayAlike}
 use Rattle.spec_strata.proofs.Plays.Strata.{by-append}
 
+-- a chunk's verdict depends on the play's progress only by the outstanding request
 pub chunk-same : (log : LogParts) (p o : Progress) (u : Used) (k : ℕ) (r : Run) → o.request ≡ p.request → chunk_verdict log o u k r ≡ chunk_verdict log p u k r
 unfolding chunk_verdict
 chunk-same log p o u k r e =
@@ -33,6 +34,7 @@ served-same : (log : LogParts) (p o : Progress) (k : ℕ) (ts : List Parts) (t :
 served-same log p o k ts t m None e = refl
 served-same log p o k ts t m (Some g) e = ap (λ (q : Option Request). ended log k (serial_effect k (serve log.threads k ts q t m g.input)) g.used) e
 
+-- a serial step's verdict depends on the play's progress only by the outstanding request
 pub serial-same : (log : LogParts) (p o : Progress) (u : Used) (k : ℕ) (ts : List Parts) (t : Parts) (m : List ℕ) → o.request ≡ p.request → serial_verdict log o u k ts t m ≡ serial_verdict log p u k ts t m
 unfolding serial_verdict
 serial-same log p o u k ts t m e =
@@ -46,9 +48,11 @@ verdict-same log y z k t None like =
     chunk-same log y.progress z.progress z.used k (run z.memory t (size_or_standard log k t.commits)) like.request
     ∙ (λ i. chunk_verdict log y.progress (like.used i) k (run (like.memory i) t (size_or_standard log k t.commits)))
 
+-- with one more commit in both, two lists that agree on a thread's commits still agree
 pub pushed-same : (by : Option ℕ) (xs ys : List Commit) (c : Commit) → commits_by by ys ≡ commits_by by xs → commits_by by (ys ++ c ∷ []) ≡ commits_by by (xs ++ c ∷ [])
 pushed-same by xs ys c e = by-append by ys (c ∷ []) ∙ ap (λ (cs : List Commit). cs ++ commits_by by (c ∷ [])) e ∙ sym (by-append by xs (c ∷ []))
 
+-- with one more commit in both, two lists of the same length still have the same length
 pub pushed-length : (xs ys : List Commit) (c : Commit) → length ys ≡ length xs → length (ys ++ c ∷ []) ≡ length (xs ++ c ∷ [])
 pushed-length xs ys c e = let a = length-append xs (c ∷ []) in let b = length-append ys (c ∷ []) in omega (arith, a, b, e)
 
@@ -74,6 +78,7 @@ thread-alike log y z k (Some t) like =
     ap (λ (m : List ℕ). thread_verdict log z k t (next_kind t m)) like.memory ∙ verdict-same log y z k t (next_kind t y.memory) like in
     subst (λ (w : LogVerdict). IsLike (settled log y k v) (settled log z k w)) (sym same) (settled-alike log y z k v like)
 
+-- two plays that are alike give the next DMA the same verdict
 pub dma-same : (log : LogParts) (y z : Played) → IsLike y z → dma_verdict log z.progress z.used ≡ dma_verdict log y.progress y.used
 unfolding dma_verdict
 dma-same log y z like =
@@ -93,6 +98,7 @@ dma-alike log y z (DmaGoes ws) like =
       each = λ by. pushed-same by y.progress.commits z.progress.commits dma_commit (like.each by);
     }
 
+-- two plays that are alike stay alike, whatever commit follows
 pub plays_stay_alike : PlaysStayAlike
 plays_stay_alike log y z (Ended how) like = like
 plays_stay_alike log y z (Turn k) like =

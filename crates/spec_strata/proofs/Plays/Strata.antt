@@ -28,6 +28,7 @@ use Rattle.spec_strata.proofs.Plays.Verdicts.{IsLogged, effect_of, used_of, logg
 
 -- ---- lists
 
+-- the element of a mapped list at an index is the list's element there, mapped
 pub get-map : {A B : Type 0} (f : A → B) (xs : List A) (k : ℕ) → slice_get (map f xs) k ≡ option_map f (slice_get xs k)
 get-map f [] k = refl
 get-map f (x ∷ xs) zero = refl
@@ -45,11 +46,13 @@ raised-set (o ∷ os) zero p r n e more =
     let a : r.raised ≡ p.raised + n = more in omega arith
 raised-set (o ∷ os) (suc k) p r n e more = let h = raised-set os k p r n e more in omega arith
 
+-- the thread of a share, as it now is
 abbrev pub thread_in : Share → Parts
 thread_in p = p.thread
 
 -- ---- one commit more, where the stratum stands at x
 
+-- a commit of thread k replaces that thread among those of the shares, and no other
 pub threads-more : (q : Rule) (x : StratumState) (k : ℕ) (p : Share) → set (map thread_in x.shares) k (q.settle (next_run q x.memory p).thread) ≡ map thread_in (slice_set x.shares k (share_more q x.memory p))
 unfolding share_more
 threads-more q x k p = sym (map-set thread_in x.shares k (share_more q x.memory p))
@@ -60,6 +63,7 @@ raised-more q x k p is = raised-set x.shares k p (share_more q x.memory p) (q.ra
 
 -- ---- the commits in canonical order
 
+-- to insert n places past a first list is to insert at place n of the second
 pub insert-behind : {A : Type 0} (xs ys : List A) (n : ℕ) (x : A) → insert_at (length xs + n) x (xs ++ ys) ≡ xs ++ insert_at n x ys
 insert-behind [] ys n x = let e : 0 + n ≡ n = omega arith in ap (λ k. insert_at k x ys) e
 insert-behind (z ∷ zs) ys n x =
@@ -100,6 +104,7 @@ commits-set f (o ∷ os) (suc k) p r s e more =
 
 -- ---- each thread's commits
 
+-- a thread's commits in two lists in a row are the first list's, then the second's
 pub by-append : (a : Option ℕ) (xs ys : List Commit) → commits_by a (xs ++ ys) ≡ commits_by a xs ++ commits_by a ys
 by-append a [] ys = refl
 by-append a (x ∷ xs) ys =
@@ -171,6 +176,7 @@ commits-more q x k p is = commits-set chunk_commit x.shares k p (share_more q x.
 
 -- ---- one commit more, where the stratum stands at x
 
+-- a play like the stratum's state does a thread's good next commit, and stays like the state
 pub like-more : (log : LogParts) (y z : Played) (x : StratumState) (k : ℕ) (p : Share) → slice_get x.shares k ≡ Some p → IsGood log k x.memory p → IsLike (with_state log y x) z
     → StepsOn log y z x (with_more (rule_of log) x k (Some p)) k
 like-more log y z x k p is good like =
@@ -234,6 +240,7 @@ pub record GoodAt (log : LogParts) (y : Played) (k i : ℕ) : Type 0 where
 abbrev pub AreGood : LogParts → Played → (ℕ → ℕ) → Type 0
 AreGood log y count = (k i : ℕ) → i < count k → GoodAt log y k i
 
+-- a stratum's memory is that at its start with the words of all shares laid over it
 pub memory-of : (q : ℕ → Rule) (m : List ℕ) (ts : List Parts) (done : ℕ → ℕ) → (state_at q m ts done).memory ≡ lays m (words_of (shares_at q m ts done))
 unfolding state_at
 memory-of q m ts done = refl
@@ -254,6 +261,7 @@ good-now log y done k t is miss good =
     (agree-others (next_seen (q k) base p) y.memory ps k p (alone-get q y.memory y.threads done k t is) miss))
     good)
 
+-- thread k's next commit starts from its share, if that is there
 pub commit-is : (q : ℕ → Rule) (x : StratumState) (k : ℕ) (p : Share) → slice_get x.shares k ≡ Some p → with_more q x k (Some p) ≡ commit_more q x k
 unfolding commit_more
 commit-is q x k p is = ap (with_more q x k) (sym is)
@@ -272,6 +280,7 @@ like-next log y z done k t is miss good like =
     let same : with_more q x k (Some p) ≡ state_at q y.memory y.threads (bump done k) = commit-is q x k p there ∙ one-more q y.memory y.threads done k t is miss in
     subst (λ (w : StratumState). StepsOn log y z x w k) same h
 
+-- in a stratum whose commits are parallel and good, a thread's next one goes, whatever was done before
 pub step-within : (log : LogParts) (y z : Played) (count done : ℕ → ℕ) (k : ℕ) → IsParallel (rule_of log) y.memory y.threads count → AreGood log y count
     → ((j : ℕ) → bump done k j ≤ count j) → IsLike (in_stratum log y done) z
     → StepsOn log y z (state_at (rule_of log) y.memory y.threads done) (state_at (rule_of log) y.memory y.threads (bump done k)) k
@@ -376,10 +385,12 @@ none-raised : (ts : List Parts) → raised_of (map empty_share ts) ≡ 0
 none-raised [] = refl
 none-raised (t ∷ ts) = let h = none-raised ts in omega (arith, h)
 
+-- at the start of a stratum its shares have no commits
 pub none-committed : (f : ℕ → Run → Commit) (ts : List Parts) → commits_of f (map empty_share ts) ≡ []
 none-committed f [] = refl
 none-committed f (t ∷ ts) = none-committed (λ k. f (suc k)) ts
 
+-- a play is like the one inside a stratum that begins there and has no commits yet
 pub like-start : (log : LogParts) (y : Played) → IsLike (in_stratum log y (λ k. 0)) y
 like-start log y =
     let c : y.progress.commits ≡ y.progress.commits ++ commits_of chunk_commit (map empty_share y.threads) =
@@ -396,6 +407,7 @@ checked-start log y =
       like = like-start log y;
     }
 
+-- a stratum's commits are parallel and good, and leave a play like the one that their numbers give
 pub checked-stratum : (log : LogParts) (y : Played) (ks : List ℕ) → 0 < log.s → IsStratum log y ks → Checked log y (plays_of log y ks) (counts_of ks)
 checked-stratum log y ks l s =
     checked-all log y y (λ i. 0) ks l (checked-start log y) s.go
@@ -403,14 +415,17 @@ checked-stratum log y ks l s =
 
 -- ---- three promises
 
+-- a thread's next commit of a stratum goes at any time in it, whatever was done before
 pub strata_step : StrataStep
 strata_step log y z ks done k l s few like =
     let c = checked-stratum log y ks l s in
     step-within log y z (counts_of ks) done k c.parallel c.good few like
 
+-- a stratum's commits in its own order leave a play like the one that their numbers give
 pub strata_played : StrataPlayed
 strata_played log y ks l s = (checked-stratum log y ks l s).like
 
+-- in any order, some or all of a stratum's commits go, and leave what their numbers give
 pub strata_interleave : StrataInterleave
 strata_interleave log y ks js l s few =
     let c = checked-stratum log y ks l s in

@@ -56,10 +56,12 @@ followed_status : (r : Run) (m : List ℕ) (o : InstructionOutcome) → one r.th
 followed_status r m (Serial kind) e = refl
 followed_status r m (Next u load store) e = one_status r.thread m u load store e
 
+-- a run leaves the status of its thread as it was
 pub run-status : (m : List ℕ) (t : Parts) (n : ℕ) → (run m t n).thread.status ≡ t.status
 run-status m t zero = refl
 run-status m t (suc n) = followed_status (run m t n) (lays m (run m t n).words) _ refl ∙ run-status m t n
 
+-- an interrupt after a commit leaves the status of the thread as it was
 pub after-status : (o : Option ℕ) (t : Parts) → (after_interrupt o t).status ≡ t.status
 after-status None t = refl
 after-status (Some value) t = refl
@@ -71,9 +73,11 @@ has-order ModeName.OrderSize log i last live ne = refl
 has-order ModeName.OrderOnly log i last live ne = refl
 has-order ModeName.Picolog log i last live ne = absurd (ne refl)
 
+-- the thread that comes next has the turn, if it is live
 pub turn-there : (i k : ℕ) (t : Parts) → is_live t ≡ true → turn_of_thread i k (Some t) ≡ Turn k
 turn-there i k t live = rw live refl
 
+-- in a log with an order, the thread that is named next has the turn if it is live
 pub turn-now : (log : LogParts) (p : Progress) (u : Used) (ts : List Parts) (k : ℕ) (t : Parts) → log.mode ≢ ModeName.Picolog → position p < log.count → slice_get log.order (position p) ≡ Some (Actor.Thread k)
     → slice_get ts k ≡ Some t → is_live t ≡ true → now_at log p u ts ≡ Turn k
 unfolding now_at
@@ -138,6 +142,7 @@ live-before ts k t u there status j live s is =
           )
     ]
 
+-- a chunk makes no thread live that wasn't live before
 pub chunk-live : (log : LogParts) (y : Played) (k : ℕ) → ChunkGoes log y k → (j : ℕ) → ((s : Parts) → slice_get (play_turn log y (Turn k)).threads j ≡ Some s → is_live s ≡ true) → (s : Parts) → slice_get y.threads j ≡ Some s → is_live s ≡ true
 chunk-live log y k c j live s is =
     let t : Parts = c.thread in
@@ -149,6 +154,7 @@ chunk-live log y k c j live s is =
     let status : e.thread.status ≡ t.status = after-status (interrupt_at log.interrupts k (counted r.thread).commits) (counted r.thread) ∙ run-status y.memory t (size_or_standard log k t.commits) in
     live-before y.threads k t e.thread c.there status j (λ v v_is. live v (ap (λ (x : Played). slice_get x.threads j) end ∙ v_is)) s is
 
+-- threads that the log's order names, and that live before the first of their chunks, have the turns
 pub orders_turn : OrdersTurn
 orders_turn log y [] ne go looked named few live = tt
 orders_turn log y (k ∷ ks) ne go looked named few live =

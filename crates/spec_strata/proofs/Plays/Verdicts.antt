@@ -53,6 +53,7 @@ pub record IsLogged (log : LogParts) (k : ℕ) (r : Run) : Type 0 where
   pub size : chunk_why (size_in log (Actor.Thread k) r.thread.commits) r.n ≡ None
   pub taken : (value : ℕ) → interrupt_at log.interrupts k (counted r.thread).commits ≡ Some value → takes_interrupt (counted r.thread) ≡ true
 
+-- what a chunk's run leaves, its thread with the interrupt that is logged after it, if any
 abbrev pub effect_of : LogParts → (thread : ℕ) → Option Request → Run → Effect
 effect_of log k q r = record (chunk_effect k q r) { thread = (rule_of log k).settle r.thread }
 
