@@ -69,6 +69,7 @@ class Trier:
         self.early = None  # a Runner too, from the first hang on
         self.early_run = None, b""  # of what its last run was, and the account
         self.hangs = Hangs(self.sphere, self.image, self.plan.values.get("input"), self.runner)
+        self.has_library = Names(self.image).has("__library_code")
         self.enough, self.texts = Enough(), {}
 
     def tried(self, number, seed):
@@ -127,7 +128,7 @@ class Trier:
         hang = self.hangs.of(self.early.read("log"), known, seed)
         if not hang or not hang.is_own or (few and not (hang.is_for_ever and not hang.ended.meets(self.condition, False))):
             return None
-        return self.hung(early, hang)
+        return self.stopped(early, hang)
 
     def early_account(self, number, seed, events):
         """The account of a run whose log is then in the folder of the early ones."""
@@ -140,17 +141,25 @@ class Trier:
             self.early_run = (number, seed, events), self.run(number, seed, events, True, self.early)
         return self.early_run[1]
 
-    def hung(self, events, hang):
-        return result_of(BAD if hang.ended.meets(self.condition, True) else HUNG, events, hang.ended, hang.log)
+    def outcome(self, hang):
+        """With the library of delorean-cc only thread 0 lasts as long as its program, so others may be left waiting."""
+        if hang.ended.meets(self.condition, True):
+            return BAD
+        return GOOD if self.has_library and hang.ended.threads[0][0] != "live" else HUNG
+
+    def stopped(self, events, hang):
+        """The Result of a run with which no thread goes on."""
+        outcome = self.outcome(hang)
+        return result_of(outcome, events, hang.ended, None if outcome == GOOD else hang.log)
 
     def tried_live(self, number, seed, events, ended):
         can_go_on = events is not None and events < self.campaign.most_events
         if can_go_on and events == plans.events_of(self.plan, self.campaign.settings[number]) and self.commits_late(events):
             return None
         hang = self.hang(number, seed, events)
-        if hang and (hang.is_own or not can_go_on):
+        if hang and (hang.is_own or not can_go_on and self.outcome(hang) != GOOD):
             hang.ended.commits = ended.commits
-            return self.hung(events, hang)
+            return self.stopped(events, hang)
         return None if can_go_on else result_of(LIVE, events, ended)
 
     # ------------------------------------------------------------ runs

@@ -16,6 +16,7 @@ import support
 from campaign.store import NAME, Store
 
 RACE, SLEEP = support.TOP / "examples/race", support.TOP / "hunt/examples/sleep"
+IMAGES = support.TOP / "hunt/tests/images"
 SEEDS = support.TOP / "hunt/seeds"
 COUNT_IS_WRONG = "exit 0 != 0"
 HAS_COMPILER = shutil.which(os.environ.get("CC", "cc")) is not None

@@ -18,11 +18,14 @@ from lib.engine import Engine, Options
 from lib.image import read_image
 from lib.symbols import Names
 from locked_programs import locked_program, with_marks
-from small_programs import END_OF_WORDS, SHARED, SIZE, addi, beq, bne, elf, image_of, lw, random_program, reserving_step, sw, waiting_step
+from small_programs import (END_OF_WORDS, SHARED, SIZE, addi, beq, bne, elf, image_of, lw, random_program, reserving_step, sw,
+                            waiting_step)
 from test_long_loops import CLEARS, END, OTHER, SETS, together, waits
 from test_search import BUGS, CAN_BUILD, EXAMPLES, NO_COMPILER, RACE, command, written
-from test_search_states import A, B, DELAY, ENDS, FLAG, SEEN, SPAWNS_TWO, laid, sets
+from test_search_keys import HAS_ENDED, calls, waits_for
+from test_search_states import A, ANSWER, B, BUFFER, DELAY, ENDS, FLAG, REQUEST, SEEN, SPAWNS_TWO, W, laid, sets
 
+X = W
 FEW = Options(steps=100000)
 # Each is for some of the programs: at every point a few wait; one of the crew is slow where it meets states, or to close them; the others are
 # slow to tell what they know, or to judge.
@@ -86,6 +89,29 @@ class SameEnds(unittest.TestCase):
         for delays in "", "place:*:10000":
             with delayed(delays):
                 self.assertIn(2, self.seen_in_hangs(image, "jobs 16"), delays)
+
+    def test_word_that_is_shared_while_a_loop_is_looked_at(self):
+        """Thread 2 waits until thread 1 has ended or W is set; thread 0 sets W once thread 1 has ended. To see W set, thread 2 is left
+        between its two looks, which wants a forced switch. One of the crew is slow in thread 2's loop, and meanwhile another one finds
+        that W is shared. If the loop counted as one of a single place from then on, nobody would look at W in it again."""
+        image = laid([*SPAWNS_TWO, *waits_for(1), *sets(W, 1), *ENDS], ENDS,
+                     [*calls(HAS_ENDED, 1), addi(17, 0, 0), bne(10, 0, 20), lw(8, W), beq(8, 0, -24), addi(5, 0, 1), sw(5, ANSWER), *ENDS])
+        by_hand = ("all", {(0, 0, 0, 0, 0): 0, (0, 0, 0, 1, 0): 1}, False)
+        self.assertEqual(met_ends(image, FEW), by_hand)
+        with delayed("take:1:20000,leaf:1:20000,around:0:100000"):
+            self.assertEqual(met_ends(image, FEW, "jobs 2", "scouts 0"), by_hand)
+
+    def test_word_that_is_shared_while_others_have_items(self):
+        """Only with a forced switch thread 2 sees the flag, and stores to X. Before, thread 0 had no place at its stores to X, and what is
+        left to be tried parts after so many stops as there were then: by now these are stops before the request and its DMA. To part
+        there would do a DMA that nobody asked for, to address 0, and so share the code there. FLAG and X alone are shared."""
+        image = laid([addi(6, 0, 1), *[sw(6, X)] * 20, *SPAWNS_TWO, *calls(REQUEST, BUFFER, 4), *[lw(7, FLAG)] * 8,
+                      *ENDS],
+                     [*sets(FLAG, 1), *sets(FLAG, 0), *ENDS], [lw(7, FLAG), beq(7, 0, 8), sw(7, X), *ENDS])
+        for _ in range(8):  # mostly once is enough
+            with delayed("news:*:20000"), Engine(image, read_condition(["fault"], Names(image)), FEW._replace(all_places=True)) as engine:
+                engine.send("jobs 2", "scouts 0")
+                self.assertEqual(engine.search(1, 10**6, 1 << 20, 60).bounds[-1].shared, 2)
 
     def seen_in_hangs(self, image, *lines):
         with Engine(image, read_condition(["word %X = 999" % SHARED], Names(image)), FEW) as engine:

@@ -1,5 +1,6 @@
 """A search that is stopped and goes on from a file comes to what it would have come to; and it goes on with nothing else."""
 
+import itertools
 import os
 import signal
 import subprocess
@@ -17,23 +18,25 @@ from lib.engine import Engine, Options
 from lib.image import read_image
 from lib.symbols import Names
 from locked_programs import locked_program, with_marks
-from small_programs import END_OF_WORDS, SHARED, SIZE, elf, image_of, random_program, reserving_step, waiting_step
+from small_programs import (CODE_OF_THREAD, END_OF_WORDS, SHARED, SIZE, SPAWN, addi, beq, call, elf, image_of, lw, random_program,
+                            reserving_step, sets, sw, waiting_step)
 from test_search import CAN_BUILD, NO_COMPILER, RACE, command
 from test_search_jobs import engine_of
+from test_search_states import A, ANSWER, B, ENDS, SEEN, SPAWNS_TWO, laid
 
 FEW = Options(steps=100000)
 COVERED = "no order ends so, with however many switches: all states were met, 1310 in "
 
 
-def ends_in_sittings(image, file, runs, jobs=1):
-    """The ends, as met_ends has them, and in how many sittings: in each one so many runs more."""
-    sittings, told = 0, "tries"
+def ends_in_sittings(image, file, limits=(10**6,), jobs=1):
+    """The ends, as met_ends has them, and in how many sittings: each until there were so many runs in all."""
+    sittings, told, limits = 0, "tries", iter(limits)
     while told == "tries":
         sittings += 1
         with Engine(image, read_condition([NEVER], Names(image)), FEW) as engine:
             engine.send("jobs %d" % jobs, "stamp x", "save 1000 %s" % file, *(["resume %s" % file] if sittings > 1 else []))
             engine.collect_ends(SHARED, END_OF_WORDS - SHARED)
-            result = engine.search(60, runs * sittings, 1 << 22, 60, on_line=lambda words: None)
+            result = engine.search(60, next(limits), 1 << 22, 60, on_line=lambda words: None)
             told = result.how
     found = {}
     for end in result.ends:
@@ -63,14 +66,25 @@ class Saved(unittest.TestCase):
     def test_same_ends(self):
         most = hangs = 0
         for place, image in enumerate(self.programs()):
-            expected = ends_in_sittings(image, self.file, 10**6)[:3]
+            expected = ends_in_sittings(image, self.file)[:3]
             for runs, jobs in (15, 1), (40, 3):
-                *met, sittings = ends_in_sittings(image, self.file, runs, jobs)
+                *met, sittings = ends_in_sittings(image, self.file, itertools.count(runs, runs), jobs)
                 self.assertEqual(tuple(met), expected, (place, runs, jobs))
                 most = max(most, sittings)
             hangs += expected[2]
         self.assertGreater(most, 3)
         self.assertGreater(hangs, 0)
+
+    def test_fewest_forced_switches(self):
+        """That thread 2 has seen B as 0 and then as 1 wants no forced switch: it waits for A, thread 1 sets that, and thread 3, which sets B
+        only then, comes next. One of the first runs lets thread 1 end before thread 2 comes to its loop. There thread 3 is put off, since
+        it would come by force. A later run, maybe of the next sitting, comes to the same state without force."""
+        image = laid([*SPAWNS_TWO, addi(10, 0, 3 * CODE_OF_THREAD), *call(SPAWN), *ENDS], [*sets(A, 1), *ENDS],
+                     [lw(7, B), lw(5, A), beq(5, 0, -4), lw(8, B), sw(7, SEEN), sw(8, ANSWER), *ENDS],
+                     [lw(5, A), beq(5, 0, 8), sw(5, B), *ENDS])
+        by_hand = {(1, 0, 0, 0, 0, 0): 0, (1, 1, 0, 0, 0, 0): 0, (1, 1, 0, 1, 0, 0): 0, (1, 1, 1, 1, 0, 0): 0}
+        for first in range(1, 7):
+            self.assertEqual(ends_in_sittings(image, self.file, (first, 10**6)), ("all", by_hand, False, 2), first)
 
     def test_sittings(self):
         """The bounds that were done are told again, and the numbers go on."""

@@ -18,7 +18,7 @@ from campaign.plans import read_plan
 from campaign.program import find_program
 from campaign.store import NAME, Store
 from campaign.trying import BAD, Campaign, Trier
-from campaigns import COUNT_IS_WRONG, HAS_COMPILER, NO_COMPILER, NOT_BUILT, RACE, SEEDS, SLEEP, Scratch, rows_in, said
+from campaigns import COUNT_IS_WRONG, HAS_COMPILER, IMAGES, NO_COMPILER, NOT_BUILT, RACE, SEEDS, SLEEP, Scratch, rows_in, said
 from killing import kill_and_resume
 from lib.account import program
 
@@ -85,6 +85,23 @@ class Campaigns(Scratch):
         status, text = said("plan.toml", "--bad", "exit any = 99", "--seeds", "38-39")
         self.assertEqual(status, 1)
         self.assertIn("2 tries: 1 good, 0 bad, 0 live, 1 hung\n", text)
+
+    @unittest.skipUnless(HAS_COMPILER, NO_COMPILER)
+    def test_thread_that_the_library_keeps(self):
+        """A program of delorean-cc is over with `main`. In parks.elf, which is sdk/examples/reorder5.c, the library keeps thread 5 for
+        later ones; in deadlock.elf `main` itself waits for ever. A search, too, finds a `hang` of the first, and no `hang 0`."""
+        plan = "plan.toml", "--seeds", "1-6", "--jobs", 1
+        for image, condition, counts in (("parks.elf", "exit any != 0", "6 good, 0 bad, 0 live, 0 hung"),
+                                         ("parks.elf", "hang 0", "6 good, 0 bad, 0 live, 0 hung"),
+                                         ("parks.elf", "hang", "0 good, 6 bad, 0 live, 0 hung"),
+                                         ("deadlock.elf", "exit any != 0", "4 good, 0 bad, 0 live, 2 hung"),
+                                         ("deadlock.elf", "hang 0", "4 good, 2 bad, 0 live, 0 hung")):
+            self.copy(RACE / "plan.toml", IMAGES / image, image='"%s"' % image, memory=86016, events=50_000)
+            with self.subTest((image, condition)):
+                self.assertIn("6 tries: " + counts, said(*plan, "--bad", condition)[1])
+        # After 10,000 events `main` isn't over, by the account of `delorean run`. The engine would go on with it to its end.
+        self.copy(RACE / "plan.toml", image='"parks.elf"', memory=86016, events=10_000)
+        self.assertIn("1 try: 0 good, 0 bad, 1 live, 0 hung", said("plan.toml", "--seeds", 1, "--most-events", 10_000, "--bad", "fault")[1])
 
     @unittest.skipUnless(HAS_COMPILER, NO_COMPILER)
     def test_hang_that_comes_early(self):
