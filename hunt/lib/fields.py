@@ -40,42 +40,30 @@ class Fields:
     def path(self, addr, away, width):
         """The part of the variable at an address that has so many bytes from `away` on: its path, with `+0x..` for what is left."""
         try:
-            path, rest = self._path(_type_of(self._declared(self.types[addr])), away, width) if addr in self.types else ("", away)
+            path, rest, _ = _path(type_of(declared(self.types[addr])), away, width) if addr in self.types else ("", away, None)
         except Exception:
             path, rest = "", away
         return path + ("+0x%X" % rest if rest else "")
 
-    def _declared(self, die):
-        """The entry that has the type: it may be that of the declaration."""
-        for _ in range(MOST_STEPS):
-            origin = next((name for name in ("DW_AT_abstract_origin", "DW_AT_specification") if name in die.attributes), None)
-            if "DW_AT_type" in die.attributes or origin is None:
-                return die
-            die = die.get_DIE_from_attribute(origin)
-        return die
-
-    def _path(self, kind, away, width):
-        path = ""
-        for _ in range(MOST_STEPS):
-            kind = _plain(kind)
-            found = _inner(kind, away, width) if kind is not None else None
-            if found is None:
-                break
-            step, kind, away = found
-            path += step
-        return path, away
+    def of_structure(self, kind, away, width):
+        """(path, size of the whole) of the part of a structure that has just these bytes; the path is empty if there is none."""
+        try:
+            path, rest, part = _path(kind, away, width) if away >= 0 else ("", away, None)
+            return (path if rest == 0 and _size(part) == width else ""), _size(kind)
+        except Exception:
+            return "", 0
 
     def part(self, addr, path):
         """(bytes from the variable's begin, size) of the part that a path names; None if there is none."""
         try:
-            return self._part(_type_of(self._declared(self.types[addr])), path) if addr in self.types else None
+            return self._part(type_of(declared(self.types[addr])), path) if addr in self.types else None
         except Exception:
             return None
 
     def _part(self, kind, path):
         away = 0
         while path:
-            step, kind = _STEP.match(path), _plain(kind)
+            step, kind = _STEP.match(path), plain(kind)
             found = _named(kind, step) if step and kind is not None else None
             if found is None:
                 return None
@@ -83,7 +71,30 @@ class Fields:
         return away, _size(kind)
 
 
-def _type_of(die):
+def declared(die):
+    """The entry that has the type: it may be that of the declaration."""
+    for _ in range(MOST_STEPS):
+        origin = next((name for name in ("DW_AT_abstract_origin", "DW_AT_specification") if name in die.attributes), None)
+        if "DW_AT_type" in die.attributes or origin is None:
+            return die
+        die = die.get_DIE_from_attribute(origin)
+    return die
+
+
+def _path(kind, away, width):
+    """(path, bytes that are left, the part's type)."""
+    path, part = "", kind
+    for _ in range(MOST_STEPS):
+        kind = plain(kind)
+        found = _inner(kind, away, width) if kind is not None else None
+        if found is None:
+            break
+        step, kind, away = found
+        path, part = path + step, kind
+    return path, away, part
+
+
+def type_of(die):
     return die.get_DIE_from_attribute("DW_AT_type") if die is not None and "DW_AT_type" in die.attributes else None
 
 
@@ -91,22 +102,22 @@ def _name(die):
     return die.attributes["DW_AT_name"].value.decode("utf-8", "replace") if "DW_AT_name" in die.attributes else ""
 
 
-def _plain(kind):
+def plain(kind):
     """The type without qualifiers and names; None of one that has no parts to be told."""
     while kind is not None and kind.tag in _SAME:
         if _OPAQUE.fullmatch(_name(kind)):
             return None
-        kind = _type_of(kind)
+        kind = type_of(kind)
     return kind
 
 
 def _size(kind):
     while kind is not None and kind.tag in _SAME:
-        kind = _type_of(kind)
+        kind = type_of(kind)
     if kind is None:
         return 0
     if kind.tag == "DW_TAG_array_type" and "DW_AT_byte_size" not in kind.attributes:
-        size = _size(_type_of(kind))
+        size = _size(type_of(kind))
         for count in _counts(kind):
             size *= count
         return size
@@ -128,7 +139,7 @@ def _members(structure):
     for child in structure.iter_children():
         if child.tag == "DW_TAG_member" and "DW_AT_bit_size" not in child.attributes:
             at = child.attributes.get("DW_AT_data_member_location")
-            yield _name(child), _type_of(child), at.value if at is not None else 0
+            yield _name(child), type_of(child), at.value if at is not None else 0
 
 
 def _inner(kind, away, width):
@@ -139,7 +150,7 @@ def _inner(kind, away, width):
             if at <= away and away + width <= at + _size(inner):
                 return ("." + name if name else ""), inner, away - at
     if kind.tag == "DW_TAG_array_type":
-        element, counts = _type_of(kind), list(_counts(kind))
+        element, counts = type_of(kind), list(_counts(kind))
         size, step = _size(element), ""
         if not size or not counts or away // size != (away + width - 1) // size:
             return None
@@ -159,11 +170,11 @@ def _named(kind, step):
         for name, inner, at in _members(kind):
             if name == step[1]:
                 return at, inner
-            found = _named(_plain(inner), step) if not name and inner is not None else None
+            found = _named(plain(inner), step) if not name and inner is not None else None
             if found:
                 return at + found[0], found[1]
     if step[2] is not None and kind.tag == "DW_TAG_array_type":
         counts = list(_counts(kind))
         if len(counts) == 1 and int(step[2]) < counts[0]:
-            return int(step[2]) * _size(_type_of(kind)), _type_of(kind)
+            return int(step[2]) * _size(type_of(kind)), type_of(kind)
     return None

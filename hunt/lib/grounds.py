@@ -60,7 +60,7 @@ def _of_failed(trace, story, number):
             "it" if last[0].actor == number else context_name(trace.context(last[0])), last[0].told, _place(trace, story, last))
         steps = {a.step} | ({last[1].step} if last else set())
         yield Ground("%s fails with what it finds: %s = %s (commit %d, %s), %s" % (
-            _name(story, number), story.word(a.addr, a.width), values(a).rpartition(" over ")[2], commit.told, trace.names.place(a.pc), who), steps)
+            _name(story, number), story.word_of(a), values(a).rpartition(" over ")[2], commit.told, trace.names.place(a.pc), who), steps)
 
 
 def _place(trace, story, pair):

@@ -11,6 +11,7 @@ from .answered import answer_name
 from .calls import GIVING, TAKING_BACK, Heap, calls_of
 from .machine import CONSOLE_CHANNEL, NO_PC
 from .own import Own
+from .parts import Parts
 from .telling import values, verb
 from .trace import context_name
 
@@ -50,10 +51,10 @@ def block_name(names, block):
     return "block%s of %s" % (number, names.line(block.where) or names.place(block.where))
 
 
-def word_in_block(names, block, addr):
-    """For example `block of list.c:30+4`, or `freed block of ..`."""
+def word_in_block(names, block, addr, part=""):
+    """For example `block of list.c:30->next`, or `freed block of list.c:30+4` if it isn't known which part that is."""
     away = "+%d" % (addr - block.addr) if addr != block.addr else ""
-    return "%s%s%s" % ("freed " if block.freed is not None else "", block_name(names, block), away)
+    return "%s%s%s" % ("freed " if block.freed is not None else "", block_name(names, block), part or away)
 
 
 class Story:
@@ -62,6 +63,7 @@ class Story:
     def __init__(self, trace, left=()):
         self.trace, self.names, self.own = trace, trace.names, Own(trace.image, trace.names)
         self.calls = calls_of(trace, self.own)
+        self.parts = Parts(trace, self.own, self.calls)
         self.begins = {call.first: call for call in self.calls}
         self.ends = {}
         for call in self.calls:
@@ -150,7 +152,7 @@ class Story:
         elif a.pc != NO_PC and self.own.is_code(a.pc):
             if self.own.is_data(a.addr) or self.is_shared(a.addr):
                 rank = SHARED if self.is_shared(a.addr) else OWN
-                yield Row(verb(a.kind), self.word(a.addr, a.width), values(a), self.place_of(a.pc), note=self._freed_by(a), rank=rank)
+                yield Row(verb(a.kind), self.word_of(a), values(a), self.place_of(a.pc), note=self._freed_by(a), rank=rank)
         elif call and call.first not in self.told and self._is_given(a, call):
             self.told.add(call.first)
             yield Row("calls", self.call_text(call), "", self.place_of(call.at), rank=SHARED)
@@ -248,6 +250,12 @@ class Story:
 
     def place_of(self, pc):
         return self.names.place(pc)
+
+    def word_of(self, a):
+        """What an access is to, told as a part of its block if that is certain."""
+        block = self.block(a.addr)
+        part = self.parts.path(block, a.addr - block.addr, a.width) if block else ""
+        return word_in_block(self.names, block, a.addr, part) if part else self.word(a.addr, a.width)
 
     def call_text(self, call):
         count = 2 if call.name in TWO_ARGUMENTS else 1

@@ -90,6 +90,13 @@ class SameEnds(unittest.TestCase):
             with delayed(delays):
                 self.assertIn(2, self.seen_in_hangs(image, "jobs 16"), delays)
 
+    def test_each_sees_another_one_wait(self):
+        """Threads 1 and 2 wait from their beginning on, for what never comes. Two of the crew come to this end at once, each by another
+        thread, and neither has seen the other one's wait."""
+        image = laid([*SPAWNS_TWO, *ENDS], *[[lw(7, A), beq(7, 0, -4), *ENDS]] * 2)
+        with delayed("leaf:*:20000"):
+            self.assertEqual(met_ends(image, FEW, "jobs 2", "scouts 0"), ("all", {}, True))
+
     def test_word_that_is_shared_while_a_loop_is_looked_at(self):
         """Thread 2 waits until thread 1 has ended or W is set; thread 0 sets W once thread 1 has ended. To see W set, thread 2 is left
         between its two looks, which wants a forced switch. One of the crew is slow in thread 2's loop, and meanwhile another one finds

@@ -87,6 +87,17 @@ class Told(unittest.TestCase):
         _, found = self.find("parts", "--bad", "word queue.ring[2].sequence = 5 and word take::taken[1] = 6", "-DMENDED")
         self.assertRegex("\n".join(found["found"]["order"]), r"stores +take::taken\[1\] +00000006 over 00000000 ")
 
+    def test_fields_of_blocks(self):
+        """By the pointers through which they are reached. Offset 6 is reached as `mark` and as `its_mark`, so it keeps its number, and so
+        do all of a block whose bytes were another line's before."""
+        order = "\n".join(self.told("fields")["order"])
+        for part in ("->next", "->kind", "->value", "->range[1].high", "+6"):
+            self.assertRegex(order, r"stores +block of fields\.c:11%s " % re.escape(part))
+        for part in ("", "+8"):
+            self.assertRegex(order, r"stores +block of fields\.c:37%s " % re.escape(part))
+        self.assertNotRegex(order, r"->(its_)?mark|fields\.c:(34|37)->")
+        self.assertRegex(order, r"loads +block of fields\.c:11->value +0000000[12] +main, fields\.c:47")
+
     def test_who_could_have_woken_it(self):
         """Nothing is stale here: the signal has come before the wait."""
         why = self.told("parts")["why"]
