@@ -93,13 +93,14 @@ static bool is_fresh(const struct trial *t) { return t->fresh && t->touches_then
 
 /* Another thread comes, or the chunk ends before the SC. Whoever has touched nothing might as well come later; so nothing is lost
    either if this state is met again by a thread that has touched something, and the key doesn't tell the two. */
-static void offer_switches(const struct trial *t) {
+static void offer_switches(const struct trial *t, struct hash state) {
     struct run *run = t->run;
     uint32_t cost = whole.tally->bound + 1;
     if (is_fresh(t))
         return;
     delay("offer");
-    struct hash after = state_after_chunk(run);
+    bool is_reserved = run->machine.threads[run->current].reservation != NO_RESERVATION;
+    struct hash after = is_reserved ? state_after_chunk(run) : state;
     for (uint32_t u = 0; u < run->machine.thread_count; u++)
         if (u != run->current && is_choice(run, u) && is_new(key_of(after, u, COMING), cost))
             put_off(t, u);
@@ -114,12 +115,12 @@ static void offer_interrupts(const struct trial *t, bool of_current_alone) {
             put_off(t, RAISE + j);
 }
 
-void offer(struct trial *t, enum stop stop) {
+void offer(struct trial *t, enum stop stop, struct hash state) {
     count_place(t, stop);
     if (whole.tally->bound == whole.limits->switches)
         return;
     if (stop == AT_PLACE) {
-        offer_switches(t);
+        offer_switches(t, state);
         if (t->run->machine.requested)
             put_off(t, DMA);
     }

@@ -18,8 +18,8 @@ struct trial {
 /* The current thread comes here. */
 void comes(struct trial *t);
 void take_choice(struct trial *t, uint32_t choice, enum turn_end end);
-/* The choices that there are at this stop, with one forced switch more. */
-void offer(struct trial *t, enum stop stop);
+/* The choices that there are at this stop, in this whole state, with one forced switch more. */
+void offer(struct trial *t, enum stop stop, struct hash state);
 void count_place(struct trial *t, enum stop stop);
 /* Whether no thread goes on, and nothing else can come. */
 bool is_leaf(struct run *run);

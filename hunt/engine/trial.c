@@ -25,7 +25,7 @@ static void go_past(struct trial *t, enum stop stop, bool *past) {
    another one of the crew is on its way, what others could do here is its business, but that doesn't end this turn: two that are in
    one loop would wait for each other, and neither would see that the thread waits. */
 static enum result at_place(struct trial *t, enum stop stop, bool *past) {
-    struct hash key = key_of(whole_state(t->run), t->run->current, AT_PLACE_KEY);
+    struct hash state = whole_state(t->run), key = key_of(state, t->run->current, AT_PLACE_KEY);
     enum meeting meeting = meet(key, whole.tally->bound);
     delay("place");
     if (meeting == IS_KNOWN) {
@@ -34,7 +34,7 @@ static enum result at_place(struct trial *t, enum stop stop, bool *past) {
     }
     if (meeting == IS_FIRST) {
         keep_key(key);
-        offer(t, stop);
+        offer(t, stop, state);
     } else if (!is_in_turn(key))
         count_place(t, stop);
     go_past(t, stop, past);
