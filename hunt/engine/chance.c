@@ -1,6 +1,7 @@
 #include "chance.h"
 
 #include "ends.h"
+#include "leaf.h"
 #include "priorities.h"
 #include "scouts.h"
 #include "segments.h"

@@ -71,6 +71,8 @@ void together(void (*work)(void)) {
 /* ---------------------------------------------------------------- locks */
 
 void spin_lock(atomic_flag *flag) {
+    if (size == 1)
+        return;
     for (int tries = 1; atomic_flag_test_and_set_explicit(flag, memory_order_acquire); tries++)
         if (tries % 64 == 0)
             sched_yield();

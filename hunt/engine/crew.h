@@ -19,7 +19,14 @@ struct counter {
     _Alignas(64) _Atomic uint64_t value;
 };
 
-void spin_lock(atomic_flag *lock); /* for a few instructions */
+static inline void count_up(struct counter *c, bool alone) {
+    if (alone)
+        atomic_store_explicit(&c->value, atomic_load_explicit(&c->value, memory_order_relaxed) + 1, memory_order_relaxed);
+    else
+        c->value++;
+}
+
+void spin_lock(atomic_flag *lock); /* for a few instructions; whoever is alone needs none */
 void spin_unlock(atomic_flag *lock);
 
 /* For tests: whoever comes to this point may be made to wait, as DELOREAN_SEARCH_DELAYS says. It is a list of POINT:NUMBER:US, with commas:

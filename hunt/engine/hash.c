@@ -1,22 +1,5 @@
 #include "inside.h"
 
-static uint64_t stirred(uint64_t v) {
-    v ^= v >> 32;
-    v *= 0xD6E8FEB86659FD93u;
-    v ^= v >> 32;
-    v *= 0xD6E8FEB86659FD93u;
-    return v ^ v >> 32;
-}
-
-struct hash mixed(uint64_t a, uint64_t b) {
-    uint64_t h = stirred(a * 0x9E3779B97F4A7C15u + b + 1);
-    return (struct hash){h, stirred(h ^ (b * 0xC2B2AE3D27D4EB4Fu + a))};
-}
-
-struct hash sum(struct hash h, struct hash g) { return (struct hash){h.a + g.a, h.b + g.b}; }
-
-bool same_hash(struct hash h, struct hash g) { return h.a == g.a && h.b == g.b; }
-
 struct hash chained(struct hash h, uint64_t v) {
     h.a = (h.a ^ v) * 0x9FB21C651E98DF25u;
     h.a ^= h.a >> 29;

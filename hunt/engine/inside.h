@@ -9,6 +9,7 @@ void happened(struct machine *m); /* something that isn't a store, and that othe
 void put_word(struct machine *m, uint32_t address, uint32_t word);
 void put_bytes(struct machine *m, uint32_t context, uint32_t address, const uint8_t *bytes, uint32_t length);
 const struct code *code_at(struct machine *m, uint32_t pc);
+void run_store(struct machine *m, uint32_t number, uint32_t address, const struct code *c);
 void put_register(struct thread *t, uint32_t r, uint32_t v);
 
 #endif

@@ -4,7 +4,6 @@
 
 #include <stdio.h>
 #include <stdlib.h>
-#include <string.h>
 
 void fail(const char *why) {
     printf("failed %s\n", why);
@@ -27,12 +26,6 @@ void *more_room(void *old, size_t count, size_t size) {
 }
 
 /* ---------------------------------------------------------------- memory */
-
-uint32_t word_at(const struct machine *m, uint32_t address) {
-    uint32_t word;
-    memcpy(&word, m->memory + (address & ~3u), 4);
-    return word;
-}
 
 void happened(struct machine *m) { m->events++; }
 

@@ -3,9 +3,12 @@
 #ifndef MACHINE_H
 #define MACHINE_H
 
+#include "hash.h"
+
 #include <stdbool.h>
 #include <stddef.h>
 #include <stdint.h>
+#include <string.h>
 
 enum { MOST_THREADS = 63, PIPES = 8, PIPE_ROOM = 256, LONGEST = 4096 };
 enum { NO_RESERVATION = 1 }; /* no address of a word */
@@ -19,8 +22,6 @@ enum { CONSOLE_CHANNEL = 8, INPUT_CHANNEL = 9 };
 #define MOMENT_WORD 0xF0000000u
 #define INPUT_WORD 0xF0000004u
 #define CONSOLE_WORD 0xF0000008u
-
-struct hash { uint64_t a, b; };
 
 struct thread {
     uint32_t pc, x[32], reservation, handler, masked, saved_pc, saved_a0, saved_a1, status, code;
@@ -113,13 +114,15 @@ void start_machine(struct machine *m, struct setup *setup);
 void reset_machine(struct machine *m);
 struct next next_of(struct machine *m, const struct thread *t);
 void run_local(struct machine *m, uint32_t number);
+/* So many plain instructions at most, or until the thread is at this pc; how many they were. Plain is what is at no place: local
+   instructions, loads and stores. But one that wasn't taken apart yet isn't counted among them, nor is one with a mark. */
+uint64_t run_plain(struct machine *m, uint32_t number, uint64_t most, uint32_t pc);
 void run_access(struct machine *m, uint32_t number, uint32_t address, struct served *load);
 void serve(struct machine *m, uint32_t number, struct next next, struct served *served);
 void end_chunk(struct thread *t);
 bool can_interrupt(const struct thread *t);
 void interrupt(struct machine *m, uint32_t number, uint32_t value);
 uint32_t do_request(struct machine *m);
-uint32_t word_at(const struct machine *m, uint32_t address);
 /* Of a thread's next instruction, which next_of was asked for: */
 bool is_load_reserved(const struct machine *m, const struct thread *t);
 bool is_store(const struct machine *m, const struct thread *t);
@@ -130,11 +133,14 @@ bool has_reserved(const struct machine *m, const struct thread *t, uint32_t addr
 uint64_t reservation_age(const struct machine *m, const struct thread *t);
 struct hash hash_of_thread(const struct thread *t);
 struct hash hash_of_rest(const struct machine *m);
-struct hash mixed(uint64_t a, uint64_t b);
-struct hash sum(struct hash h, struct hash g);
-bool same_hash(struct hash h, struct hash g);
 _Noreturn void fail(const char *why);
 void *room(size_t count, size_t size);
 void *more_room(void *old, size_t count, size_t size);
+
+static inline uint32_t word_at(const struct machine *m, uint32_t address) {
+    uint32_t word;
+    memcpy(&word, m->memory + (address & ~3u), 4);
+    return word;
+}
 
 #endif

@@ -264,10 +264,9 @@ static bool is_spent(struct run *r) {
     return true;
 }
 
-/* One step, then how it stands. AT_PLACE means that nothing has ended. */
-static enum stop step_on(struct run *r, struct next next, bool at_place) {
+/* How it is after a step. AT_PLACE means that nothing has ended. */
+static enum stop after_step(struct run *r) {
     struct machine *m = &r->machine;
-    do_step(r, next, at_place);
     if (m->threads[r->current].status != LIVE || r->met)
         return AT_STOP;
     if (comes_again(r)) {
@@ -279,6 +278,35 @@ static enum stop step_on(struct run *r, struct next next, bool at_place) {
     return is_spent(r) ? AT_SPENT : AT_PLACE;
 }
 
+static enum stop step_on(struct run *r, struct next next, bool at_place) {
+    do_step(r, next, at_place);
+    return after_step(r);
+}
+
+static uint64_t least(uint64_t a, uint64_t b) { return a < b ? a : b; }
+
+/* After so many steps, or at the mark's pc, it is looked at how it is; before that nothing can be found. */
+static uint64_t steps_to_look(struct run *r) {
+    uint64_t steps = r->mark_power - r->mark_age, spent = present(r)->steps, time = r->machine.time;
+    steps = least(steps, r->spent_at > spent ? r->spent_at - spent : 1);
+    return least(steps, r->step_limit > time ? r->step_limit - time : 1);
+}
+
+/* Plain steps of the current thread, some at most; how many they were. What is left is to look how it is. */
+static uint64_t step_plainly(struct run *r, uint64_t most) {
+    uint64_t stores = r->machine.stores;
+    if (r->met)
+        return 0;
+    go_on_in_segment();
+    uint64_t count = run_plain(&r->machine, r->current, r->watched != NULL ? 1 : least(most, steps_to_look(r)), r->mark.pc);
+    if (count == 0)
+        return 0;
+    present(r)->steps += count;
+    r->mark_age += count - 1;
+    look_at_moment(r, stores);
+    return count;
+}
+
 static bool is_interruptible(const struct run *r) {
     for (uint32_t j = 0; j < r->raise_count; j++)
         if (r->raises[j].thread == r->current && can_raise(r, j))
@@ -287,7 +315,13 @@ static bool is_interruptible(const struct run *r) {
 }
 
 enum stop go_on(struct run *r, bool past) {
+    enum stop stop;
     for (;; past = false) {
+        if (r->raise_count == 0 && step_plainly(r, UINT64_MAX) > 0) {
+            if ((stop = after_step(r)) != AT_PLACE)
+                return stop;
+            continue;
+        }
         const struct thread *t = &r->machine.threads[r->current];
         struct next next = next_of(&r->machine, t);
         if (r->met)
@@ -299,21 +333,26 @@ enum stop go_on(struct run *r, bool past) {
             return AT_PLACE;
         if (!past && is_interruptible(r))
             return AT_INTERRUPTIBLE;
-        enum stop stop = step_on(r, next, at_place);
-        if (stop != AT_PLACE)
+        if ((stop = step_on(r, next, at_place)) != AT_PLACE)
             return stop;
     }
 }
 
 enum stop go_steps(struct run *r, uint64_t steps) {
-    for (uint64_t j = 0; j < steps; j++) {
+    enum stop stop;
+    for (uint64_t j = 0, plain; j < steps; j += plain > 0 ? plain : 1) {
         if (r->met)
             return AT_STOP;
-        const struct thread *t = &r->machine.threads[r->current];
-        struct next next = next_of(&r->machine, t);
-        if (is_blocked_at(r, t, next))
-            return AT_WAIT;
-        enum stop stop = step_on(r, next, is_place(r, t, next));
+        plain = step_plainly(r, steps - j);
+        if (plain > 0)
+            stop = after_step(r);
+        else {
+            const struct thread *t = &r->machine.threads[r->current];
+            struct next next = next_of(&r->machine, t);
+            if (is_blocked_at(r, t, next))
+                return AT_WAIT;
+            stop = step_on(r, next, is_place(r, t, next));
+        }
         if (stop != AT_PLACE && stop != AT_SPENT)
             return stop;
     }

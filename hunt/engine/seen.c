@@ -101,7 +101,7 @@ static void put(struct part *p, struct entry *place, uint64_t now, struct hash s
     put_at(place, state.a, state.b);
     if (now != 0)
         return;
-    count.value++;
+    count_up(&count, crew_size() == 1);
     if (++p->count > p->table->places / 2)
         grow(p);
 }
@@ -134,7 +134,7 @@ void turn_has_ended(struct hash state) {
     uint64_t b;
     spin_lock(&p->lock);
     struct entry *place = place_of(p->table, state, &b);
-    place->b = b & ~(uint64_t)OPEN;
+    atomic_store_explicit(&place->b, b & ~(uint64_t)OPEN, memory_order_release);
     spin_unlock(&p->lock);
 }
 

@@ -1,9 +1,7 @@
 #include "segments.h"
 
 #include "crew.h"
-#include "sharing.h"
 
-#include <stdatomic.h>
 #include <string.h>
 
 /* Of a word the threads whose present segments have touched it, as bits. */
@@ -17,17 +15,13 @@ static _Thread_local uint64_t touches;
 static _Thread_local bool news, at_place, learns = true;
 static _Thread_local uint32_t known_then; /* when the run began */
 /* Of all runs: */
-static _Atomic uint8_t *place;
+_Atomic uint8_t *made_place;
 static _Atomic uint32_t place_words, changes;
-static bool all_places = true;
+bool all_places = true;
 
 /* ---------------------------------------------------------------- places */
 
 void every_shared_word_is_a_place(bool all) { all_places = all; }
-
-bool is_made_place(uint32_t address) { return atomic_load_explicit(&place[address / 4], memory_order_acquire); }
-
-bool is_place_word(uint32_t address) { return is_made_place(address) || (all_places && is_shared(address)); }
 
 uint32_t place_word_count(void) { return all_places ? shared_count() : place_words; }
 
@@ -49,7 +43,7 @@ void learn(bool so) { learns = so; }
 bool is_learning(void) { return learns; }
 
 void put_place(uint32_t address) {
-    if (!atomic_exchange(&place[address / 4], 1))
+    if (!atomic_exchange(&made_place[address / 4], 1))
         place_words++;
 }
 
@@ -88,7 +82,7 @@ static void empty(uint32_t thread) {
 }
 
 void start_places(uint32_t size) {
-    place = room(size / 4, 1);
+    made_place = room(size / 4, 1);
     place_words = 0;
 }
 

@@ -5,7 +5,7 @@
 #ifndef SEGMENTS_H
 #define SEGMENTS_H
 
-#include "machine.h"
+#include "sharing.h"
 
 enum touch { LOADS, STORES };
 
@@ -13,10 +13,8 @@ void start_places(uint32_t size);   /* once */
 void start_segments(uint32_t size); /* for each of the crew */
 void forget_segments(void); /* for a new run; the places' words stay */
 void every_shared_word_is_a_place(bool all);
-bool is_place_word(uint32_t address);
 void make_place(uint32_t address);
-/* Whether it was made one, and that it was. */
-bool is_made_place(uint32_t address);
+/* That it was made one. */
 void put_place(uint32_t address);
 uint32_t place_word_count(void);
 /* Grows with each word that is found to be shared, or a place's, by whomever of the crew. */
@@ -38,6 +36,14 @@ void go_on_in_segment(void);
    conflicts from there on. */
 struct hash segments(void);
 uint64_t touch_count(void); /* grows with each touch that a segment didn't have */
+
+/* For the two after it alone: */
+extern _Atomic uint8_t *made_place;
+extern bool all_places;
+
+static inline bool is_made_place(uint32_t address) { return atomic_load_explicit(&made_place[address / 4], memory_order_acquire); }
+
+static inline bool is_place_word(uint32_t address) { return is_made_place(address) || (all_places && is_shared(address)); }
 
 /* The words that a thread has touched in its present segment, and the sum of their hashes. */
 struct segment {

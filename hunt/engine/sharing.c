@@ -2,17 +2,7 @@
 
 #include "segments.h"
 
-#include <stdatomic.h>
-
-/* Of a word, in all runs together. NOBODY, MANY, or a context and 1. It changes as a whole, so whoever of the crew changes it last
-   sees all that the others have. */
-enum { NOBODY = 0, MANY = 255 };
-struct touchers {
-    uint8_t loader, storer;
-    bool shared, fetched;
-};
-
-static struct touchers _Atomic *touchers;
+struct touchers _Atomic *touchers;
 static uint32_t words;
 static _Atomic uint32_t count;
 
@@ -23,15 +13,7 @@ void start_sharing(uint32_t size) {
     start_places(size);
 }
 
-static struct touchers of(uint32_t address) { return atomic_load_explicit(&touchers[address / 4], memory_order_acquire); }
-
-bool is_shared(uint32_t address) { return of(address).shared; }
-
 uint32_t shared_count(void) { return count; }
-
-uint32_t context_of(const struct machine *m, uint32_t thread) {
-    return thread + (m->threads[thread].masked ? IN_HANDLER : 0);
-}
 
 static bool same(struct touchers t, struct touchers u) {
     return t.loader == u.loader && t.storer == u.storer && t.shared == u.shared && t.fetched == u.fetched;
@@ -43,7 +25,7 @@ static bool is_changed(uint32_t address, struct touchers *before, struct toucher
 }
 
 static void share(uint32_t address) {
-    struct touchers t = of(address), after;
+    struct touchers t = touchers_of(address), after;
     if (!is_learning())
         return;
     do {
@@ -67,7 +49,7 @@ static bool is_of_two(struct touchers t) {
 }
 
 void note_load(uint32_t context, uint32_t address) {
-    struct touchers t = of(address), after;
+    struct touchers t = touchers_of(address), after;
     do {
         after = t;
         after.loader = joined(t.loader, context);
@@ -84,7 +66,7 @@ static void share_code(uint32_t address) {
 }
 
 void note_store(uint32_t context, uint32_t address) {
-    struct touchers t = of(address), after;
+    struct touchers t = touchers_of(address), after;
     do {
         after = t;
         after.storer = joined(t.storer, context);
@@ -98,7 +80,7 @@ void note_store(uint32_t context, uint32_t address) {
 }
 
 void note_fetched(uint32_t address) {
-    struct touchers t = of(address), after;
+    struct touchers t = touchers_of(address), after;
     do {
         after = t;
         after.fetched = true;
@@ -110,7 +92,7 @@ void note_fetched(uint32_t address) {
 /* ---------------------------------------------------------------- kept in a file */
 
 uint32_t toucher_word(uint32_t address) {
-    struct touchers t = of(address);
+    struct touchers t = touchers_of(address);
     return t.loader | (uint32_t)t.storer << 8 | (uint32_t)t.shared << 16 | (uint32_t)t.fetched << 17;
 }
 

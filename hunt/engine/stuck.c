@@ -1,7 +1,7 @@
 #define _POSIX_C_SOURCE 200809L
 #include "stuck.h"
 
-#include "search.h"
+#include "leaf.h"
 
 #include <sys/types.h>
 #include <sys/wait.h>

@@ -57,6 +57,13 @@ class States(unittest.TestCase):
              addi(5, 0, 0), beq(0, 0, -16), sw(5, ANSWER), *ENDS])
         self.assertEqual(met[1, 2, 1, 2], 2)
 
+    def test_changed_code_that_was_done_before(self):
+        """A word of code is done twice, and is changed before, between, or after."""
+        met = self.outcomes(
+            [*SPAWNS, addi(9, 0, 2), addi(5, 5, 1), addi(9, 9, -1), bne(9, 0, -8), sw(5, SEEN), *ENDS],
+            [lw(7, CODE_OF_THREAD + 20), sw(7, 24), *ENDS, addi(5, 5, 16)])
+        self.assertEqual(met, {(0, 0, 2, 0): 0, (0, 0, 17, 0): 1, (0, 0, 32, 0): 1})
+
     def test_waiting_loop_of_two_places(self):
         """A thread that is known to wait comes, sees a 5, and is left before it looks at the other word. To see Q twice as 1 wants
         three forced switches, and this two more."""
