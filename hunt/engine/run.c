@@ -133,9 +133,17 @@ static void look_at_moment(struct run *r, uint64_t stores) {
         r->met = r->met || holds_now(r->watched, &r->machine);
 }
 
+/* After a step of the current thread, before which its sp was this. */
+static void look_at_stack(struct run *r, uint32_t sp) {
+    const struct thread *t = &r->machine.threads[r->current];
+    if (r->stacks.first_tp != 0 && stack_pointer(t) != sp)
+        r->met = r->met || is_below_stack(&r->stacks, t);
+}
+
 static void do_step(struct run *r, struct next next, bool at_place) {
     struct served served;
     uint64_t stores = r->machine.stores;
+    uint32_t sp = stack_pointer(&r->machine.threads[r->current]);
     present(r)->steps++;
     if (at_place)
         begin_segment(r->current);
@@ -148,6 +156,7 @@ static void do_step(struct run *r, struct next next, bool at_place) {
     else
         serve(&r->machine, r->current, next, &served);
     look_at_moment(r, stores);
+    look_at_stack(r, sp);
 }
 
 static void take_step(struct run *r, struct next next) {
