@@ -9,6 +9,7 @@
 
 enum { MOST_THREADS = 63, PIPES = 8, PIPE_ROOM = 256, LONGEST = 4096 };
 enum { NO_RESERVATION = 1 }; /* no address of a word */
+enum { SP = 2, TP = 4 };     /* registers */
 enum { LIVE, EXITED, FAULTED };
 enum { EXIT, SPAWN, WRITE, READ, RANDOM, CLOCK, HANDLER, IRET, REQUEST, SELF, YIELD, HAS_ENDED, MOMENT_LOAD = 16, INPUT_LOAD };
 enum { CONSOLE_CHANNEL = 8, INPUT_CHANNEL = 9 };

@@ -136,14 +136,14 @@ static void look_at_moment(struct run *r, uint64_t stores) {
 /* After a step of the current thread, before which its sp was this. */
 static void look_at_stack(struct run *r, uint32_t sp) {
     const struct thread *t = &r->machine.threads[r->current];
-    if (r->stacks.first_tp != 0 && stack_pointer(t) != sp)
+    if (r->stacks.first_tp != 0 && t->x[SP] != sp)
         r->met = r->met || is_below_stack(&r->stacks, t);
 }
 
 static void do_step(struct run *r, struct next next, bool at_place) {
     struct served served;
     uint64_t stores = r->machine.stores;
-    uint32_t sp = stack_pointer(&r->machine.threads[r->current]);
+    uint32_t sp = r->machine.threads[r->current].x[SP];
     present(r)->steps++;
     if (at_place)
         begin_segment(r->current);

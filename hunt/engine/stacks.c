@@ -2,10 +2,6 @@
 
 #include "machine.h"
 
-enum { SP = 2, TP = 4 };
-
-uint32_t stack_pointer(const struct thread *t) { return t->x[SP]; }
-
 /* A frame may be larger than all that is below a stack, so sp may have gone round. */
 bool is_below_stack(const struct stacks *s, const struct thread *t) {
     uint32_t reach = t->x[TP] == s->first_tp ? s->of_first : s->of_others;

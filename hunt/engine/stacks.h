@@ -12,7 +12,6 @@ struct stacks {
     uint32_t first_tp, of_first, of_others;
 };
 
-uint32_t stack_pointer(const struct thread *t);
 /* Whether its sp is below its stack. */
 bool is_below_stack(const struct stacks *s, const struct thread *t);
 
