@@ -13,6 +13,7 @@ from lib.conditions import BadCondition
 from lib.engine import NoEngine
 from lib.judge import Differs
 from lib.searching import Refused, counted
+from lib.stacks import stack_lines
 from lib.telling import columns
 
 from . import plans
@@ -90,6 +91,7 @@ def bug_text(number, bug, log):
     yield "  %s: %s, %d forced; walked" % (log, counted(least.told.log.count, "commit"), least.measure[0])
     for mark in sorted(least.marks, key=str):
         yield "  a thread is left before %s" % mark_text(least.trace, mark)
+    yield from ("  " + line for line in stack_lines(least.trace))
     yield from ("  " + line for line in ends_text(bug.finds))
 
 

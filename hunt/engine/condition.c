@@ -48,13 +48,15 @@ static bool holds(const struct atom *a, const struct machine *m) {
     }
 }
 
-/* Which atoms may hold: those of an end, these but those of a thread that is stuck, those that last, or those of a moment. */
+static bool is_of_moment(const struct atom *a) { return a->kind == WORD_IS_EVER || a->kind == OVERRUNS; }
+
+/* Which atoms may hold: those of an end, these but those of a thread that is stuck, those that last, or those of words at a moment. */
 enum counted { ALL_COUNT, OTHERS_COUNT, LASTING_COUNT, MOMENTS_COUNT };
 
 static bool counts(const struct atom *a, enum counted counted) {
     switch (counted) {
-    case ALL_COUNT: return a->kind != WORD_IS_EVER;
-    case OTHERS_COUNT: return a->kind != WORD_IS_EVER && a->kind != STUCK;
+    case ALL_COUNT: return !is_of_moment(a);
+    case OTHERS_COUNT: return !is_of_moment(a) && a->kind != STUCK;
     case MOMENTS_COUNT: return a->kind == WORD_IS_EVER;
     default: return a->kind == EXITS || a->kind == FAULTS;
     }

@@ -12,6 +12,7 @@
 
 enum { MOST_THREADS = 63, PIPES = 8, PIPE_ROOM = 256, LONGEST = 4096 };
 enum { NO_RESERVATION = 1 }; /* no address of a word */
+enum { SP = 2, TP = 4 };     /* registers */
 enum { LIVE, EXITED, FAULTED };
 enum { EXIT, SPAWN, WRITE, READ, RANDOM, CLOCK, HANDLER, IRET, REQUEST, SELF, YIELD, HAS_ENDED, MOMENT_LOAD = 16, INPUT_LOAD };
 enum { CONSOLE_CHANNEL = 8, INPUT_CHANNEL = 9 };
@@ -114,8 +115,8 @@ void start_machine(struct machine *m, struct setup *setup);
 void reset_machine(struct machine *m);
 struct next next_of(struct machine *m, const struct thread *t);
 void run_local(struct machine *m, uint32_t number);
-/* So many plain instructions at most, or until the thread is at this pc; how many they were. Plain is what is at no place: local
-   instructions, loads and stores. But one that wasn't taken apart yet isn't counted among them, nor is one with a mark. */
+/* So many plain instructions at most, or until the thread is at this pc, or its sp is another; how many they were. Plain is what is at
+   no place: local instructions, loads and stores. But one that wasn't taken apart yet isn't counted among them, nor is one with a mark. */
 uint64_t run_plain(struct machine *m, uint32_t number, uint64_t most, uint32_t pc);
 void run_access(struct machine *m, uint32_t number, uint32_t address, struct served *load);
 void serve(struct machine *m, uint32_t number, struct next next, struct served *served);

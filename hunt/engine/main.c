@@ -118,6 +118,8 @@ static void take_atom(char *rest) {
     a.bytes = bytes_of(text, &a.length);
     bad.atoms = more_room(bad.atoms, bad.count + 1, sizeof a);
     bad.atoms[bad.count++] = a;
+    if (a.kind == OVERRUNS)
+        memcpy(&run.stacks, a.bytes, a.length < sizeof run.stacks ? a.length : sizeof run.stacks);
     if (a.kind == WORD_IS_EVER) {
         run.watched = &bad;
         run.all_places = true;

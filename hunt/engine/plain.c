@@ -89,10 +89,11 @@ void run_local(struct machine *m, uint32_t number) {
 
 uint64_t run_plain(struct machine *m, uint32_t number, uint64_t most, uint32_t pc) {
     const struct thread *t = &m->threads[number];
+    uint32_t sp = t->x[SP];
     uint64_t count = 0;
     while (count < most && did_plain(m, number)) {
         count++;
-        if (t->pc == pc)
+        if (t->pc == pc || t->x[SP] != sp)
             break;
     }
     m->time += count;

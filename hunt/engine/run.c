@@ -133,9 +133,17 @@ static void look_at_moment(struct run *r, uint64_t stores) {
         r->met = r->met || holds_now(r->watched, &r->machine);
 }
 
+/* After a step of the current thread, before which its sp was this. */
+static void look_at_stack(struct run *r, uint32_t sp) {
+    const struct thread *t = &r->machine.threads[r->current];
+    if (r->stacks.first_tp != 0 && t->x[SP] != sp)
+        r->met = r->met || is_below_stack(&r->stacks, t);
+}
+
 static void do_step(struct run *r, struct next next, bool at_place) {
     struct served served;
     uint64_t stores = r->machine.stores;
+    uint32_t sp = r->machine.threads[r->current].x[SP];
     present(r)->steps++;
     if (at_place)
         begin_segment(r->current);
@@ -148,6 +156,7 @@ static void do_step(struct run *r, struct next next, bool at_place) {
     else
         serve(&r->machine, r->current, next, &served);
     look_at_moment(r, stores);
+    look_at_stack(r, sp);
 }
 
 static void take_step(struct run *r, struct next next) {
@@ -295,6 +304,7 @@ static uint64_t steps_to_look(struct run *r) {
 /* Plain steps of the current thread, some at most; how many they were. What is left is to look how it is. */
 static uint64_t step_plainly(struct run *r, uint64_t most) {
     uint64_t stores = r->machine.stores;
+    uint32_t sp = r->machine.threads[r->current].x[SP];
     if (r->met)
         return 0;
     go_on_in_segment();
@@ -304,6 +314,7 @@ static uint64_t step_plainly(struct run *r, uint64_t most) {
     present(r)->steps += count;
     r->mark_age += count - 1;
     look_at_moment(r, stores);
+    look_at_stack(r, sp);
     return count;
 }
 

@@ -6,6 +6,7 @@
 #include "condition.h"
 #include "loops.h"
 #include "machine.h"
+#include "stacks.h"
 
 enum { CUT = 126, DMA = 127, RAISE = 128, NO_ONE = 255 }; /* actors beside threads; RAISE and a number: that interrupt */
 enum { MOST_RAISES = 64 };
@@ -29,7 +30,8 @@ struct run {
     bool all_places;  /* each access to a shared word is a place */
     bool minds_marks; /* a thread before a marked instruction whose lock is held waits */
     const struct condition *watched; /* words that must never be so are looked at after each store; or NULL */
-    bool met;                        /* they were so, and the run is at its end */
+    struct stacks stacks;            /* likewise, of each thread: it mustn't come below its own; tp 0 if that isn't asked */
+    bool met;                        /* it was so, and the run is at its end */
     struct raise raises[MOST_RAISES];
     uint32_t raise_count;
     uint64_t raised; /* which of them have come, as bits */

@@ -31,7 +31,7 @@ static bool goes_to_end(struct run *r, const struct condition *bad) {
     r->step_limit = UINT64_MAX;
     r->minds_marks = false;
     for (uint32_t turn = 0; turn < LONG && r->machine.time < until; turn++) {
-        if (!some_is_stuck(bad, &r->machine))
+        if (r->met || !some_is_stuck(bad, &r->machine))
             return true;
         begin_turn(r, drawn_thread(r, &state));
         go_steps(r, 1 + drawn(&state) % (1u << drawn(&state) % SHORTEST_POWERS));

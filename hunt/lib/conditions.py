@@ -8,6 +8,7 @@
     console = TEXT           what was put on the console, or != TEXT
     console has TEXT
     ever word WORD = VALUE   at some moment the word has the value; all words of one `ever`, with `and` between, at the same moment
+    overrun                  at some moment a thread's sp is below its stack; alone, and of an image of delorean-cc
 
 Codes and values are decimal or 0x and hexadecimal digits. A word is compared as a signed number if VALUE is negative, and with `< 0`
 and `>= 0`; else as an unsigned one. TEXT is a word of the shell, with \\n and \\xHH in it. An account
@@ -18,8 +19,10 @@ from collections import namedtuple
 import re
 import shlex
 
-KINDS = ("exit", "fault", "hang", "word", "is", "has", "stuck", "ever")
-HANGS = ("hang", "stuck")
+from .layout import SP, TP, is_below_packed, stacks_of
+
+KINDS = ("exit", "fault", "hang", "word", "is", "has", "stuck", "ever", "overrun")
+HANGS, MOMENTS = ("hang", "stuck"), ("ever", "overrun")
 COMPARISONS = ("=", "!=", "<", ">", "<=", ">=")
 SIGNED = len(COMPARISONS) - COMPARISONS.index("<")  # from a comparison to that of signed numbers
 ANY = 255
@@ -103,6 +106,14 @@ def read_atom(words, names):
     raise BadCondition("`%s` is no condition" % " ".join(words))
 
 
+def overrun(names):
+    """The case that a thread's sp is below its stack. The atom's text says where stacks are."""
+    stacks = stacks_of(names)
+    if stacks is None:
+        raise BadCondition("`overrun`: the image doesn't say where its stacks are; those of delorean-cc do, with their symbols")
+    return [Atom("overrun", 0, ANY, 0, 0, stacks.packed())]
+
+
 def split(words, between):
     parts = [[]]
     for word in words:
@@ -114,6 +125,8 @@ def split(words, between):
 
 
 def read_case(words, names):
+    if words == ["overrun"]:
+        return overrun(names)
     atoms = [read_atom(part, names) for part in split(words[words[:1] == ["ever"] :], "and")]
     if words[:1] != ["ever"] or (len(atoms) == 1 and atoms[0].kind in ("exit", "fault")):
         return atoms
@@ -124,7 +137,7 @@ def read_case(words, names):
 
 def is_of_moment(case):
     """Whether it holds at some moment, and not only at an end."""
-    return any(atom.kind == "ever" for atom in case)
+    return any(atom.kind in MOMENTS for atom in case)
 
 
 def read_condition(texts, names):
@@ -145,13 +158,14 @@ class Ended:
     """What an account tells of the end: of each thread its state, the words of memory, and what the console got."""
 
     def __init__(self, account):
-        self.threads, self.rows, self.console, self.state = [], {}, b"", []
+        self.threads, self.registers, self.rows, self.console, self.state = [], [], {}, b"", []
         self.commits, self.is_complete = account.count(b"\nc ") + account.startswith(b"c "), False
         for line in map(bytes.decode, _TOLD.findall(account)):
             words = line.split(" ")
             if words[0] == "t":
                 status, _, code = words[3].partition(":")
                 self.threads.append((status, int(code or 0)))
+                self.registers.append([0] + [int(word, 16) for word in words[6:]])
             elif words[0] == "m":
                 self.rows[int(words[1], 16)] = bytes.fromhex(words[2])
             elif words[:2] == ["o", "8"]:
@@ -165,12 +179,17 @@ class Ended:
         row = self.rows.get(address & ~31, bytes(32))
         return int.from_bytes(row[address & 28 : (address & 28) + 4], "little")
 
+    def is_overrun(self, atom):
+        return any(status == "live" and is_below_packed(atom.text, x[TP], x[SP]) for (status, _), x in zip(self.threads, self.registers))
+
     def holds_of_thread(self, atom, status, code):
         if atom.kind in HANGS:
             return status == "live"
         return status == {"exit": "ended", "fault": "fault"}[atom.kind] and HOLDS[atom.comparison](code, atom.value)
 
     def holds(self, atom):
+        if atom.kind == "overrun":
+            return self.is_overrun(atom)
         if atom.kind in ("word", "ever"):
             return HOLDS[atom.comparison](self.word(atom.address), atom.value)
         if atom.kind == "is":
@@ -183,4 +202,4 @@ class Ended:
     def meets(self, condition, is_end):
         """Whether one of the cases holds. Where the run isn't at an end, exits, faults and moments alone tell anything."""
         return self.is_complete and any(
-            all((is_end or atom.kind in ("exit", "fault", "ever")) and self.holds(atom) for atom in case) for case in condition)
+            all((is_end or atom.kind in ("exit", "fault", *MOMENTS)) and self.holds(atom) for atom in case) for case in condition)

@@ -11,6 +11,8 @@ import time
 from .engine import TO_ITS_END
 from .image import NotAnImage, read_image
 from .judge import switches_of
+from .layout import stacks_of
+from .overrun import LARGEST, overrun_of
 from .reach import reached, words_of
 from .searching import Job, Refused
 from .shrinking import Shrinker
@@ -26,20 +28,21 @@ NUMBER_OF_CLOCK, CALL, DEVICES = 0x00500893, 0x00000073, 0xF0000037  # li a7, 5;
 NEAR, FAR = 8, 64  # instructions up to the call, and up to the load
 
 # image: the path. memory: bytes. threads: how many there may be in all. has_library: whether delorean-cc has linked it. has_clock:
-# whether it has code that reads a clock.
-Program = namedtuple("Program", "image memory threads has_library has_clock", defaults=(False,))
+# whether it has code that reads a clock. stacks: where they are, or None if the image doesn't say so.
+Program = namedtuple("Program", "image memory threads has_library has_clock stacks", defaults=(False, None))
 # switches: at most so many forced ones, or None. seconds: of the search. bad: further conditions. input: a file, or None. strategy: by
 # which orders are drawn, with its depth and tries, or None.
 Limits = namedtuple("Limits", "switches seconds shrink_seconds bad input seed steps tick strategy depth tries",
                     defaults=(TICK, None, 3, MOST_RUNS))
 # status: below. search: as the engine has it, a Search or Drawn. run: a Run, or None. seconds: that the search took. condition: what a
-# failure is. tick: what a clock went on by when it was read; None if the program has none.
-Finding = namedtuple("Finding", "status search run seconds condition tick", defaults=(None,))
+# failure is. tick: what a clock went on by when it was read; None if the program has none. overrun: of a thread that has run over its
+# stack, an Overrun; else None.
+Finding = namedtuple("Finding", "status search run seconds condition tick overrun", defaults=(None, None))
 # log: bytes, that the proved walk has judged. ended: what the walk's account tells. forced: how many forced switches. left: of each
 # turn of a thread, the next one's apart, whether it was left by a forced switch. leaf: as in engine.Told.
 Run = namedtuple("Run", "log ended forced left leaf commits switches")
 
-FOUND, CLEAR, LIMIT, STOPPED = "found", "clear", "limit", "stopped"
+FOUND, CLEAR, LIMIT, STOPPED, OVERRUN = "found", "clear", "limit", "stopped", "overrun"
 
 
 # ---------------------------------------------------------------- programs
@@ -72,7 +75,8 @@ def read_program(path, memory=None):
     names = Names(image)
     if memory is None:
         memory = memory_of(names, path)
-    return Program(str(path), memory, most_threads(image, names), names.has("__library_code"), reads_clock(image, names))
+    return Program(str(path), memory, most_threads(image, names), names.has("__library_code"), reads_clock(image, names),
+                   stacks_of(names))
 
 
 def most_threads(image, names):
@@ -105,9 +109,10 @@ def memory_of(names, path):
 
 def conditions(program, limits):
     """What a failure is. With the library only thread 0 lasts as long as its program, so others may be left waiting, and any
-    thread may end the program with a code. Without it, codes of other threads are their own."""
+    thread may end the program with a code. Without it, codes of other threads are their own. What comes after a stack was run over
+    means nothing, so such a run is at its end there."""
     own = ["exit any != 0", "stuck 0"] if program.has_library else ["exit 0 != 0", "stuck"]
-    return [*own, "fault", *limits.bad]
+    return [*own, "fault", *(["overrun"] if program.stacks else []), *limits.bad]
 
 
 def job_of(program, limits):
@@ -161,4 +166,6 @@ def find(program, limits, tell=lambda bound: None):
     if result.told is None:
         return Finding(status_of(result), result, None, searched, conditions(program, limits), tick)
     run = judged(job, result.told, limits.shrink_seconds)
-    return Finding(FOUND, result, run, searched, conditions(program, limits), tick)
+    over = overrun_of(program, run) if job.is_overrun(run.ended) else None
+    status = OVERRUN if over and program.stacks.others < LARGEST else FOUND
+    return Finding(status, result, run, searched, conditions(program, limits), tick, over)

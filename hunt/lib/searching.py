@@ -4,11 +4,12 @@ from pathlib import Path
 import re
 
 from .account import NotWalked
-from .conditions import BadCondition, read_condition
+from .conditions import BadCondition, overrun, read_condition
 from .engine import DMA as DMA_TURN
 from .engine import Engine, Options
 from .image import NotAnImage, read_image
 from .judge import Differs, Judge, switches_of
+from .layout import stacks_of
 from .manners import NoOutput, try_output
 from .symbols import Names, NoWord
 from .why import explained
@@ -20,6 +21,7 @@ CONDITIONS = """\
   stuck [THREAD]            it never ends, in whatever order: no thread goes on, or those that do go round without an end
   word WORD = VALUE         at the end the word has the value; WORD is a symbol or an address, with +OFFSET or without
   ever word WORD = VALUE    the same at some moment, for example ever word count < 0, or ever word a = 1 and word b = 1
+  overrun                   at some moment a thread has run over its stack; of an image of sdk/cc, and counted in any search of one
   console = TEXT            what was put on the console; or !=
   console has TEXT          TEXT is a word of the shell, with \\n and \\xHH in it
 Several of them may be joined by `and`; of several --bad one is enough."""
@@ -67,9 +69,11 @@ def read_raise(text):
 
 
 class Job:
-    """Image, condition and options of the words that were given."""
+    """Image, condition and options of the words that were given. overrun: the case that a stack is run over, or None if the image doesn't
+    say where its stacks are."""
 
-    def __init__(self, given):
+    def __init__(self, given, minds_stacks=False):
+        """minds_stacks: the condition has this case too."""
         self.given = given
         try:
             try_output(given.out)
@@ -86,9 +90,13 @@ class Job:
         except NotAnImage as error:
             raise Refused("refused image 0 %d" % error.args) from None
         try:
-            self.condition = read_condition(given.bad or [], Names(self.image))
+            names = Names(self.image)
+            self.condition = read_condition(given.bad or [], names)
         except NoWord as error:
             raise BadCondition("%s: %s" % error.args) from None
+        self.overrun = overrun(names) if stacks_of(names) else None
+        if minds_stacks and self.overrun:
+            self.condition.append(self.overrun)
         raises = tuple(map(read_raise, getattr(given, "raises", ())))
         self.options = Options(given.seed, given.input, given.tick, given.turn, given.steps, raises, given.log_version,
                                getattr(given, "log_threads", None), getattr(given, "all_places", False))
@@ -101,8 +109,12 @@ class Job:
         """The limit of steps is met so much later."""
         self.options = self.options._replace(steps=self.given.steps + steps)
 
+    def is_overrun(self, ended):
+        """Whether an Ended is of a moment at which a thread's sp is below its stack."""
+        return self.overrun is not None and ended.meets([self.overrun], False)
+
     def write(self, told):
-        """Has the run judged, writes its log, and says what it is."""
+        """Has the run judged, writes its log, and says what it is. The Ended of its walk."""
         try:
             verdict = self.judge.judged(told)
         except NotWalked as error:
@@ -114,6 +126,7 @@ class Job:
         is_hang = told.leaf in ("waits", "repeats")
         why = explained(self.given.image, self.given.memory, verdict.log, is_hang)
         print("\n".join([*self.summary(told, verdict), *why]))
+        return verdict.ended
 
     def summary(self, told, verdict):
         log = told.log

@@ -1,16 +1,17 @@
 """Stacks that were run over: `overruns(trace)`, and `stack_lines(trace)` in words.
 
-A stack pointer is followed through the instructions that add to it. It mustn't come below the beginning of the symbol that the stack
-is in, below the end of a symbol that is lower, or below where the stack of another thread ends that is lower.
+In an image of delorean-cc stacks have known ends. In any other one a stack pointer is followed through the instructions that add to
+it. It mustn't come below the beginning of the symbol that the stack is in, below the end of a symbol that is lower, or below where
+the stack of another thread ends that is lower.
 """
 
 from collections import namedtuple
 
 from .isa import extend
+from .layout import SP, TP, is_below, stacks_of
 from .logs import DMA
 from .telling import place
-
-SP = 2
+from .trace import Moment
 
 # A thread's stack pointer is below its stack, from this step on. begin: the stack's own first address. whose: the thread whose stack
 # is there, or None. lowest: the lowest that the stack pointer came to.
@@ -29,9 +30,9 @@ def _sets(word):
     return word >> 7 & 31 == SP and word & 0x7F not in _NO_REGISTER
 
 
-def _pointers(trace, commit):
-    """(step, sp) at the beginning of a chunk, and after each addition to it. After another instruction that sets it, it isn't known
-    for the rest of the chunk."""
+def _pointers(trace, commit, moment):
+    """(step, sp) at the beginning of a chunk, and after each addition to it. After another instruction that sets it, a Moment tells it;
+    without one it isn't known for the rest of the chunk."""
     sp = commit.before.x[SP]
     yield commit.first, sp
     for step in range(commit.first, commit.last):
@@ -39,8 +40,13 @@ def _pointers(trace, commit):
         if _is_addition(word):
             sp = sp + extend(word >> 20, 12) & 0xFFFFFFFF
             yield step, sp
-        elif _sets(word):
+        elif _sets(word) and moment is None:
             return
+        elif _sets(word):
+            moment.seek(commit.first)
+            moment.advance(step + 1)
+            sp = moment.machine.threads[commit.actor].x[SP]
+            yield step, sp
 
 
 def _tops(trace):
@@ -64,16 +70,35 @@ def _begin(trace, tops, k):
     return (begin, whose) if begin >= by_symbol else (by_symbol, whose)
 
 
+def _known_tops(trace, stacks):
+    tops = _tops(trace)
+    for commit in trace.commits:
+        if commit.actor != DMA and commit.before.x[TP]:
+            tops[commit.actor] = commit.before.x[TP] - stacks.block
+    return {0: stacks.first_tp - stacks.block} | tops
+
+
+def _known_begins(trace, stacks):
+    tops = _known_tops(trace, stacks)
+    return {k: (stacks.begin(top + stacks.block), _begin(trace, tops, k)[1]) for k, top in tops.items()}
+
+
+def _begins(trace):
+    tops = _tops(trace)
+    return {k: _begin(trace, tops, k) for k in tops}
+
+
 def overruns(trace):
     """An Overrun for each thread whose stack was run over, in the order of the threads."""
-    tops, found = _tops(trace), {}
-    begins = {k: _begin(trace, tops, k) for k in tops}
+    stacks, found = stacks_of(trace.names), {}
+    begins = _known_begins(trace, stacks) if stacks else _begins(trace)
+    moment = Moment(trace) if stacks else None
     for commit in trace.commits:
         k = commit.actor
         if k == DMA or commit.served or k not in begins:
             continue
-        for step, sp in _pointers(trace, commit):
-            if 0 < sp < begins[k][0]:
+        for step, sp in _pointers(trace, commit, moment):
+            if sp and (is_below(begins[k][0], sp) if stacks else sp < begins[k][0]):
                 first = found.get(k)
                 found[k] = first._replace(lowest=min(first.lowest, sp)) if first else Overrun(k, step, *begins[k], sp)
     return [found[k] for k in sorted(found)]

@@ -75,7 +75,7 @@ class Driver(Case):
 
     def test_a_frame_larger_than_a_stack(self):
         source = self.written("int f(char *); int main(void) { char local[3000]; return f(local); } int f(char *p) { return *p; }")
-        self.assertIn("larger than 2048 bytes", compiled(self.at, source).text)
+        self.assertIn("larger than 1936 bytes", compiled(self.at, source).text)
         self.assertNotIn("warning", compiled(self.at, source, "--stack", 4096).text)
 
     REFUSED = [
