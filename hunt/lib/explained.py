@@ -7,8 +7,9 @@ import tempfile
 from .chains import places
 from .found import LOG, PICTURE, PLAN, plan_text
 from .grounds import grounds, signals
+from .naming import block_name
 from .notes import notes_of
-from .story import PAST, Story, block_name, thread_name
+from .story import PAST, Story, thread_name
 from .storylines import lines
 from .switches import Crossing, Printing
 from .trace import open_trace

@@ -5,6 +5,7 @@ from collections import namedtuple
 
 from . import isa
 from .chains import places
+from .naming import naming_of
 from .notes import KINDS, LOCKS, notes_of
 from .story import thread_name
 from .telling import values
@@ -49,7 +50,7 @@ def _name(story, number):
 
 def _of_failed(trace, story, number):
     """Its last loads of variables and of the heap that others had stored to, each word once; the line at which it fails comes first."""
-    where = places(trace, story.own, number)
+    where, naming = places(trace, story.own, number), story.naming
     loads = _last_loads(trace, story, number)
     there = [pair for pair in loads if trace.names.place(pair[1].pc) in where]
     if not loads:
@@ -57,17 +58,10 @@ def _of_failed(trace, story, number):
     for commit, a in sorted((there or loads)[:MOST_WORDS], key=lambda pair: pair[1].step):
         last = _stored(trace, a)
         who = "as it was %s" % trace.begun() if last is None else "which %s has stored (commit %d, %s)" % (
-            "it" if last[0].actor == number else context_name(trace.context(last[0])), last[0].told, _place(trace, story, last))
+            "it" if last[0].actor == number else context_name(trace.context(last[0])), last[0].told, naming.place_of(last[1]))
         steps = {a.step} | ({last[1].step} if last else set())
         yield Ground("%s fails with what it finds: %s = %s (commit %d, %s), %s" % (
-            _name(story, number), story.word(a.addr, a.width), values(a).rpartition(" over ")[2], commit.told, trace.names.place(a.pc), who), steps)
-
-
-def _place(trace, story, pair):
-    """Where in the program's own code an access comes from."""
-    commit, a = pair
-    call = next((c for c in story.calls if c.who == trace.context(commit) and c.first <= a.step < c.last), None)
-    return trace.names.place(call.at if call and not story.own.is_code(a.pc) else a.pc)
+            _name(story, number), naming.word_of(a), values(a).rpartition(" over ")[2], commit.told, naming.place_of(a), who), steps)
 
 
 def _last_loads(trace, story, number):
@@ -96,7 +90,7 @@ def _stored(trace, load):
 def _waits(trace, story, note):
     """For example `thread 1 (take) waits for condition is_full (take, queue.c:12)`."""
     kind, what = note.waits.kind, note.waits.object
-    name = "thread %d" % what if KINDS.index(kind) == JOIN else trace.names.name(what)
+    name = "thread %d" % what if KINDS.index(kind) == JOIN else naming_of(trace).word(what, 4, trace.steps)
     return "%s waits for %s %s (%s)" % (thread_name(note.thread, note.function), kind, name, trace.names.place(note.waits.at))
 
 

@@ -4,6 +4,7 @@ its own block which locks it holds, what it waits for, and where in the program 
 from collections import namedtuple
 
 from .chains import chain_text, places
+from .naming import naming_of
 
 # thread: the kernel's number. function: what it began with, or None. waits: a Wait, or None. holds: of Held, in order.
 Note = namedtuple("Note", "thread function waits holds")
@@ -67,7 +68,7 @@ def notes_of(trace, is_live=True):
 
 
 def object_name(trace, wait):
-    return "thread %d" % wait.object if wait.kind == KINDS[JOIN] else trace.names.name(wait.object)
+    return "thread %d" % wait.object if wait.kind == KINDS[JOIN] else naming_of(trace).word(wait.object, 4, trace.steps)
 
 
 def left_held(trace, wait):
@@ -87,7 +88,7 @@ def note_line(trace, own, note):
         where = places(trace, own, note.thread) or [trace.names.place(note.waits.at)]
         parts.append("waits for %s %s, %s" % (note.waits.kind, object_name(trace, note.waits), chain_text(where)))
         parts += filter(None, [left_held(trace, note.waits)])
-    parts += ["holds %s since %s" % (trace.names.name(held.object), trace.names.place(held.at)) for held in note.holds]
+    parts += ["holds %s since %s" % (naming_of(trace).word(held.object, 4, trace.steps), trace.names.place(held.at)) for held in note.holds]
     who = "thread %d%s" % (note.thread, " (%s)" % note.function if note.function else "")
     return "%s %s" % (who, "; ".join(parts) or "neither waits nor holds a lock")
 

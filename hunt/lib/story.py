@@ -8,9 +8,9 @@ from collections import namedtuple
 
 from . import isa
 from .answered import answer_name
-from .calls import GIVING, TAKING_BACK, Heap, calls_of
+from .calls import GIVING, TAKING_BACK, Heap
 from .machine import CONSOLE_CHANNEL, NO_PC
-from .own import Own
+from .naming import block_name, naming_of
 from .telling import values, verb
 from .trace import context_name
 
@@ -44,24 +44,12 @@ def thread_name(number, function):
     return "thread %d%s" % (number, " (%s)" % function if function else "")
 
 
-def block_name(names, block):
-    """For example `block of list.c:30`, or `block 2 of ..`."""
-    number = " %d" % block.count if block.count > 1 else ""
-    return "block%s of %s" % (number, names.line(block.where) or names.place(block.where))
-
-
-def word_in_block(names, block, addr):
-    """For example `block of list.c:30+4`, or `freed block of ..`."""
-    away = "+%d" % (addr - block.addr) if addr != block.addr else ""
-    return "%s%s%s" % ("freed " if block.freed is not None else "", block_name(names, block), away)
-
-
 class Story:
     """`left`: of each turn but the last one, whether it is left by force, if that is known."""
 
     def __init__(self, trace, left=()):
-        self.trace, self.names, self.own = trace, trace.names, Own(trace.image, trace.names)
-        self.calls = calls_of(trace, self.own)
+        self.trace, self.names, self.naming = trace, trace.names, naming_of(trace)
+        self.own, self.calls = self.naming.own, self.naming.calls
         self.begins = {call.first: call for call in self.calls}
         self.ends = {}
         for call in self.calls:
@@ -237,14 +225,8 @@ class Story:
         return self.heap.block(addr) if self.own.is_heap(addr) else None
 
     def word(self, addr, width=4):
-        block = self.block(addr)
-        if block:
-            return word_in_block(self.names, block, addr)
-        past = self.heap.before(addr) if self.own.is_heap(addr) else None
-        if past:
-            return "past the end of " + block_name(self.names, past)
-        name = self.names.name(addr, width)
-        return "a stack, %08X" % addr if self.own.has_library and self.own.is_stack(addr) else name
+        """What so many bytes are as far as the story is told by now."""
+        return self.naming.word_in(self.heap, addr, width)
 
     def place_of(self, pc):
         return self.names.place(pc)

@@ -1,0 +1,100 @@
+"""hunt/find names words and places of small programs as their authors know them. What is expected is read off the sources."""
+
+import re
+import unittest
+
+import support
+from test_find import CAN_BUILD, HAS_LINES, NO_CROSS_COMPILER, InScratch, find
+
+CAN_COMPILE = HAS_LINES and support.tool("riscv64-unknown-elf-gcc") and CAN_BUILD and support.can_walk()
+
+FREED_LATER = """\
+#include <pthread.h>
+#include <stdlib.h>
+static int *given;
+static void *gives(void *unused) { *given = 3; return unused; }
+int main(void) {
+    pthread_t thread;
+    given = calloc(1, 4);
+    pthread_create(&thread, NULL, gives, NULL);
+    pthread_join(thread, NULL);
+    int found = *given;
+    free(given);
+    return found;
+}
+"""
+
+LOCK_IN_A_BLOCK = """\
+#include <pthread.h>
+#include <stdlib.h>
+struct stock { int count; pthread_mutex_t lock; };
+int main(void) {
+    struct stock *stock = calloc(1, sizeof *stock);
+    pthread_mutex_init(&stock->lock, NULL);
+    pthread_mutex_lock(&stock->lock);
+    pthread_mutex_lock(&stock->lock);
+}
+"""
+
+SORTED = """\
+#include <stdlib.h>
+static int prices[2] = {2, 1};
+static int compare(const void *a, const void *b) { return *(const int *)a - *(const int *)b; }
+int main(void) {
+    qsort(prices, 2, sizeof prices[0], compare);
+    return prices[0];
+}
+"""
+
+DROPPED = """\
+#include <pthread.h>
+#include <stdlib.h>
+static volatile int is_over, is_wrong;
+static int *block;
+static void *drops(void *unused) {
+    if (!is_over) {
+        free(block);
+        is_wrong = is_over;
+    }
+    return unused;
+}
+int main(void) {
+    pthread_t thread;
+    block = malloc(4);
+    pthread_create(&thread, NULL, drops, NULL);
+    is_over = 1;
+    pthread_join(thread, NULL);
+    return is_wrong;
+}
+"""
+
+
+@unittest.skipUnless(CAN_COMPILE, NO_CROSS_COMPILER)
+class Named(InScratch):
+    def said(self, text, *words):
+        path = self.out.parent / "prog.c"
+        path.write_text(text)
+        status, said, errors = find(path, "--out", self.out, *words)
+        self.assertEqual(status, 1, said + errors)
+        return said
+
+    def test_a_block_that_was_freed_only_later(self):
+        self.assertRegex(self.said(FREED_LATER), r"thread 0 \(main\) fails with what it finds: block of prog.c:7 = 00000003 \(commit \d+, main, "
+                                                 r"prog.c:10\), which thread 1 has stored \(commit \d+, gives, prog.c:4\)\n")
+
+    def test_a_lock_in_a_block(self):
+        self.assertIn("  thread 0 (main) waits for mutex block of prog.c:5+4, main, prog.c:8; holds block of prog.c:5+4 since main, prog.c:7\n"
+                      "  thread 0 waits for itself\n", self.said(LOCK_IN_A_BLOCK))
+
+    def test_what_the_library_stored_between_two_calls_of_the_program(self):
+        self.assertRegex(self.said(SORTED), r"finds: prices\[0\] = 00000001 \(commit \d+, main, prog.c:[67]\), which it has stored \(commit \d+, "
+                                            r"qsort, called from main, prog.c:5\)\n")
+
+    def test_what_is_freed(self):
+        why = self.said(DROPPED).partition("\nwhy:\n")[2]
+        self.assertRegex(why, r"(?m)^  thread 1 is left with is_over = 00000000 \(commit \d+, drops, prog.c:6\); thread 0 stores 00000001 \(commit \d+, main, "
+                              r"prog.c:16\),\n      and thread 1 doesn't check again: it frees block of prog.c:14 \(commit \d+, drops, prog.c:7\)\n")
+
+
+if __name__ == "__main__":
+    unittest.main()
