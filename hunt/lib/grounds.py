@@ -127,6 +127,6 @@ def _holder(trace, lock):
         for note in notes_of(trace, is_live):
             for held in note.holds:
                 if held.object == lock:
-                    return "which thread %d%s since %s" % (
-                        note.thread, " holds" if is_live else " has ended with, and holds", trace.names.place(held.at))
+                    return "which thread %d %s%s since %s" % (
+                        note.thread, "" if is_live else "has ended with, and ", held.verb, trace.names.place(held.at))
     return None

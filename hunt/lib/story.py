@@ -106,8 +106,15 @@ class Story:
             self.around[step], self.within[who] = self.within.get(who), self.begins[step]
             self._look_at_free(self.begins[step])
 
+    def _is_asked(self, who):
+        """Whether the program asks whether a thread has ended, and not its library, as it does at the end of all."""
+        call = self.within.get(who)
+        return not self.own.has_library or call is not None and "join" in call.name
+
     def _answered(self, call):
-        """What a wait until a time answered, or a lock that was only tried."""
+        """What a wait until a time answered, a lock that was only tried, or a join that has failed; and who was detached."""
+        if call.name == "pthread_detach" and call.result == 0:
+            yield Row("detaches", "thread %d" % self.trace.value_before(call.arguments[0], call.first), "", self.place_of(call.at), rank=SHARED)
         answer = answer_name(call)
         if answer:
             yield Row("answers", "%s: %s" % (call.name, answer), "", self.place_of(call.at), rank=KEY)
@@ -212,7 +219,7 @@ class Story:
             yield Row("ends", "with %d" % served.arguments[0], "", "" if served.arguments[0] == 0 else place)
         elif served.name in ("fault", "break"):
             yield Row("faults", CAUSES.get(served.result, "cause %d" % served.result), "", place)
-        elif served.name == "ended" and served.result == 1:
+        elif served.name == "ended" and served.result == 1 and self._is_asked(who):
             yield Row("joins", "thread %d" % served.arguments[0], "", place, rank=SHARED)
         elif served.name == "clock":
             yield Row("reads", CLOCK, "%08X" % served.result, place, rank=SHARED)

@@ -68,6 +68,33 @@ int main(void) {
 }
 """
 
+ONCE = """\
+#include <pthread.h>
+static pthread_once_t once = PTHREAD_ONCE_INIT;
+static void load(void);
+static void *helper(void *unused) { pthread_once(&once, load); return unused; }
+static void load(void) {
+    pthread_t thread;
+    pthread_create(&thread, NULL, helper, NULL);
+    pthread_join(thread, NULL);
+}
+int main(void) {
+    return pthread_once(&once, load);
+}
+"""
+
+DETACHED = """\
+#include <pthread.h>
+static void *works(void *unused) { return unused; }
+int main(void) {
+    pthread_t thread, other;
+    pthread_create(&thread, NULL, works, NULL);
+    pthread_create(&other, NULL, works, NULL);
+    pthread_detach(thread);
+    return pthread_join(thread, NULL) != 0;
+}
+"""
+
 
 @unittest.skipUnless(CAN_COMPILE, NO_CROSS_COMPILER)
 class Named(InScratch):
@@ -94,6 +121,19 @@ class Named(InScratch):
         why = self.said(DROPPED).partition("\nwhy:\n")[2]
         self.assertRegex(why, r"(?m)^  thread 1 is left with is_over = 00000000 \(commit \d+, drops, prog.c:6\); thread 0 stores 00000001 \(commit \d+, main, "
                               r"prog.c:16\),\n      and thread 1 doesn't check again: it frees block of prog.c:14 \(commit \d+, drops, prog.c:7\)\n")
+
+    def test_who_is_in_a_once(self):
+        said = self.said(ONCE)
+        for line in ("thread 0 (main) waits for the end of thread 1, load, prog.c:8, called from main, prog.c:11; is in once since main, prog.c:11",
+                     "thread 1 (helper) waits for once once, helper, prog.c:4", "so thread 0 waits for thread 1, thread 1 waits for thread 0",
+                     "thread 1 (helper) waits for once once (helper, prog.c:4), which thread 0 is in since main, prog.c:11"):
+            self.assertIn("  %s\n" % line, said)
+
+    def test_a_thread_that_was_detached_is_not_joined(self):
+        order = self.said(DETACHED).partition("\nthe order:\n")[2]
+        self.assertNotIn("joins", order)
+        self.assertRegex(order, r"\n +detaches +thread 1 +main, prog.c:7\n")
+        self.assertRegex(order, r"\n +answers +pthread_join: EINVAL +main, prog.c:8\n")
 
 
 if __name__ == "__main__":
