@@ -96,6 +96,6 @@ def explained(program, finding, folder):
         file.flush()
         trace = open_trace(program.image, program.memory, file.name)
     story, image = Story(trace, finding.run.left), Path(program.image).name
-    files = {LOG: finding.run.log, PICTURE: picture_of(trace, image), PLAN: plan_text(image, program.memory)}
+    files = {LOG: finding.run.log, PICTURE: picture_of(trace, image), PLAN: plan_text(image, program.memory, folder)}
     why, steps = why_told(trace, story, told_switches(trace, story), is_hang(finding.run))
     return Told(broken_lines(story), why, hang_told(trace, finding.run), list(lines(story, steps)), list(states(trace, story)), console_of(trace), files, folder)

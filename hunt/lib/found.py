@@ -4,8 +4,10 @@ has files and isn't known is left as it is."""
 import json
 import os
 from pathlib import Path
+import shlex
 import shutil
 
+from .account import program
 from .searching import Refused
 
 MARK = '{"written by": "delorean-find"'
@@ -13,7 +15,7 @@ LOG, PICTURE, PLAN, RESULT = "found.log", "found.html", "replay.toml", "found.js
 REPLAYED = ("replayed.account", "replayed.report")
 
 _PLAN = """\
-# Written by delorean-find: replays the order that it has found. In this folder: delorean run replay.toml
+# Written by delorean-find: replays the order that it has found. In this folder: %s run replay.toml
 cores = %d
 chunk = 32
 buffer = 16
@@ -30,9 +32,18 @@ account = "replayed.account"
 """
 
 
-def plan_text(image, memory, cores=4):
+def plan_text(image, memory, folder, cores=4):
     """A plan that replays the log, given the image's name in the folder."""
-    return _PLAN % (cores, image, memory)
+    return _PLAN % (command_in(folder), cores, image, memory)
+
+
+def command_in(folder):
+    """What calls the proved program in a folder: its name if that is installed, else the path by which it was called here."""
+    first, *more = program()
+    if shutil.which("delorean") or "/" not in first:
+        return "delorean" if shutil.which("delorean") else shlex.join([first, *more])
+    path, here = os.path.realpath(first), os.path.realpath(folder)
+    return shlex.join([path if os.path.commonpath([path, here]) == "/" else os.path.relpath(path, here), *more])
 
 
 class Folder:

@@ -8,7 +8,7 @@ from .chains import chain_text
 from .chances import what_was_tried
 from .engine import Drawn
 from .finding import CLEAR, FOUND
-from .found import LOG, PICTURE, PLAN, REPLAYED
+from .found import LOG, PICTURE, PLAN, REPLAYED, command_in
 from .searching import counted
 from .story import CAUSES, thread_name
 
@@ -117,7 +117,7 @@ def found_text(program, finding, told):
     yield ""
     yield "written to %s: %s (%s, %s; walked), %s, %s" % (
         told.folder, LOG, counted(run.commits, "commit"), counted(run.switches, "switch"), PICTURE, PLAN)
-    yield "to replay it: cd %s && delorean run %s" % (shlex.quote(str(told.folder)), PLAN)
+    yield "to replay it: cd %s && %s run %s" % (shlex.quote(str(told.folder)), command_in(told.folder), PLAN)
     yield from ("  " + line for line in shown_by_replay(run, told))
 
 

@@ -18,6 +18,7 @@ from unittest import mock
 import support
 from lib.account import program
 from lib.finding import read_program
+from lib.found import command_in
 from lib.folded import MOST_ROWS, folded
 from lib.hangs import waits
 from lib.logs import write_log
@@ -131,6 +132,20 @@ class Found(InScratch):
             command, states = re.search(r"^  (grep .*) shows how the threads ended: (.*)$", said, re.M).groups()
             shown = subprocess.run(command, shell=True, cwd=self.out, check=True, capture_output=True, text=True).stdout
             self.assertEqual(", ".join("`%s`" % row for row in shown.splitlines()), states)
+
+    def test_the_command_that_replays(self):
+        """As it is printed, and on the plan's first line, if `delorean` isn't installed."""
+        with mock.patch.dict(os.environ, PATH="/usr/bin:/bin"):
+            _, said, _ = self.found("account.elf")
+            command = re.search(r"^to replay it: (.*)$", said, re.M)[1]
+            printed = subprocess.run(command, shell=True, check=True, capture_output=True, text=True).stdout
+        self.assertRegex(printed, r"(?m)^s 0 complete \d+$")
+        self.assertIn("In this folder: %s\n" % command.partition(" && ")[2], (self.out / "replay.toml").read_text())
+
+    def test_the_command_is_short(self):
+        with mock.patch.dict(os.environ, PATH="/usr/bin:/bin", DELOREAN="/home/me/delorean/bin/delorean"):
+            self.assertEqual(command_in("/home/me/work/prog.found"), "../../delorean/bin/delorean")
+            self.assertEqual(command_in("/tmp/prog.found"), "/home/me/delorean/bin/delorean")
 
     def test_json(self):
         status, said, _ = self.found("deadlock.elf", "--json")
