@@ -67,6 +67,17 @@ class Folder:
         except OSError:
             return False
 
+    def has_find(self):
+        """Whether what an earlier find has found is there."""
+        return self.is_known() and (self.path / LOG).is_file()
+
+    def is_past(self, image, asked, switches):
+        """Whether what is there is past, now that no order of the image fails with at most so many forced switches, or None: the same was
+        asked of the program before it was changed."""
+        earlier, name = json.loads((self.path / RESULT).read_text()), self.path / Path(image).name
+        is_changed = name.is_file() and name.read_bytes() != Path(image).read_bytes()
+        return is_changed and earlier.get("asked") == asked and (switches is None or switches >= earlier["found"]["forced"])
+
     def clear(self):
         """Takes away what an earlier find has left, and the folder if that was all. Else it stays known."""
         if not self.is_known():
