@@ -134,7 +134,12 @@ def found_lines(trace, told):
     return lines + (["%d more like these" % (len(groups) - MOST_TOLD)] if len(groups) > MOST_TOLD else [])
 
 
-def steps_of(found):
+def told_steps(told):
+    """The steps of those that are in words, and not only counted."""
+    return {step for group in _folded(told)[:MOST_TOLD] for step in _steps(group[0][1])}
+
+
+def _steps(found):
     """The steps of what was found, in its trace."""
     if isinstance(found, Printing):
         return {commit.first for commit in found if commit}

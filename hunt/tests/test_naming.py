@@ -95,6 +95,34 @@ int main(void) {
 }
 """
 
+ROUNDS = """\
+#include <pthread.h>
+#include <semaphore.h>
+static sem_t asked, given;
+static int turn;
+static void *gives(void *unused) {
+    for (int j = 0; j < 40; j++) {
+        sem_wait(&asked);
+        turn++;
+        sem_post(&given);
+    }
+    return unused;
+}
+int main(void) {
+    pthread_t thread;
+    sem_init(&asked, 0, 0);
+    sem_init(&given, 0, 0);
+    pthread_create(&thread, NULL, gives, NULL);
+    for (int j = 0; j < 40; j++) {
+        int old = turn;
+        sem_post(&asked);
+        sem_wait(&given);
+        turn = old;
+    }
+    return turn == 0;
+}
+"""
+
 
 @unittest.skipUnless(CAN_COMPILE, NO_CROSS_COMPILER)
 class Named(InScratch):
@@ -134,6 +162,13 @@ class Named(InScratch):
         self.assertNotIn("joins", order)
         self.assertRegex(order, r"\n +detaches +thread 1 +main, prog.c:7\n")
         self.assertRegex(order, r"\n +answers +pthread_join: EINVAL +main, prog.c:8\n")
+
+    def test_only_what_is_told_of_a_story_that_repeats_is_always_shown(self):
+        """Of 80 turns no more than 24, and those of the one round that is told."""
+        why, order = self.said(ROUNDS).partition("\nwhy:\n")[2].split("\nthe order:\n")
+        self.assertIn(", and 39 times more", why)
+        self.assertLessEqual(len(re.findall(r"(?m)^  thread ", order)), 26)
+        self.assertRegex(order, r"\n  \.\. 5\d more turns\n")
 
 
 if __name__ == "__main__":
