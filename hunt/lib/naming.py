@@ -10,11 +10,25 @@ from .machine import NO_PC
 from .own import Own
 from .trace import Moment
 
+SP = 2  # a register
+GONE = "a stack that is gone"
+
 
 def naming_of(trace):
     if trace.naming is None:
         trace.naming = Naming(trace)
     return trace.naming
+
+
+def stack_owner(trace, addr):
+    """The thread of a program of delorean-cc in whose stack an address is, or None."""
+    if not trace.names.has("__numbers"):
+        return None
+    words, numbers, first = trace.machine.words, trace.names.value("__numbers") >> 2, trace.names.value("__threads")
+    room, stack = words[numbers + 1], words[numbers + 2]
+    slot, away = divmod(addr - first, room)
+    number = words[(first + slot * room + stack) >> 2] if away < stack else None
+    return number if slot == 0 or number else None
 
 
 def block_name(names, block):
@@ -67,9 +81,9 @@ class Naming:
 
     def word(self, addr, width, step):
         """What so many bytes are at a step."""
-        return self.word_in(self.heaps.at(step) if self.own.is_heap(addr) else None, addr, width)
+        return self.word_in(self.heaps.at(step) if self.own.is_heap(addr) else None, addr, width, step)
 
-    def word_in(self, heap, addr, width=4):
+    def word_in(self, heap, addr, width, step):
         """The same, given the heap as it is then."""
         if heap is not None and self.own.is_heap(addr):
             block, past, head = heap.block(addr), heap.before(addr), heap.block(addr + HEAD)
@@ -79,8 +93,19 @@ class Naming:
                 return "past the end of " + block_name(self.names, past)
             if head:
                 return "before " + block_name(self.names, head)
-        name = self.names.name(addr, width)
-        return "a stack, %08X" % addr if self.own.has_library and self.own.is_stack(addr) else name
+        if not self.own.has_library or not self.own.is_stack(addr):
+            return self.names.name(addr, width)
+        owner = self._gone_of(addr, step)
+        return "a stack, %08X" % addr if owner is None else GONE + ", of thread %d" % owner
+
+    def _gone_of(self, addr, step):
+        """The thread in whose stack a word is, if it has ended or its sp is above the word, and another thread acts; else None."""
+        commit = None if step >= self.trace.steps else self.trace.commit_of(step)
+        owner = stack_owner(self.trace, addr)
+        if owner is None or commit and commit.actor == owner:
+            return None
+        thread = self.trace.thread_at(owner, commit.number if commit else len(self.trace.commits))
+        return owner if thread is not None and (thread.status[0] != "live" or addr < thread.x[SP]) else None
 
     # ------------------------------------------------------------ places
 

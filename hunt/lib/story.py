@@ -10,7 +10,7 @@ from . import isa
 from .answered import answer_name
 from .calls import GIVING, TAKING_BACK, Heap
 from .machine import CONSOLE_CHANNEL, NO_PC
-from .naming import block_name, naming_of
+from .naming import GONE, block_name, naming_of
 from .telling import values, verb
 from .trace import context_name
 
@@ -57,7 +57,8 @@ class Story:
         self.locks = {a.addr for a in trace.accesses if a.pc in self.own.lock_code}
         self.heap, self.at, self.within, self.around, self.told = Heap(), {}, {}, {}, set()  # around: of a call the one that it is in
         self.misuses = {}  # Uses of blocks that had been freed, or past their ends, each place once
-        self.functions, self.touched = {}, {}
+        self.gone = set()  # words in stacks that are gone, and where they were stored to
+        self.functions, self.touched, self.now = {}, {}, 0  # now: the step that is told
         self.turns = [turn for turn in self._turns(list(left)) if turn.rows or turn.is_left]
         hand_over(self.turns)
 
@@ -92,6 +93,7 @@ class Story:
 
     def _step(self, step, who):
         """Follows the calls that end and begin with a step."""
+        self.now = step
         for call in self.ends.get(step, ()):
             self.heap.look(call)
             if self.within.get(who) is call:
@@ -144,11 +146,19 @@ class Story:
             return
         elif a.pc != NO_PC and self.own.is_code(a.pc):
             if self.own.is_data(a.addr) or self.is_shared(a.addr):
-                rank = SHARED if self.is_shared(a.addr) else OWN
-                yield Row(verb(a.kind), self.word(a.addr, a.width), values(a), self.place_of(a.pc), note=self._freed_by(a), rank=rank)
+                word, place = self.word(a.addr, a.width), self.place_of(a.pc)
+                rank = KEY if self._is_first_to_gone(a, word, place) else SHARED if self.is_shared(a.addr) else OWN
+                yield Row(verb(a.kind), word, values(a), place, note=self._freed_by(a), rank=rank)
         elif call and call.first not in self.told and self._is_given(a, call):
             self.told.add(call.first)
             yield Row("calls", self.call_text(call), "", self.place_of(call.at), rank=SHARED)
+
+    def _is_first_to_gone(self, a, word, place):
+        """Whether it stores to a stack that is gone, and is the first at its place to do so."""
+        is_first = a.kind in isa.STORES and word.startswith(GONE) and (word, place) not in self.gone
+        if is_first:
+            self.gone.add((word, place))
+        return is_first
 
     def _is_given(self, a, call):
         is_near = any(0 <= a.addr - given < REACH for given in call.arguments[:2])
@@ -233,7 +243,7 @@ class Story:
 
     def word(self, addr, width=4):
         """What so many bytes are as far as the story is told by now."""
-        return self.naming.word_in(self.heap, addr, width)
+        return self.naming.word_in(self.heap, addr, width, self.now)
 
     def place_of(self, pc):
         return self.names.place(pc)

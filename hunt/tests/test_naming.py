@@ -123,6 +123,60 @@ int main(void) {
 }
 """
 
+UNWOUND = """\
+#include <pthread.h>
+static volatile int *volatile place, is_set;
+static __attribute__((noinline)) void call(void) {
+    volatile int mine = 3;
+    place = &mine;
+}
+static void *works(void *unused) {
+    call();
+    while (!is_set);
+    return unused;
+}
+int main(void) {
+    pthread_t thread;
+    pthread_create(&thread, NULL, works, NULL);
+    while (!place);
+    *place = 5;
+    is_set = 1;
+    pthread_join(thread, NULL);
+    return 1;
+}
+"""
+
+GONE = """\
+#include <pthread.h>
+static volatile int *place;
+static void *works(void *unused) {
+    volatile int mine = 3;
+    place = &mine;
+    return unused;
+}
+int main(void) {
+    pthread_t thread;
+    pthread_create(&thread, NULL, works, NULL);
+    pthread_join(thread, NULL);
+    *place = 5;
+    return *place;
+}
+"""
+
+MANY_USES = """\
+#include <stdlib.h>
+int main(void) {
+    volatile int *blocks[12];
+    for (int j = 0; j < 12; j++)
+        blocks[j] = malloc(4);
+    for (int j = 0; j < 12; j++)
+        free((void *)blocks[j]);
+    for (int j = 0; j < 12; j++)
+        *blocks[j] = 5;
+    return 0;
+}
+"""
+
 
 @unittest.skipUnless(CAN_COMPILE, NO_CROSS_COMPILER)
 class Named(InScratch):
@@ -169,6 +223,21 @@ class Named(InScratch):
         self.assertIn(", and 39 times more", why)
         self.assertLessEqual(len(re.findall(r"(?m)^  thread ", order)), 26)
         self.assertRegex(order, r"\n  \.\. 5\d more turns\n")
+
+    def test_a_stack_that_is_gone(self):
+        said = self.said(GONE)
+        self.assertRegex(said, r"finds: a stack that is gone, of thread 1 = 00000005 \(commit \d+, main, prog.c:13\), which it has stored \(commit \d+, "
+                               r"main, prog.c:12\)\n")
+        self.assertRegex(said, r"\n +stores +a stack, [0-9A-F]{8} +00000003 over \w+ +works, prog.c:4\n")
+        self.assertRegex(said, r"\n +stores +a stack that is gone, of thread 1 +00000005 over \w+ +main, prog.c:12\n")
+
+    def test_a_call_that_has_returned(self):
+        self.assertRegex(self.said(UNWOUND), r"\n +stores +a stack that is gone, of thread 1 +00000005 over 00000003 +main, prog.c:16\n")
+
+    def test_eight_uses_of_freed_blocks_are_told(self):
+        why = self.said(MANY_USES).partition("\nwhy:\n")[2].partition("\n\n")[0].splitlines()
+        self.assertEqual(sum("stores to the block" in line for line in why), 8)
+        self.assertIn("  4 more uses of blocks like these", why)
 
 
 if __name__ == "__main__":
