@@ -161,8 +161,16 @@ class Story:
         return is_first
 
     def _is_given(self, a, call):
+        if call.name in UNTOLD or call.name in CHECKING:
+            return False
         is_near = any(0 <= a.addr - given < REACH for given in call.arguments[:2])
-        return call.name not in UNTOLD and is_near and (self.is_shared(a.addr) or call.name == "pthread_once")
+        return is_near and (self.is_shared(a.addr) or call.name == "pthread_once") or self._is_kept(a, call)
+
+    def _is_kept(self, a, call):
+        """Whether it is to a variable that functions of the library keep for all threads, as strtok does."""
+        symbol = self.names.symbol(a.addr) if self.own.is_data(a.addr) and not self.own.is_heap(a.addr) else None
+        is_public = call.name not in CHECKING and not call.name.startswith("_")
+        return is_public and symbol is not None and symbol.name[0] != "_" and self.is_shared(a.addr)
 
     def _look_at_block(self, a, who, call):
         """What the library's own checks load isn't a use: they look at blocks in malloc and free, and once main has returned."""

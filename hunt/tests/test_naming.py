@@ -177,6 +177,55 @@ int main(void) {
 }
 """
 
+COMPARED = """\
+#include <assert.h>
+#include <pthread.h>
+#include <string.h>
+static char name[8];
+static const char *volatile given = "two", *volatile wanted = "one";
+static void *names(void *unused) { strncpy(name, given, 7); return unused; }
+int main(void) {
+    pthread_t thread;
+    pthread_create(&thread, NULL, names, NULL);
+    pthread_join(thread, NULL);
+    assert(strcmp(name, wanted) == 0);
+    return 0;
+}
+"""
+
+CUT = """\
+#include <pthread.h>
+#include <string.h>
+static char texts[2][4] = {"a b", "c d"};
+static int is_wrong;
+static void *cuts(void *text) {
+    strtok(text, " ");
+    if (strtok(NULL, " ") != (char *)text + 2)
+        is_wrong = 1;
+    return NULL;
+}
+int main(void) {
+    pthread_t thread;
+    pthread_create(&thread, NULL, cuts, texts[1]);
+    cuts(texts[0]);
+    pthread_join(thread, NULL);
+    return is_wrong;
+}
+"""
+
+BYTES = """\
+#include <pthread.h>
+static volatile char pair[2];
+static void *works(void *unused) { pair[0] = 3; return unused; }
+int main(void) {
+    pthread_t thread;
+    pthread_create(&thread, NULL, works, NULL);
+    pthread_join(thread, NULL);
+    pair[1] = 4;
+    return pair[0];
+}
+"""
+
 
 @unittest.skipUnless(CAN_COMPILE, NO_CROSS_COMPILER)
 class Named(InScratch):
@@ -238,6 +287,18 @@ class Named(InScratch):
         why = self.said(MANY_USES).partition("\nwhy:\n")[2].partition("\n\n")[0].splitlines()
         self.assertEqual(sum("stores to the block" in line for line in why), 8)
         self.assertIn("  4 more uses of blocks like these", why)
+
+    def test_what_a_function_of_the_library_has_found_and_stored(self):
+        self.assertRegex(self.said(COMPARED), r"finds: name(\[\d\])? = \w+ \(commit \d+, strcmp, called from main, prog.c:11\), which thread 1 has "
+                                              r"stored \(commit \d+, strncpy, called from names, prog.c:6\)\n")
+
+    def test_calls_of_functions_that_keep_something_for_all_threads(self):
+        order = self.said(CUT).partition("\nthe order:\n")[2]
+        self.assertEqual(len(re.findall(r"\n +calls +strtok\(texts\S*\) +cuts, prog.c:6\n", order)), 2)
+        self.assertEqual(len(re.findall(r"\n +calls +strtok\(\.\.\) +cuts, prog.c:7\n", order)), 2)
+
+    def test_who_stored_one_byte_of_a_word(self):
+        self.assertRegex(self.said(BYTES), r"finds: pair\[0\] = 03 \(commit \d+, main, prog.c:9\), which thread 1 has stored \(commit \d+, works, prog.c:3\)\n")
 
 
 if __name__ == "__main__":
