@@ -149,9 +149,10 @@ class Story:
                 word, place = self.word(a.addr, a.width), self.place_of(a.pc)
                 rank = KEY if self._is_first_to_gone(a, word, place) else SHARED if self.is_shared(a.addr) else OWN
                 yield Row(verb(a.kind), word, values(a), place, note=self._freed_by(a), rank=rank)
-        elif call and call.first not in self.told and self._is_given(a, call):
+        elif call and call.first not in self.told and call.name not in UNTOLD and (self._is_given(a, call) or self._is_kept(a, call)):
             self.told.add(call.first)
-            yield Row("calls", self.call_text(call), "", self.place_of(call.at), rank=SHARED)
+            text = self.call_text(call) if call.arguments[0] and self._is_given(a, call) else call.name + "(..)"
+            yield Row("calls", text, "", self.place_of(call.at), rank=SHARED)
 
     def _is_first_to_gone(self, a, word, place):
         """Whether it stores to a stack that is gone, and is the first at its place to do so."""
@@ -161,10 +162,8 @@ class Story:
         return is_first
 
     def _is_given(self, a, call):
-        if call.name in UNTOLD or call.name in CHECKING:
-            return False
         is_near = any(0 <= a.addr - given < REACH for given in call.arguments[:2])
-        return is_near and (self.is_shared(a.addr) or call.name == "pthread_once") or self._is_kept(a, call)
+        return is_near and (self.is_shared(a.addr) or call.name == "pthread_once")
 
     def _is_kept(self, a, call):
         """Whether it is to a variable that functions of the library keep for all threads, as strtok does."""
