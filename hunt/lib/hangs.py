@@ -151,7 +151,8 @@ def hang_lines(trace, found=None):
 
 
 def _lines(trace, wait):
-    where = ", called from ".join(dict.fromkeys(place(trace, pc) for pc in wait.chain))
+    own = [pc for pc in wait.chain if naming_of(trace).own.is_code(pc)]
+    where = ", called from ".join(dict.fromkeys(place(trace, pc) for pc in own or wait.chain))
     if wait.loop is None:
         goes = "comes to no state again in %d steps" % MORE_STEPS if wait.is_long else "could go on"
         yield "thread %d %s: %s" % (wait.thread, goes, where)

@@ -167,9 +167,10 @@ class Story:
 
     def _is_kept(self, a, call):
         """Whether it is to a variable that functions of the library keep for all threads, as strtok does."""
+        if call.name in CHECKING or call.name.startswith("_") or not self.is_shared(a.addr):
+            return False
         symbol = self.names.symbol(a.addr) if self.own.is_data(a.addr) and not self.own.is_heap(a.addr) else None
-        is_public = call.name not in CHECKING and not call.name.startswith("_")
-        return is_public and symbol is not None and symbol.name[0] != "_" and self.is_shared(a.addr)
+        return symbol is not None and symbol.name[0] != "_"
 
     def _look_at_block(self, a, who, call):
         """What the library's own checks load isn't a use: they look at blocks in malloc and free, and once main has returned."""

@@ -213,6 +213,20 @@ int main(void) {
 }
 """
 
+SPINS = """\
+#include <pthread.h>
+static volatile int is_set;
+static void *spins(void *unused) {
+    while (!is_set);
+    return unused;
+}
+int main(void) {
+    pthread_t thread;
+    pthread_create(&thread, NULL, spins, NULL);
+    pthread_join(thread, NULL);
+}
+"""
+
 BYTES = """\
 #include <pthread.h>
 static volatile char pair[2];
@@ -296,6 +310,9 @@ class Named(InScratch):
         order = self.said(CUT).partition("\nthe order:\n")[2]
         self.assertEqual(len(re.findall(r"\n +calls +strtok\(texts\S*\) +cuts, prog.c:6\n", order)), 2)
         self.assertEqual(len(re.findall(r"\n +calls +strtok\(\.\.\) +cuts, prog.c:7\n", order)), 2)
+
+    def test_calls_of_the_library_that_led_to_a_wait(self):
+        self.assertIn("  thread 1 waits: spins, prog.c:4\n", self.said(SPINS))
 
     def test_who_stored_one_byte_of_a_word(self):
         self.assertRegex(self.said(BYTES), r"finds: pair\[0\] = 03 \(commit \d+, main, prog.c:9\), which thread 1 has stored \(commit \d+, works, prog.c:3\)\n")
