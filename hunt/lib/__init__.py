@@ -63,5 +63,6 @@ logs.write_log(Log(..)) makes a log's bytes. play.Player does a log commit by co
 words.py finds lost updates and ABA in a trace, and says who does what to a word; why.py finds loads that were stale when they were
 used, halfway.py what others saw too early, hangs.py what threads wait for, races.py what nothing orders, stacks.py stacks that were
 run over; telling.py has the lines of text. story.py tells a run in lines of its program, calls.py which of its library's functions it
-called, parts.py which fields heap blocks have, by pointers.py; notes.py what that library notes of threads that wait; finding.py is what hunt/find does.
+called, naming.py what words and places are called, parts.py which fields heap blocks have, by pointers.py; notes.py what that library notes
+of threads that wait; finding.py is what hunt/find does.
 """

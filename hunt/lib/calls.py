@@ -96,6 +96,11 @@ class Heap:
     def __init__(self):
         self.blocks, self.counts = [], {}
 
+    def copy(self):
+        other = Heap()
+        other.blocks, other.counts = list(self.blocks), dict(self.counts)
+        return other
+
     def look(self, call):
         if call.name in TAKING_BACK and call.arguments[0]:  # which is in the middle of the block if aligned_alloc has given it
             self.blocks = [b._replace(freed=call) if b.freed is None and b.addr <= call.arguments[0] < b.addr + max(b.size, 4) else b

@@ -7,17 +7,21 @@ import tempfile
 from .chains import places
 from .found import LOG, PICTURE, PLAN, plan_text
 from .grounds import grounds, signals
+from .naming import block_name
 from .notes import notes_of
-from .story import PAST, Story, block_name, thread_name
+from .story import PAST, Story, thread_name
 from .storylines import lines
 from .switches import Crossing, Printing
 from .trace import open_trace
 from .waiting import waiting_lines
-from .why import found_lines, found_switches, is_of, steps_of
+from .why import found_lines, found_switches, is_of, told_steps
 
 # broken: lines on stores to freed blocks and past ends. why, waits, story: lines. threads: (number, function, state, code, places where it failed) of
 # each. console: text. files: name -> text or bytes.
 Told = namedtuple("Told", "broken why waits story threads console files folder")
+
+
+MOST_USES = 8  # of blocks that had been freed, or past their ends, that are told
 
 
 def told_switches(trace, story):
@@ -28,9 +32,9 @@ def told_switches(trace, story):
 def why_told(trace, story, told, is_hang):
     """(lines, steps): blocks that were used after they were freed, and loads that were stale, or what else came of forced switches. If
     nothing of that is so, what the failure rests on; and in any case who has signalled, of those that wait."""
-    uses = list(story.misuses.values())
-    lines = [*map(story.use_line, uses), *found_lines(trace, told)]
-    steps = {step for use in uses for step in (use.step, use.block.freed and use.block.freed.last)} | {step for _, it in told for step in steps_of(it)}
+    uses, more_uses = list(story.misuses.values())[:MOST_USES], len(story.misuses) - MOST_USES
+    lines = [*map(story.use_line, uses), *(["%d more uses of blocks like these" % more_uses] if more_uses > 0 else []), *found_lines(trace, told)]
+    steps = {step for use in uses for step in (use.step, use.block.freed and use.block.freed.last)} | told_steps(told)
     is_known = uses or any(not isinstance(it, (Crossing, Printing)) for _, it in told)
     waiting = [note for note in notes_of(trace) if note.waits] if is_hang else []
     more = signals(trace, story, waiting) if is_known else grounds(trace, story, waiting, not lines)
@@ -95,6 +99,6 @@ def explained(program, finding, folder):
         file.flush()
         trace = open_trace(program.image, program.memory, file.name)
     story, image = Story(trace, finding.run.left), Path(program.image).name
-    files = {LOG: finding.run.log, PICTURE: picture_of(trace, image), PLAN: plan_text(image, program.memory)}
+    files = {LOG: finding.run.log, PICTURE: picture_of(trace, image), PLAN: plan_text(image, program.memory, folder)}
     why, steps = why_told(trace, story, told_switches(trace, story), is_hang(finding.run))
     return Told(broken_lines(story), why, hang_told(trace, finding.run), list(lines(story, steps)), list(states(trace, story)), console_of(trace), files, folder)

@@ -4,8 +4,10 @@ has files and isn't known is left as it is."""
 import json
 import os
 from pathlib import Path
+import shlex
 import shutil
 
+from .account import program
 from .searching import Refused
 
 MARK = '{"written by": "delorean-find"'
@@ -13,7 +15,7 @@ LOG, PICTURE, PLAN, RESULT = "found.log", "found.html", "replay.toml", "found.js
 REPLAYED = ("replayed.account", "replayed.report")
 
 _PLAN = """\
-# Written by delorean-find: replays the order that it has found. In this folder: delorean run replay.toml
+# Written by delorean-find: replays the order that it has found. In this folder: %s run replay.toml
 cores = %d
 chunk = 32
 buffer = 16
@@ -30,9 +32,18 @@ account = "replayed.account"
 """
 
 
-def plan_text(image, memory, cores=4):
+def plan_text(image, memory, folder, cores=4):
     """A plan that replays the log, given the image's name in the folder."""
-    return _PLAN % (cores, image, memory)
+    return _PLAN % (command_in(folder), cores, image, memory)
+
+
+def command_in(folder):
+    """What calls the proved program in a folder: its name if that is installed, else the path by which it was called here."""
+    first, *more = program()
+    if shutil.which("delorean") or "/" not in first:
+        return "delorean" if shutil.which("delorean") else shlex.join([first, *more])
+    path, here = os.path.realpath(first), os.path.realpath(folder)
+    return shlex.join([path if os.path.commonpath([path, here]) == "/" else os.path.relpath(path, here), *more])
 
 
 class Folder:
@@ -55,6 +66,17 @@ class Folder:
             return (self.path / RESULT).read_text(errors="replace").startswith(MARK)
         except OSError:
             return False
+
+    def has_find(self):
+        """Whether what an earlier find has found is there."""
+        return self.is_known() and (self.path / LOG).is_file()
+
+    def is_past(self, image, asked, switches):
+        """Whether what is there is past, now that no order of the image fails with at most so many forced switches, or None: the same was
+        asked of the program before it was changed."""
+        earlier, name = json.loads((self.path / RESULT).read_text()), self.path / Path(image).name
+        is_changed = name.is_file() and name.read_bytes() != Path(image).read_bytes()
+        return is_changed and earlier.get("asked") == asked and (switches is None or switches >= earlier["found"]["forced"])
 
     def clear(self):
         """Takes away what an earlier find has left, and the folder if that was all. Else it stays known."""

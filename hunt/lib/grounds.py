@@ -5,12 +5,14 @@ from collections import namedtuple
 
 from . import isa
 from .chains import places
+from .naming import naming_of
 from .notes import KINDS, LOCKS, notes_of
-from .story import thread_name
+from .story import CHECKING, UNTOLD, thread_name
 from .telling import values
 from .trace import context_name
+from .words import bits_of
 
-MOST_WORDS = 3  # of a thread that fails
+MOST_WORDS, MOST_CALLS = 3, 8  # of a thread that fails
 CONDITION, JOIN, SEMAPHORE = (KINDS.index(kind) for kind in ("condition", "the end of", "semaphore"))
 WAKING = {CONDITION: ("pthread_cond_signal", "pthread_cond_broadcast"), SEMAPHORE: ("sem_post",)}
 DONE = {CONDITION: "signalled it", SEMAPHORE: "posted it"}
@@ -49,44 +51,44 @@ def _name(story, number):
 
 def _of_failed(trace, story, number):
     """Its last loads of variables and of the heap that others had stored to, each word once; the line at which it fails comes first."""
-    where = places(trace, story.own, number)
-    loads = _last_loads(trace, story, number)
-    there = [pair for pair in loads if trace.names.place(pair[1].pc) in where]
+    where, naming = places(trace, story.own, number), story.naming
+    loads = _last_loads(trace, story, number, [call for call in story.calls if _is_at(story, call, number, where)][-MOST_CALLS:])
+    there = [pair for pair in loads if trace.names.place(naming.caller(pair[1].pc, pair[1].step)[1]) in where]
     if not loads:
         yield Ground("%s fails without having loaded a variable or a word of the heap" % _name(story, number), set())
     for commit, a in sorted((there or loads)[:MOST_WORDS], key=lambda pair: pair[1].step):
         last = _stored(trace, a)
         who = "as it was %s" % trace.begun() if last is None else "which %s has stored (commit %d, %s)" % (
-            "it" if last[0].actor == number else context_name(trace.context(last[0])), last[0].told, _place(trace, story, last))
+            "it" if last[0].actor == number else context_name(trace.context(last[0])), last[0].told, naming.place_of(last[1]))
         steps = {a.step} | ({last[1].step} if last else set())
         yield Ground("%s fails with what it finds: %s = %s (commit %d, %s), %s" % (
-            _name(story, number), story.word_of(a), values(a).rpartition(" over ")[2], commit.told, trace.names.place(a.pc), who), steps)
+            _name(story, number), naming.word_of(a), values(a).rpartition(" over ")[2], commit.told, naming.place_of(a), who), steps)
 
 
-def _place(trace, story, pair):
-    """Where in the program's own code an access comes from."""
-    commit, a = pair
-    call = next((c for c in story.calls if c.who == trace.context(commit) and c.first <= a.step < c.last), None)
-    return trace.names.place(call.at if call and not story.own.is_code(a.pc) else a.pc)
+def _is_at(story, call, number, where):
+    """Whether a call is one of the thread's at these places, and of a function that looks at what it was given, as strcmp does."""
+    is_looking = call.name not in UNTOLD | CHECKING and not call.name.startswith("_")
+    return call.who.thread == number and is_looking and story.place_of(call.at) in where
 
 
-def _last_loads(trace, story, number):
-    """(Commit, Access) of the thread's last look at each word, the last one first."""
+def _last_loads(trace, story, number, calls):
+    """(Commit, Access) of the thread's last look at each word, its own and in these calls of its library, the last one first."""
     found = {}
     for commit in reversed(trace.commits):
         if commit.actor != number:
             continue
         for a in reversed(trace.accesses_of(commit)):
-            is_told = story.own.is_code(a.pc) and a.pc not in story.own.lock_code and (
-                story.own.is_data(a.addr) or story.is_shared(a.addr))
+            is_own = story.own.is_code(a.pc) and a.pc not in story.own.lock_code or any(c.first <= a.step < c.last for c in calls)
+            is_told = is_own and (story.own.is_data(a.addr) or story.is_shared(a.addr))
             if is_told and trace.is_look(a) and not story.is_lock(a.addr):
                 found.setdefault(a.addr & ~3, (commit, a))
     return list(found.values())
 
 
 def _stored(trace, load):
-    """The last store to a word before a load, as (Commit, Access), or None."""
-    stores = [pair for pair in trace.of_word(load.addr) if pair[1].kind in isa.STORES and pair[1].step < load.step]
+    """The last store to what is loaded, before that, as (Commit, Access), or None."""
+    stores = [pair for pair in trace.of_word(load.addr)
+              if pair[1].kind in isa.STORES and pair[1].step < load.step and bits_of(pair[1]) & bits_of(load)]
     return stores[-1] if stores else None
 
 
@@ -96,7 +98,7 @@ def _stored(trace, load):
 def _waits(trace, story, note):
     """For example `thread 1 (take) waits for condition is_full (take, queue.c:12)`."""
     kind, what = note.waits.kind, note.waits.object
-    name = "thread %d" % what if KINDS.index(kind) == JOIN else trace.names.name(what)
+    name = "thread %d" % what if KINDS.index(kind) == JOIN else naming_of(trace).word(what, 4, trace.steps)
     return "%s waits for %s %s (%s)" % (thread_name(note.thread, note.function), kind, name, trace.names.place(note.waits.at))
 
 
@@ -133,6 +135,6 @@ def _holder(trace, lock):
         for note in notes_of(trace, is_live):
             for held in note.holds:
                 if held.object == lock:
-                    return "which thread %d%s since %s" % (
-                        note.thread, " holds" if is_live else " has ended with, and holds", trace.names.place(held.at))
+                    return "which thread %d %s%s since %s" % (
+                        note.thread, "" if is_live else "has ended with, and ", held.verb, trace.names.place(held.at))
     return None

@@ -8,6 +8,7 @@ from collections import namedtuple
 
 from . import isa
 from .loops import MORE_STEPS, TooLong, long_loop_of
+from .naming import naming_of
 from .telling import place
 from .trace import context_name
 
@@ -150,7 +151,8 @@ def hang_lines(trace, found=None):
 
 
 def _lines(trace, wait):
-    where = ", called from ".join(dict.fromkeys(place(trace, pc) for pc in wait.chain))
+    own = [pc for pc in wait.chain if naming_of(trace).own.is_code(pc)]
+    where = ", called from ".join(dict.fromkeys(place(trace, pc) for pc in own or wait.chain))
     if wait.loop is None:
         goes = "comes to no state again in %d steps" % MORE_STEPS if wait.is_long else "could go on"
         yield "thread %d %s: %s" % (wait.thread, goes, where)
@@ -164,8 +166,8 @@ def _reasons(trace, wait):
         last = last_change(trace, word)
         value = trace.machine.words[word >> 2]
         who = "as it was %s" % trace.begun() if last is None else "stored by %s (commit %d, %s)" % (
-            _name(trace, last[0], wait), last[0].told, place(trace, last[1].pc))
-        yield "%s, which is %08X, %s" % (trace.names.name(word), value, who)
+            _name(trace, last[0], wait), last[0].told, naming_of(trace).place_of(last[1]))
+        yield "%s, which is %08X, %s" % (naming_of(trace).word(word, 4, trace.steps), value, who)
     for thread in wait.threads:
         yield "thread %d to end" % thread
     for channel in wait.channels:

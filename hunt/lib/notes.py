@@ -3,16 +3,19 @@ its own block which locks it holds, what it waits for, and where in the program 
 
 from collections import namedtuple
 
+from . import isa
 from .chains import chain_text, places
+from .naming import naming_of
 
 # thread: the kernel's number. function: what it began with, or None. waits: a Wait, or None. holds: of Held, in order.
 Note = namedtuple("Note", "thread function waits holds")
 # kind: in words, for example `mutex`. object: its address, or a thread's number if it waits for the end of one. at: a pc.
 Wait = namedtuple("Wait", "kind object at")
-Held = namedtuple("Held", "object at")
+# verb: what it does with the object: it holds a lock, or it is in a once, and runs its function.
+Held = namedtuple("Held", "object at verb", defaults=("holds",))
 
 KINDS = ("", "mutex", "condition", "the end of", "barrier", "lock to read", "lock to write", "semaphore", "once", "spin lock", "pipe")
-JOIN, LOCKS = 3, (1, 5, 6, 9)
+JOIN, ONCE, LOCKS = 3, 8, (1, 5, 6, 8, 9)  # LOCKS: of which others wait until one thread is done
 # Words of a thread's block; where blocks are is in the words of the library's `__numbers`.
 NUMBER, FUNCTION, WAITS, WAITS_FOR, WAITS_AT, HELD_COUNT, HELD = 0, 2, 5, 6, 7, 8, 9
 MOST_HELD = 8
@@ -53,6 +56,14 @@ def _note(blocks, block, numbers):
     return Note(numbers[block], function, _wait(blocks, block, numbers), holds)
 
 
+def _note_runner(trace, notes, once):
+    """Notes of the thread that came first to a once that it is in it: others wait until it is done."""
+    commit, first = next(((c, a) for c, a in reversed(trace.of_word(once)) if a.kind in isa.STORES and a.old == 0 != a.new), (None, None))
+    for note in notes:
+        if first and note.thread == commit.actor:
+            note.holds.append(Held(once, naming_of(trace).caller(first.pc, first.step)[1], "is in"))
+
+
 def notes_of(trace, is_live=True):
     """The Note of each thread that is live at the end, or of each that isn't, by number. None of any if the image has no notes."""
     if not all(trace.names.has(name) for name in NEEDED):
@@ -60,6 +71,8 @@ def notes_of(trace, is_live=True):
     blocks = _Blocks(trace)
     numbers = blocks.numbers()
     notes = [_note(blocks, block, numbers) for block, number in numbers.items() if number < len(trace.machine.threads)]
+    for once in sorted({note.waits.object for note in notes if note.waits and note.waits.kind == KINDS[ONCE]}):
+        _note_runner(trace, notes, once)
     return sorted((n for n in notes if trace.machine.threads[n.thread].live() == is_live), key=lambda n: n.thread)
 
 
@@ -67,7 +80,7 @@ def notes_of(trace, is_live=True):
 
 
 def object_name(trace, wait):
-    return "thread %d" % wait.object if wait.kind == KINDS[JOIN] else trace.names.name(wait.object)
+    return "thread %d" % wait.object if wait.kind == KINDS[JOIN] else naming_of(trace).word(wait.object, 4, trace.steps)
 
 
 def left_held(trace, wait):
@@ -75,8 +88,8 @@ def left_held(trace, wait):
     for note in notes_of(trace, False) if wait.kind in [KINDS[kind] for kind in LOCKS] else ():
         for held in note.holds:
             if held.object == wait.object:
-                return "thread %d%s has ended, and holds it since %s" % (
-                    note.thread, " (%s)" % note.function if note.function else "", trace.names.place(held.at))
+                return "thread %d%s has ended, and %s it since %s" % (
+                    note.thread, " (%s)" % note.function if note.function else "", held.verb, trace.names.place(held.at))
     return None
 
 
@@ -87,7 +100,7 @@ def note_line(trace, own, note):
         where = places(trace, own, note.thread) or [trace.names.place(note.waits.at)]
         parts.append("waits for %s %s, %s" % (note.waits.kind, object_name(trace, note.waits), chain_text(where)))
         parts += filter(None, [left_held(trace, note.waits)])
-    parts += ["holds %s since %s" % (trace.names.name(held.object), trace.names.place(held.at)) for held in note.holds]
+    parts += ["%s %s since %s" % (held.verb, naming_of(trace).word(held.object, 4, trace.steps), trace.names.place(held.at)) for held in note.holds]
     who = "thread %d%s" % (note.thread, " (%s)" % note.function if note.function else "")
     return "%s %s" % (who, "; ".join(parts) or "neither waits nor holds a lock")
 

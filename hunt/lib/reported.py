@@ -1,5 +1,6 @@
-"""A Finding as text and as JSON."""
+"""An Outcome of hunt/find as text and as JSON."""
 
+from collections import namedtuple
 import shlex
 import sys
 
@@ -8,9 +9,14 @@ from .chains import chain_text
 from .chances import what_was_tried
 from .engine import Drawn
 from .finding import CLEAR, FOUND
-from .found import LOG, PICTURE, PLAN, REPLAYED
+from .found import LOG, PICTURE, PLAN, REPLAYED, command_in
 from .searching import counted
 from .story import CAUSES, thread_name
+
+
+# program: as it was given. ready: the Program. told: of a find a Told, else None. seconds: from the command's start on. kept: the folder in
+# which an earlier find stays, or None.
+Outcome = namedtuple("Outcome", "program ready finding told seconds kept", defaults=(None,))
 
 
 def progress(is_quiet):
@@ -104,11 +110,17 @@ def sections(finding, told):
     yield "the order", told.story
 
 
-def found_text(program, finding, told):
+def time_text(outcome):
+    """All the time that it has taken, and how much of that was the search."""
+    return "%.1f s (%.2f s of search)" % (outcome.seconds, outcome.finding.seconds)
+
+
+def found_text(outcome):
+    finding, told = outcome.finding, outcome.told
     run = finding.run
-    yield "%s fails with %s, found in %s, %.2f s" % (
-        program, counted(run.forced, "forced switch") if run.forced else "no forced switch",
-        counted(finding.search.tries, "run"), finding.seconds)
+    yield "%s fails with %s, found in %s, %s" % (
+        outcome.program, counted(run.forced, "forced switch") if run.forced else "no forced switch",
+        counted(finding.search.tries, "run"), time_text(outcome))
     for heading, texts in sections(finding, told):
         if texts:
             yield ""
@@ -117,7 +129,7 @@ def found_text(program, finding, told):
     yield ""
     yield "written to %s: %s (%s, %s; walked), %s, %s" % (
         told.folder, LOG, counted(run.commits, "commit"), counted(run.switches, "switch"), PICTURE, PLAN)
-    yield "to replay it: cd %s && delorean run %s" % (shlex.quote(str(told.folder)), PLAN)
+    yield "to replay it: cd %s && %s run %s" % (shlex.quote(str(told.folder)), command_in(told.folder), PLAN)
     yield from ("  " + line for line in shown_by_replay(run, told))
 
 
@@ -128,11 +140,15 @@ def shown_by_replay(run, told):
     yield "grep ^t %s | cut -d' ' -f2,4 shows how the threads ended: %s" % (REPLAYED[0], states)
 
 
-def as_text(program, ready, finding, told):
-    if finding.status == FOUND:
-        return list(found_text(program, finding, told))
-    lines = list(covered(finding))
-    return ["%s: %s, %.2f s" % (program, lines[0], finding.seconds), *lines[1:]]
+def as_text(outcome):
+    if outcome.told:
+        return list(found_text(outcome))
+    first, *more = covered(outcome.finding)
+    return ["%s: %s, %s" % (outcome.program, first, time_text(outcome)), *more, *kept_lines(outcome)]
+
+
+def kept_lines(outcome):
+    return ["%s stays as it is: an earlier search has found that" % outcome.kept] if outcome.kept else []
 
 
 # ---------------------------------------------------------------- JSON
@@ -155,12 +171,14 @@ def json_of_run(finding, told):
             "folder": str(told.folder), "log": LOG, "picture": PICTURE, "plan": PLAN}
 
 
-def as_json(program, ready, finding, told):
+def as_json(outcome):
     """The object of --json, which found.json has too."""
-    out = {"program": str(program), "memory": ready.memory, "conditions": finding.condition, "status": finding.status,
-           "seconds": round(finding.seconds, 2), "tick of the clock": finding.tick, "search": json_of_search(finding.search)}
-    if finding.status == FOUND:
-        out["found"] = json_of_run(finding, told)
+    finding = outcome.finding
+    out = {"program": str(outcome.program), "memory": outcome.ready.memory, "conditions": finding.condition, "status": finding.status,
+           "seconds": round(finding.seconds, 2), "seconds in all": round(outcome.seconds, 2), "tick of the clock": finding.tick,
+           "search": json_of_search(finding.search)}
+    if outcome.told:
+        out["found"] = json_of_run(finding, outcome.told)
     else:
         out["covered"] = list(covered(finding))
-    return out
+    return {**out, "kept": str(outcome.kept)} if outcome.kept else out

@@ -8,10 +8,9 @@ from collections import namedtuple
 
 from . import isa
 from .answered import answer_name
-from .calls import GIVING, TAKING_BACK, Heap, calls_of
+from .calls import GIVING, TAKING_BACK, Heap
 from .machine import CONSOLE_CHANNEL, NO_PC
-from .own import Own
-from .parts import Parts
+from .naming import GONE, block_name, naming_of
 from .telling import values, verb
 from .trace import context_name
 
@@ -45,25 +44,12 @@ def thread_name(number, function):
     return "thread %d%s" % (number, " (%s)" % function if function else "")
 
 
-def block_name(names, block):
-    """For example `block of list.c:30`, or `block 2 of ..`."""
-    number = " %d" % block.count if block.count > 1 else ""
-    return "block%s of %s" % (number, names.line(block.where) or names.place(block.where))
-
-
-def word_in_block(names, block, addr, part=""):
-    """For example `block of list.c:30->next`, or `freed block of list.c:30+4` if it isn't known which part that is."""
-    away = "+%d" % (addr - block.addr) if addr != block.addr else ""
-    return "%s%s%s" % ("freed " if block.freed is not None else "", block_name(names, block), part or away)
-
-
 class Story:
     """`left`: of each turn but the last one, whether it is left by force, if that is known."""
 
     def __init__(self, trace, left=()):
-        self.trace, self.names, self.own = trace, trace.names, Own(trace.image, trace.names)
-        self.calls = calls_of(trace, self.own)
-        self.parts = Parts(trace, self.own, self.calls)
+        self.trace, self.names, self.naming = trace, trace.names, naming_of(trace)
+        self.own, self.calls = self.naming.own, self.naming.calls
         self.begins = {call.first: call for call in self.calls}
         self.ends = {}
         for call in self.calls:
@@ -71,7 +57,8 @@ class Story:
         self.locks = {a.addr for a in trace.accesses if a.pc in self.own.lock_code}
         self.heap, self.at, self.within, self.around, self.told = Heap(), {}, {}, {}, set()  # around: of a call the one that it is in
         self.misuses = {}  # Uses of blocks that had been freed, or past their ends, each place once
-        self.functions, self.touched = {}, {}
+        self.gone = set()  # words in stacks that are gone, and where they were stored to
+        self.functions, self.touched, self.now = {}, {}, 0  # now: the step that is told
         self.turns = [turn for turn in self._turns(list(left)) if turn.rows or turn.is_left]
         hand_over(self.turns)
 
@@ -106,6 +93,7 @@ class Story:
 
     def _step(self, step, who):
         """Follows the calls that end and begin with a step."""
+        self.now = step
         for call in self.ends.get(step, ()):
             self.heap.look(call)
             if self.within.get(who) is call:
@@ -120,8 +108,15 @@ class Story:
             self.around[step], self.within[who] = self.within.get(who), self.begins[step]
             self._look_at_free(self.begins[step])
 
+    def _is_asked(self, who):
+        """Whether the program asks whether a thread has ended, and not its library, as it does at the end of all."""
+        call = self.within.get(who)
+        return not self.own.has_library or call is not None and "join" in call.name
+
     def _answered(self, call):
-        """What a wait until a time answered, or a lock that was only tried."""
+        """What a wait until a time answered, a lock that was only tried, or a join that has failed; and who was detached."""
+        if call.name == "pthread_detach" and call.result == 0:
+            yield Row("detaches", "thread %d" % self.trace.value_before(call.arguments[0], call.first), "", self.place_of(call.at), rank=SHARED)
         answer = answer_name(call)
         if answer:
             yield Row("answers", "%s: %s" % (call.name, answer), "", self.place_of(call.at), rank=KEY)
@@ -151,15 +146,31 @@ class Story:
             return
         elif a.pc != NO_PC and self.own.is_code(a.pc):
             if self.own.is_data(a.addr) or self.is_shared(a.addr):
-                rank = SHARED if self.is_shared(a.addr) else OWN
-                yield Row(verb(a.kind), self.word_of(a), values(a), self.place_of(a.pc), note=self._freed_by(a), rank=rank)
-        elif call and call.first not in self.told and self._is_given(a, call):
+                word, place = self.word_of(a), self.place_of(a.pc)
+                rank = KEY if self._is_first_to_gone(a, word, place) else SHARED if self.is_shared(a.addr) else OWN
+                yield Row(verb(a.kind), word, values(a), place, note=self._freed_by(a), rank=rank)
+        elif call and call.first not in self.told and call.name not in UNTOLD and (self._is_given(a, call) or self._is_kept(a, call)):
             self.told.add(call.first)
-            yield Row("calls", self.call_text(call), "", self.place_of(call.at), rank=SHARED)
+            text = self.call_text(call) if call.arguments[0] and self._is_given(a, call) else call.name + "(..)"
+            yield Row("calls", text, "", self.place_of(call.at), rank=SHARED)
+
+    def _is_first_to_gone(self, a, word, place):
+        """Whether it stores to a stack that is gone, and is the first at its place to do so."""
+        is_first = a.kind in isa.STORES and word.startswith(GONE) and (word, place) not in self.gone
+        if is_first:
+            self.gone.add((word, place))
+        return is_first
 
     def _is_given(self, a, call):
         is_near = any(0 <= a.addr - given < REACH for given in call.arguments[:2])
-        return call.name not in UNTOLD and is_near and (self.is_shared(a.addr) or call.name == "pthread_once")
+        return is_near and (self.is_shared(a.addr) or call.name == "pthread_once")
+
+    def _is_kept(self, a, call):
+        """Whether it is to a variable that functions of the library keep for all threads, as strtok does."""
+        if call.name in CHECKING or call.name.startswith("_") or not self.is_shared(a.addr):
+            return False
+        symbol = self.names.symbol(a.addr) if self.own.is_data(a.addr) and not self.own.is_heap(a.addr) else None
+        return symbol is not None and symbol.name[0] != "_"
 
     def _look_at_block(self, a, who, call):
         """What the library's own checks load isn't a use: they look at blocks in malloc and free, and once main has returned."""
@@ -226,7 +237,7 @@ class Story:
             yield Row("ends", "with %d" % served.arguments[0], "", "" if served.arguments[0] == 0 else place)
         elif served.name in ("fault", "break"):
             yield Row("faults", CAUSES.get(served.result, "cause %d" % served.result), "", place)
-        elif served.name == "ended" and served.result == 1:
+        elif served.name == "ended" and served.result == 1 and self._is_asked(who):
             yield Row("joins", "thread %d" % served.arguments[0], "", place, rank=SHARED)
         elif served.name == "clock":
             yield Row("reads", CLOCK, "%08X" % served.result, place, rank=SHARED)
@@ -239,23 +250,15 @@ class Story:
         return self.heap.block(addr) if self.own.is_heap(addr) else None
 
     def word(self, addr, width=4):
-        block = self.block(addr)
-        if block:
-            return word_in_block(self.names, block, addr)
-        past = self.heap.before(addr) if self.own.is_heap(addr) else None
-        if past:
-            return "past the end of " + block_name(self.names, past)
-        name = self.names.name(addr, width)
-        return "a stack, %08X" % addr if self.own.has_library and self.own.is_stack(addr) else name
+        """What so many bytes are as far as the story is told by now."""
+        return self.naming.word_in(self.heap, addr, width, self.now)
 
     def place_of(self, pc):
         return self.names.place(pc)
 
     def word_of(self, a):
-        """What an access is to, told as a part of its block if that is certain."""
-        block = self.block(a.addr)
-        part = self.parts.path(block, a.addr - block.addr, a.width) if block else ""
-        return word_in_block(self.names, block, a.addr, part) if part else self.word(a.addr, a.width)
+        """What an access is to, as far as the story is told by now."""
+        return self.naming.access_in(self.heap, a, self.now)
 
     def call_text(self, call):
         count = 2 if call.name in TWO_ARGUMENTS else 1

@@ -30,9 +30,9 @@ class Trace:
     """commits: a list of Commit. accesses: all Accesses in order. pcs: the pc of each step. machine: as it is at the end. image: its
     memory is that before the first commit. tail: the Tail that was played, or None. base: the first commit's number in accounts.
     longer: as `longer(commits)` it is the Trace of a longer log, walked and compared like this one, where commits are (thread,
-    size, Input or None); None if nothing was walked. atomic: addresses of words that count as atomic."""
+    size, Input or None); None if nothing was walked. atomic: addresses of words that count as atomic. naming: what naming.py keeps."""
 
-    longer, atomic = None, ()
+    longer, atomic, naming = None, (), None
 
     def __init__(self, image, log, played, tail=None):
         self.image, self.log, self.end = image, log, played.end

@@ -7,6 +7,7 @@ import tempfile
 from . import isa
 from .account import Differs, NotWalked
 from .halfway import Early, Overwritten, early_at_end, early_looks, overwritten, taken_over
+from .naming import naming_of
 from .own import Own
 from .stacks import stack_lines
 from .switches import Crossing, Printing, crossing, ends_badly, forced_switches, printed, printing
@@ -133,7 +134,12 @@ def found_lines(trace, told):
     return lines + (["%d more like these" % (len(groups) - MOST_TOLD)] if len(groups) > MOST_TOLD else [])
 
 
-def steps_of(found):
+def told_steps(told):
+    """The steps of those that are in words, and not only counted."""
+    return {step for group in _folded(told)[:MOST_TOLD] for step in _steps(group[0][1])}
+
+
+def _steps(found):
     """The steps of what was found, in its trace."""
     if isinstance(found, Printing):
         return {commit.first for commit in found if commit}
@@ -218,7 +224,11 @@ def _who(trace, pair):
 
 
 def _at(trace, pair, when=None):
-    return ", ".join(filter(None, (when or "commit %d" % pair[0].told, place(trace, pair[1].pc))))
+    return ", ".join(filter(None, (when or "commit %d" % pair[0].told, naming_of(trace).place_of(pair[1]))))
+
+
+def _word(trace, pair):
+    return naming_of(trace).word_of(pair[1])
 
 
 def _value(access):
@@ -230,21 +240,21 @@ def _stale_lines(trace, stale, _):
     load, last = stale.load, stale.stores[-1]
     more = ", after %d more" % (len(stale.stores) - 1) if len(stale.stores) > 1 else ""
     yield "%s is left with %s = %s (%s); %s stores %s (%s%s)," % (
-        _who(trace, load), trace.names.name(load[1].addr, load[1].width), _value(load[1]), _at(trace, load),
+        _who(trace, load), _word(trace, load), _value(load[1]), _at(trace, load),
         _who(trace, last), _value(last[1]), _at(trace, last), more)
     how = "goes on with %s" % _value(load[1]) if stale.use.instead is None else "doesn't check again"
     yield "    and %s %s: it %s" % (_who(trace, load), how, _use(trace, stale.use))
     for own, other in taken_over(trace, load, _moment(trace, stale.use)):
         yield "    meanwhile %s stores %s to %s (%s), where %s had stored %s" % (
-            _who(trace, other), _value(other[1]), trace.names.name(other[1].addr, other[1].width), _at(trace, other), _who(trace, own),
+            _who(trace, other), _value(other[1]), _word(trace, other), _at(trace, other), _who(trace, own),
             _value(own[1]))
 
 
 def _early_lines(trace, early, when=None):
     first, load, second = early.first, early.load, early.second
     yield "%s is left after it stores %s to %s (%s), before it stores %s to %s (%s)," % (
-        _who(trace, first), _value(first[1]), trace.names.name(first[1].addr, first[1].width), _at(trace, first), _value(second[1]),
-        trace.names.name(second[1].addr, second[1].width), _at(trace, second, when))
+        _who(trace, first), _value(first[1]), _word(trace, first), _at(trace, first), _value(second[1]),
+        _word(trace, second), _at(trace, second, when))
     yield "    and %s loads %s from there too early (%s): it %s" % (
         _who(trace, load), _value(load[1]), _at(trace, load), _use(trace, early.use))
 
@@ -252,7 +262,7 @@ def _early_lines(trace, early, when=None):
 def _overwritten_lines(trace, found, _):
     own, last, load = found.own, found.others[-1], found.load
     yield "%s is left after it stores %s to %s (%s); %s stores %s (%s)," % (
-        _who(trace, own), _value(own[1]), trace.names.name(found.word), _at(trace, own), _who(trace, last), _value(last[1]),
+        _who(trace, own), _value(own[1]), _word(trace, own), _at(trace, own), _who(trace, last), _value(last[1]),
         _at(trace, last))
     yield "    and %s finds that (%s), and goes another way than with %s: it %s" % (
         _who(trace, load), _at(trace, load), _value(own[1]), _use(trace, found.use))
@@ -286,33 +296,36 @@ def _printing_lines(trace, found, _):
 
 def _print(trace, commit):
     """What a commit prints, and where the program asks for it."""
-    text, own = printed(commit).decode("utf-8", "replace"), Own(trace.image, trace.names)
-    pc = next(filter(own.is_code, _chain(trace, commit)), trace.pcs[commit.first])
+    text = printed(commit).decode("utf-8", "replace")
     shown = text if len(text) <= LONGEST else text[:LONGEST] + "..."
-    return '"%s" (commit %d, %s)' % (repr(shown)[1:-1], commit.told, place(trace, pc))
+    return '"%s" (commit %d, %s)' % (repr(shown)[1:-1], commit.told, _where(trace, commit))
 
 
-def _chain(trace, commit):
-    """Where a call of the kernel comes from."""
-    return trace.frames.chain(trace.pcs[commit.first], commit.before.x, lambda addr: trace.value_before(addr, commit.first))
+def _where(trace, commit):
+    """Where in the program's own code a call of the kernel comes from."""
+    own, chain = naming_of(trace).own, trace.frames.chain(
+        trace.pcs[commit.first], commit.before.x, lambda addr: trace.value_before(addr, commit.first))
+    return place(trace, next(filter(own.is_code, chain), chain[0]))
 
 
 def _does(trace, pair):
+    freed = naming_of(trace).freed_by(pair[1])
+    if freed:
+        return "frees " + freed
     how = "stores %s to %s" if pair[1].kind in isa.STORES else "loads %s of %s"
-    return how % (_value(pair[1]), trace.names.name(pair[1].addr, pair[1].width))
+    return how % (_value(pair[1]), _word(trace, pair))
 
 
 def _use(trace, use):
     if use.access:
-        return "stores %s to %s (%s)" % (_value(use.access), trace.names.name(use.access.addr, use.access.width),
-                                     _at(trace, (use.commit, use.access)))
+        return "%s (%s)" % (_does(trace, (use.commit, use.access)), _at(trace, (use.commit, use.access)))
     if use.commit is None:
         return "never looks again"
     served = use.commit.served
     if printed(use.commit):
         return "prints " + _print(trace, use.commit)
     what = "faults, cause %d" % served.result if served.name in ("fault", "break") else "calls " + what_served(use.commit).replace(" answers ", ", which answers ")
-    return "%s (commit %d, %s)" % (what, use.commit.told, place(trace, _chain(trace, use.commit)[0]))
+    return "%s (commit %d, %s)" % (what, use.commit.told, _where(trace, use.commit))
 
 
 _TELL = {Stale: _stale_lines, Early: _early_lines, Overwritten: _overwritten_lines, Crossing: _crossing_lines,

@@ -11,6 +11,7 @@ import re
 import shutil
 import subprocess
 import tempfile
+import time
 import unittest
 from pathlib import Path
 from unittest import mock
@@ -18,6 +19,7 @@ from unittest import mock
 import support
 from lib.account import program
 from lib.finding import read_program
+from lib.found import command_in
 from lib.folded import MOST_ROWS, folded
 from lib.hangs import waits
 from lib.logs import write_log
@@ -35,7 +37,7 @@ NO_CROSS_COMPILER = "hunt/find of sources, since there is no compiler for RISC-V
 
 
 def without_counts(text):
-    return re.sub(r"in \d+ runs?, \d+\.\d\d s", "in .. runs", text)
+    return re.sub(r"in \d+ runs?, \d+\.\d s \(\d+\.\d\d s of search\)", "in .. runs", text)
 
 
 def find(*words):
@@ -132,6 +134,27 @@ class Found(InScratch):
             shown = subprocess.run(command, shell=True, cwd=self.out, check=True, capture_output=True, text=True).stdout
             self.assertEqual(", ".join("`%s`" % row for row in shown.splitlines()), states)
 
+    def test_the_command_that_replays(self):
+        """As it is printed, and on the plan's first line, if `delorean` isn't installed."""
+        with mock.patch.dict(os.environ, PATH="/usr/bin:/bin"):
+            _, said, _ = self.found("account.elf")
+            command = re.search(r"^to replay it: (.*)$", said, re.M)[1]
+            printed = subprocess.run(command, shell=True, check=True, capture_output=True, text=True).stdout
+        self.assertRegex(printed, r"(?m)^s 0 complete \d+$")
+        self.assertIn("In this folder: %s\n" % command.partition(" && ")[2], (self.out / "replay.toml").read_text())
+
+    def test_the_command_is_short(self):
+        with mock.patch.dict(os.environ, PATH="/usr/bin:/bin", DELOREAN="/home/me/delorean/bin/delorean"):
+            self.assertEqual(command_in("/home/me/work/prog.found"), "../../delorean/bin/delorean")
+            self.assertEqual(command_in("/tmp/prog.found"), "/home/me/delorean/bin/delorean")
+
+    def test_time(self):
+        begun = time.monotonic()
+        _, said, _ = self.found("account.elf")
+        whole, search = re.search(r" runs?, (\d+\.\d) s \((\d+\.\d\d) s of search\)\n", said).groups()
+        self.assertLess(float(search), float(whole))
+        self.assertGreater(float(whole), (time.monotonic() - begun) / 2)
+
     def test_json(self):
         status, said, _ = self.found("deadlock.elf", "--json")
         told = json.loads(said)
@@ -203,9 +226,33 @@ class Folders(InScratch):
         self.assertEqual(self.found("deadlock.elf")[0], 1)
         self.assertFalse((self.out / "account.elf").exists())
         self.assertEqual((self.out / "mine.txt").read_text(), "mine")
-        self.assertEqual(self.found("account-mended.elf")[0], 0)
+
+    def changed(self, name, *words):
+        """What is said of the program if it is this one by now."""
+        image = self.out.parent / "prog.elf"
+        shutil.copyfile(IMAGES / name, image)
+        return find(image, "--out", self.out, *words)
+
+    def assert_kept(self, status, given):
+        self.assertEqual(given[0], status)
+        self.assertIn("%s stays as it is: an earlier search has found that\n" % self.out, given[1])
+        self.assertEqual({path.name for path in self.out.iterdir()}, {"prog.elf", "found.log", "found.html", "found.json", "replay.toml"})
+
+    def test_what_was_found_stays_if_nothing_new_is_learned(self):
+        self.assertEqual(self.changed("account.elf")[0], 1)
+        self.assert_kept(3, self.changed("account.elf", "--steps", "10"))
+        self.assert_kept(0, self.changed("account.elf", "--switches", "0"))
+        self.assert_kept(0, self.changed("account-mended.elf", "--switches", "0"))
+        self.assert_kept(0, self.found("account-mended.elf"))
+        self.assertEqual(json.loads(self.changed("account-mended.elf", "--tick", "9", "--json")[1])["kept"], str(self.out))
+
+    def test_what_was_found_goes_if_the_program_was_mended(self):
+        self.changed("account.elf")
+        (self.out / "mine.txt").write_text("mine")
+        status, said, _ = self.changed("account-mended.elf", "--switches", "1")
+        self.assertEqual((status, "stays" in said), (0, False))
         self.assertEqual(sorted(path.name for path in self.out.iterdir()), ["found.json", "mine.txt"])
-        self.assertEqual(self.found("account.elf")[0], 1)
+        self.assertEqual(self.changed("account.elf")[0], 1)
 
     def test_others_folder(self):
         self.out.mkdir()

@@ -30,9 +30,10 @@ def shown(command):
 
 
 def loose(line):
-    """A pattern of the line, in which these numbers are any."""
-    parts = re.split(r"((?<=commit )\d+|\d+(?= commits| runs| in \d)|\d+\.\d\d(?= s))", line)
-    return "".join(r"[\d.]+" if place % 2 else re.escape(part) for place, part in enumerate(parts))
+    """A pattern of the line, in which these numbers are any, and so is the path of the program."""
+    parts = re.split(r"((?<=commit )\d+|\d+(?= commits| runs| in \d)|\d+\.\d+(?= s))", line)
+    text = "".join(r"[\d.]+" if place % 2 else re.escape(part) for place, part in enumerate(parts))
+    return re.sub(r"(?<=\\&\\&\\ )\S+(?=\\ run)", r"\\S+", text)
 
 
 class Front(unittest.TestCase):
