@@ -71,6 +71,15 @@ def _is_at(story, call, number, where):
     return call.who.thread == number and is_looking and story.place_of(call.at) in where
 
 
+def _is_given(story, a, call):
+    """Whether an access in a call is to a variable or a block that the call was given."""
+    def whole(addr):
+        return story.naming.heaps.at(a.step).block(addr) if story.own.is_heap(addr) else story.names.symbol(addr)
+
+    there = whole(a.addr) if call.first <= a.step < call.last else None
+    return there is not None and any(whole(given) == there for given in call.arguments[:2])
+
+
 def _last_loads(trace, story, number, calls):
     """(Commit, Access) of the thread's last look at each word, its own and in these calls of its library, the last one first."""
     found = {}
@@ -78,7 +87,7 @@ def _last_loads(trace, story, number, calls):
         if commit.actor != number:
             continue
         for a in reversed(trace.accesses_of(commit)):
-            is_own = story.own.is_code(a.pc) and a.pc not in story.own.lock_code or any(c.first <= a.step < c.last for c in calls)
+            is_own = story.own.is_code(a.pc) and a.pc not in story.own.lock_code or any(_is_given(story, a, call) for call in calls)
             is_told = is_own and (story.own.is_data(a.addr) or story.is_shared(a.addr))
             if is_told and trace.is_look(a) and not story.is_lock(a.addr):
                 found.setdefault(a.addr & ~3, (commit, a))
