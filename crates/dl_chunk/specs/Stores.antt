@@ -1,5 +1,5 @@
 -- What a chunk stores and marks: its words, over the memory below, and the lines that it reads and stores to.
-use Rattle.std.specs.Prelude.{◌≡◌, ℕ, List, [], Option, Some, None}
+use Rattle.std.specs.Prelude.{◌≡◌, ℕ, List, [], Option, Some, None, IfSome}
 use Rattle.spec_isa.specs.Words.{Stored, IsBytes, lays, put}
 use Rattle.dl_wbuf.specs.Buffers.{Words}
 use Rattle.spec_engine.specs.Signatures.{Signature, nothing, insert, line}
@@ -32,6 +32,10 @@ with_written (Some s) n =
 -- laid over bytes, the words leave bytes
 pub record LeaveBytes (words : List Stored) : Type 0 where
   pub each : (m : List ℕ) → IsBytes m → IsBytes (lays m words)
+
+-- the line marked last, if there is one, is marked
+abbrev pub IsLast : (last : Option ℕ) → Signature → Type 0
+IsLast last g = IfSome last (λ l. insert l g ≡ g)
 
 -- both signatures have one size, and the words are of bytes
 pub record AreNotes (words : List Stored) (reads writes : Signature) : Type 0 where

@@ -4,6 +4,7 @@
 
 mod base;
 pub mod chunk;
+mod lines;
 pub mod pair;
 mod store;
 mod view;

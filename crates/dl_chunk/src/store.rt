@@ -5,20 +5,20 @@ ghost use Rattle.spec_isa.specs.Words.{Apart};
 ghost use Rattle.dl_wbuf.specs.Buffers.{has_room};
 ghost use Rattle.spec_engine.specs.Signatures.{is_size, line, nothing};
 
+use crate::lines::Lines;
 use dl_sig::Sig;
 use dl_thread::Full;
 use dl_wbuf::Buffer;
 use std::alloc::{AllocError, Global};
 use std::marker::Model;
-use std::mem;
 
 // The words that a chunk of a sphere has stored, and the lines that it has read and stored to.
 #[derive(Drop)]
 pub(crate) struct Store<G: Sig> {
     sphere: u8,
     words: Buffer,
-    reads: G,
-    writes: G,
+    reads: Lines<G>,
+    writes: Lines<G>,
 }
 
 impl<G: Sig> Model for Store<G> {
@@ -30,9 +30,9 @@ impl<G: Sig> Model for Store<G> {
 
     ghost coded = { Prim.hlevel (codes, places_code) };
 
-    ghost view = { λ s. record { sphere = s.sphere; words = s.words; reads = G.marks s.reads; writes = G.marks s.writes } };
+    ghost view = { λ s. record { sphere = s.sphere; words = s.words; reads = s.reads; writes = s.writes } };
 
-    ghost invariant = { λ s. AreNotes s.words.words (G.marks s.reads) (G.marks s.writes) };
+    ghost invariant = { λ s. AreNotes s.words.words s.reads s.writes };
 }
 
 impl<G: Sig> Store<G> {
@@ -48,8 +48,8 @@ impl<G: Sig> Store<G> {
         Ok(Store {
             sphere: 0,
             words: Buffer::new(alloc, c)?,
-            reads: G::empty(alloc, bits)?,
-            writes: G::empty(alloc, bits)?,
+            reads: Lines::new(alloc, bits)?,
+            writes: Lines::new(alloc, bits)?,
         })
     }
 
@@ -78,13 +78,13 @@ impl<G: Sig> Store<G> {
     pub(crate) fn reads(&self) -> &G
         ensures { G.marks result.now ≡ self.now.reads }
     {
-        &self.reads
+        self.reads.signature()
     }
 
     pub(crate) fn writes(&self) -> &G
         ensures { G.marks result.now ≡ self.now.writes }
     {
-        &self.writes
+        self.writes.signature()
     }
 
     // The word at an address as it is seen through the words stored, `below` being what lies below.
@@ -103,7 +103,7 @@ impl<G: Sig> Store<G> {
         ensures given { G.marks result ≡ self.old.writes }
         ensures left { self.new ≡ record self.old { writes = nothing self.old.reads.bits } }
     {
-        mem::replace(&mut self.writes, writes)
+        self.writes.replace(writes)
     }
 
     // The line of an address.
@@ -114,11 +114,12 @@ impl<G: Sig> Store<G> {
     }
 
     // Marks the line of a word that was read.
+    #[inline(always)]
     pub(crate) fn note_read(&mut self, addr: u32)
         ensures { self.new ≡ with_read (Some (addr / 4)) self.old }
     {
         let line = self.line(addr);
-        self.reads.insert(line);
+        self.reads.mark(line);
     }
 
     // Stores the masked bytes of a value in a word, and marks its line. `Full`: the word is new, and there is no room.
@@ -136,7 +137,7 @@ impl<G: Sig> Store<G> {
             return Err(Full);
         }
         let line = self.line(word);
-        self.writes.insert(line);
+        self.writes.mark(line);
         Ok(())
     }
 }

@@ -15,6 +15,8 @@ use std::marker::Model;
 pub struct Flights<G: Sig> {
     cores: u8,
     slots: Vec<Option<Flight<G>>>,
+    // whether each slot is free, which an instruction asks more often than slots change
+    is_empty: bool,
 }
 
 impl<G: Sig> Model for Flights<G> {
@@ -29,13 +31,14 @@ impl<G: Sig> Model for Flights<G> {
 
     ghost view = { λ f. record { cores = f.cores; slots = f.slots.items } };
 
-    ghost invariant = { λ f. AreSlots f.cores f.slots.items };
+    ghost invariant = { λ f. AreSlots f.cores f.slots.items f.is_empty };
 }
 
 impl<G: Sig> Flights<G> {
     ghost use Rattle.dl_fly.specs.Slots.{set_slot};
 
     /// `window` free slots, from 1 to 8, for flights that are told to `cores` cores, from 1 to 8.
+    #[tactic(auto, using(crate::proofs::Free::new_free))]
     pub fn new(alloc: Global, window: u8, cores: u8) -> Result<Flights<G>, AllocError>
         requires some_slot { 1 ≤ window }
         requires most_slots { window ≤ 8 }
@@ -47,7 +50,11 @@ impl<G: Sig> Flights<G> {
         for _ in 0..window {
             slots.push_reserved(None);
         }
-        Ok(Flights { cores, slots })
+        Ok(Flights {
+            cores,
+            slots,
+            is_empty: true,
+        })
     }
 
     /// How many slots there are, from 1 to 8.
@@ -83,9 +90,14 @@ impl<G: Sig> Flights<G> {
     }
 
     /// The lowest slot whose flight holds up the reading of a line by a core, which was told of it.
+    #[inline(always)]
+    #[tactic(auto, using(crate::proofs::Free::none_of_free))]
     pub fn holder(&self, core: u8, line: u32) -> Option<u8>
         ensures { result ≡ first_slot (bounces core line) self.now.slots }
     {
+        if self.is_empty {
+            return None;
+        }
         let k = slot::holder(&self.slots, core, line)?;
         Some(k as u8)
     }
@@ -99,6 +111,7 @@ impl<G: Sig> Flights<G> {
         match slot::free(&self.slots) {
             Some(k) => {
                 self.slots[k] = Some(flight);
+                self.is_empty = false;
                 k as u8
             }
             None => unreachable!(),
@@ -136,6 +149,8 @@ impl<G: Sig> Flights<G> {
         ensures reply { result ≡ (retire self.old.cores (at self.old.slots k)).reply }
         ensures slots { self.new ≡ set_slot k (retire self.old.cores (at self.old.slots k)).slot self.old }
     {
-        slot::retire(&mut self.slots[k as usize], self.cores)
+        let reply = slot::retire(&mut self.slots[k as usize], self.cores);
+        self.is_empty = slot::are_free(&self.slots);
+        reply
     }
 }

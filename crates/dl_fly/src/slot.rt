@@ -1,5 +1,6 @@
 //! What is done to one slot.
 ghost use Rattle.std.specs.Prelude.{◌≡◌, ◌<◌, ◌≤◌, IfSome, length};
+ghost use Rattle.std.specs.List.{list_all};
 ghost use Rattle.spec_engine.specs.Flights.{IsInside, IsOfSize, bounces, deliver, drain, first_slot, free_slot, is_none, passes, retire};
 
 use crate::flight::Flight;
@@ -14,6 +15,13 @@ pub(crate) fn free<G: Sig>(slots: &[Option<Flight<G>>]) -> Option<usize>
     ensures within { IfSome result (λ k. k < length slots.now) }
 {
     slots.iter().position(|slot| is_free(slot))
+}
+
+// Whether each is free.
+pub(crate) fn are_free<G: Sig>(slots: &[Option<Flight<G>>]) -> bool
+    ensures { result ≡ list_all is_none slots.now }
+{
+    slots.iter().all(|slot| is_free(slot))
 }
 
 fn is_free<G: Sig>(slot: &Option<Flight<G>>) -> bool
@@ -48,6 +56,7 @@ pub(crate) fn drain<G: Sig>(slot: &mut Option<Flight<G>>, mem: &mut Memory) -> D
     requires { IsInside (length mem.old) slot.old }
     ensures reply { result ≡ (drain mem.old slot.old).reply }
     ensures slot { slot.new ≡ (drain mem.old slot.old).slot }
+    ensures free { is_none slot.new ≡ is_none slot.old }
     ensures memory { mem.new ≡ (drain mem.old slot.old).memory }
 {
     let Some(flight) = slot else {
@@ -74,6 +83,7 @@ pub(crate) fn deliver<G: Sig>(
     requires writes { IsOfSize (G.marks writes.now).bits slot.old }
     ensures reply { result ≡ (deliver core (G.marks reads.now) (G.marks writes.now) slot.old).reply }
     ensures slot { slot.new ≡ (deliver core (G.marks reads.now) (G.marks writes.now) slot.old).slot }
+    ensures free { is_none slot.new ≡ is_none slot.old }
 {
     let Some(flight) = slot else {
         return Deliver::NoCommit;

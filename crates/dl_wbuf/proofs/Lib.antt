@@ -5,3 +5,4 @@ pub mod Places
 pub mod Positions
 pub mod Probes
 pub mod Puts
+pub mod Sifting

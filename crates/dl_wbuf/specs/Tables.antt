@@ -1,6 +1,7 @@
 -- A table with open addressing: for some numbers a place each. A slot is free, or is taken by the entry of a number, which is in
 -- the first slot from its home on that was free. Homes lie in the first half, so that a probe meets a free slot before the end.
 use Rattle.std.specs.Prelude.{◌≡◌, ℕ, ◌+◌, ◌*◌, ◌/◌, ◌%◌, ◌^◌, ◌<◌, ◌≤◌, Bool, true, List, [], ◌∷◌, length, drop, Option, Some, None, nat_eq}
+use Rattle.std.specs.Int.{bit_at}
 use Rattle.std.specs.List.{position_or_len, Contains, slice_index_or}
 use Rattle.dl_wbuf.specs.declared.entry.Entry.{Entry}
 
@@ -56,3 +57,11 @@ pub record IsOpen (t : Slots) : Type 0 where
   pub homes : (a : ℕ) → 2 * home t.shift a < length t.slots
   pub shift : t.shift < 32
   pub most : length t.slots < 2 ^ 32
+
+-- the bit for the line of a word
+abbrev pub line_bit : (number : ℕ) → ℕ
+line_bit a = a / 8 % 64
+
+-- a word whose bit isn't set has no place
+pub record IsSifted (lines : ℕ) (t : Slots) : Type 0 where
+  pub none : (a : ℕ) → bit_at lines (line_bit a) ≡ 0 → place t a ≡ None

@@ -8,8 +8,8 @@ ghost use Rattle.dl_wbuf.specs.Buffers.{has_room, after_store, byte_held, IsLast
 ghost use Rattle.dl_wbuf.specs.Invariant.{left};
 ghost use Rattle.dl_wbuf.specs.Tables.{place};
 
+use crate::index::Index;
 use crate::stored::Stored;
-use crate::table::Table;
 use std::alloc::{AllocError, Global};
 use std::collections::VecDeque;
 use std::collections::vec_deque::Iter;
@@ -27,7 +27,7 @@ pub struct Buffer {
     capacity: u32,
     words: VecDeque<Stored>,
     // the place of each word, counted from the first that came since the table was last emptied
-    table: Table,
+    table: Index,
     // how many have been taken out since
     drained: u32,
 }
@@ -54,7 +54,7 @@ impl Buffer {
         Ok(Buffer {
             capacity: c,
             words: VecDeque::with_capacity(alloc, c as usize)?,
-            table: Table::new(alloc, 2 * c)?,
+            table: Index::new(alloc, 2 * c)?,
             drained: 0,
         })
     }
@@ -199,7 +199,7 @@ fn left(place: Option<u32>, drained: u32) -> Option<usize>
 }
 
 // Empties the table, and gives it the place of each word.
-fn fill(table: &mut Table, words: &VecDeque<Stored>)
+fn fill(table: &mut Index, words: &VecDeque<Stored>)
     requires apart { Apart words.now.items }
     requires room { length words.now.items ≤ table.old.room }
     requires most { length words.now.items ≤ 65536 }

@@ -3,6 +3,7 @@
 
 pub mod buffer;
 mod entry;
+mod index;
 mod lanes;
 pub mod stored;
 mod table;

@@ -1,0 +1,6 @@
+use Rattle.dl_fly.proofs.Free.{AreSlots-changed}
+use Rattle.dl_fly.proofs.flights.Flights.drain.Goals as goal
+
+pub invariant_of-self : goal.invariant_of-self
+invariant_of-self g c =
+    AreSlots-changed _ c.self.inside.slots.items _ c.args.k c.drain.new.slot c.index_mut.result.now c.index_mut.ensures.value c.drain.ensures.free c.self.invariant
