@@ -9,7 +9,7 @@ from lib.conditions import ANY, Atom, Ended
 from lib.engine import Engine, Options
 from lib.layout import SP, TP, Stacks
 from lib.play import play
-from small_programs import EXIT, SHARED, SPAWN, addi, beq, call, image_of, lw, sw
+from small_programs import EXIT, SHARED, SPAWN, addi, beq, bne, call, image_of, lw, sw
 from test_search import CAN_BUILD, NO_COMPILER
 
 FIRST_TP, TP_OF_OTHER, SP_OF_FIRST, SP_OF_OTHER = 0x700, 0x7C0, 0x680, 0x7A0
@@ -64,6 +64,13 @@ class Search(unittest.TestCase):
     def test_down_and_up_again(self):
         """So nothing of it is left at the next place."""
         self.assertEqual(self.sp_at_end(program(if_early=[addi(SP, SP, -48), addi(SP, SP, 48)]), 1, bound=1), SP_OF_OTHER - 48)
+
+    def test_down_and_up_again_in_a_loop(self):
+        """The second round takes sp below the stack, by instructions that have been done before."""
+        add = 8 << 20 | SP << 15 | SP << 7 | 0x33
+        sub = 0x20 << 25 | add
+        rounds = [addi(8, 0, -16), addi(9, 0, -80), add, sub, addi(8, 8, -32), bne(8, 9, -12)]
+        self.assertEqual(self.sp_at_end(program(if_early=rounds), 1, bound=1), SP_OF_OTHER - 48)
 
     def test_sp_is_loaded(self):
         self.assertEqual(self.sp_at_end(program(if_early=[lw(SP, FALSE_WORD)]), 1, bound=1), OTHER_BEGINS - 4)
