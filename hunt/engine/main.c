@@ -325,12 +325,14 @@ static void take_interrupts(void) {
     signal(SIGXFSZ, SIG_IGN); /* a search that can't be saved goes on */
 }
 
-/* A table that has grown leaves its room to others. Were it given back, the system would clear pages anew, and meanwhile hold up all
-   of the crew. */
+/* A table that has grown leaves its room to others, and memory is asked for in large pieces. Else the system would clear pages and change
+   its maps again and again, and meanwhile hold up all of the crew. */
 static void keep_freed_memory(void) {
 #ifdef __GLIBC__
     mallopt(M_MMAP_THRESHOLD, 1 << 25);
     mallopt(M_TRIM_THRESHOLD, INT_MAX);
+    mallopt(M_TOP_PAD, 1 << 26);
+    mallopt(M_ARENA_MAX, 1);
 #endif
 }
 
