@@ -11,7 +11,8 @@ from lib.conditions import BadCondition, Ended, read_condition
 from lib.engine import Engine, Options
 from lib.symbols import Names
 from lib.trace import open_trace
-from small_programs import ECALL, SHARED, Machine, end_chunk, image_of, random_program, state_of, step, take_step, waiting_step
+from small_programs import (ECALL, EXIT, SHARED, Machine, addi, bne, call, end_chunk, image_of, random_program, state_of, step, sw, take_step,
+                            waiting_step)
 from test_search import CAN_BUILD, NO_COMPILER, command
 
 RING = support.TOP / "hunt/examples/no-second-look"
@@ -71,6 +72,14 @@ class EveryOrder(unittest.TestCase):
                 self.assertTrue(Ended(told.account).meets(condition, False), (seed, pair))
                 (self.assertEqual if costs_are_equal else self.assertLessEqual)(bound, found[pair], (seed, pair))
         return len(found)
+
+    def test_value_of_a_moment_in_a_loop(self):
+        """The second round stores 7, by instructions that have been done before, and then 1 again. No other thread looks at the word."""
+        image = image_of({4 * j: word for j, word in enumerate([
+            addi(8, 0, 5), addi(9, 0, 1), addi(5, 0, 9), sw(8, SHARED), sw(9, SHARED), addi(8, 8, 2), bne(8, 5, -12), *call(EXIT)])})
+        for value, how in (5, "found"), (7, "found"), (9, "all"):
+            with Engine(image, read_condition(["ever word %X = %d" % (SHARED, value)], Names(image)), Options(steps=100000)) as engine:
+                self.assertEqual(engine.search(4, 10**6, 1 << 20, 60).how, how)
 
     def test_pairs_of_values(self):
         met = sum(self.compare(random_program(seed, step)[0], seed, True) for seed in (1, 3, 6, 10, 12, 14, 19, 24, 25, 30))
