@@ -145,7 +145,7 @@ class Found(InScratch):
 
     def test_the_command_is_short(self):
         with mock.patch.dict(os.environ, PATH="/usr/bin:/bin", DELOREAN="/home/me/delorean/bin/delorean"):
-            self.assertEqual(command_in("/home/me/work/prog.found"), "../../delorean/bin/delorean")
+            self.assertEqual(command_in("/home/me/src/prog.found"), "../../delorean/bin/delorean")
             self.assertEqual(command_in("/tmp/prog.found"), "/home/me/delorean/bin/delorean")
 
     def test_time(self):
