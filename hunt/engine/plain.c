@@ -3,6 +3,9 @@
 #include "segments.h"
 #include "stacks.h"
 
+/* Parts of the loop below, where a call would cost a tenth. */
+#define PART __attribute__((always_inline)) static inline
+
 /* A thread within plain instructions. Its pc is kept apart from it. */
 struct plain {
     struct machine *machine;
@@ -10,16 +13,16 @@ struct plain {
     uint32_t number, context, pc;
 };
 
-static inline bool goes_to(struct plain *p, uint32_t pc) {
+PART bool goes_to(struct plain *p, uint32_t pc) {
     if (pc % 4)
         return false;
     p->pc = pc;
     return true;
 }
 
-static inline bool branches(struct plain *p, bool is_taken, uint32_t value) { return goes_to(p, is_taken ? p->pc + value : p->pc + 4); }
+PART bool branches(struct plain *p, bool is_taken, uint32_t value) { return goes_to(p, is_taken ? p->pc + value : p->pc + 4); }
 
-static inline bool jumps(struct plain *p, uint32_t rd, uint32_t pc) {
+PART bool jumps(struct plain *p, uint32_t rd, uint32_t pc) {
     uint32_t after = p->pc + 4;
     if (!goes_to(p, pc))
         return false;
@@ -28,18 +31,18 @@ static inline bool jumps(struct plain *p, uint32_t rd, uint32_t pc) {
     return true;
 }
 
-static inline bool goes_on_with(struct plain *p, uint32_t rd, uint32_t v) {
+PART bool goes_on_with(struct plain *p, uint32_t rd, uint32_t v) {
     p->thread->x[rd] = v;
     p->thread->x[0] = 0;
     p->pc += 4;
     return true;
 }
 
-static inline bool is_plain_access(const struct plain *p, uint32_t address, uint32_t width) {
+PART bool is_plain_access(const struct plain *p, uint32_t address, uint32_t width) {
     return address < p->machine->setup->size && address % width == 0 && !is_place_word(address);
 }
 
-static inline bool loads(struct plain *p, const struct code *c, uint32_t address) {
+PART bool loads(struct plain *p, const struct code *c, uint32_t address) {
     if (!is_plain_access(p, address, width_of(c->operation)))
         return false;
     if (!is_known_load(touchers_of(address), p->context))
@@ -47,7 +50,7 @@ static inline bool loads(struct plain *p, const struct code *c, uint32_t address
     return goes_on_with(p, c->rd, loaded(p->machine, address, c->operation));
 }
 
-static inline bool stores(struct plain *p, const struct code *c, uint32_t address) {
+PART bool stores(struct plain *p, const struct code *c, uint32_t address) {
     if (!is_plain_access(p, address, width_of(c->operation)))
         return false;
     if (!is_known_store(touchers_of(address), p->context))
@@ -57,9 +60,8 @@ static inline bool stores(struct plain *p, const struct code *c, uint32_t addres
     return true;
 }
 
-/* False: a jump that faults, or an access that isn't plain, and nothing is done. It is part of the loop below, where a call would cost a
-   tenth. */
-__attribute__((always_inline)) static inline bool did(struct plain *p, const struct code *c) {
+/* False: a jump that faults, or an access that isn't plain, and nothing is done. */
+PART bool did(struct plain *p, const struct code *c) {
     uint32_t a = p->thread->x[c->rs1], b = p->thread->x[c->rs2], value = (uint32_t)c->value;
     switch (c->operation) {
     case LUI: return goes_on_with(p, c->rd, value);
@@ -101,12 +103,12 @@ void run_local(struct machine *m, uint32_t number) {
     p.thread->pc = p.pc;
 }
 
-static inline bool is_at(const struct thread *mark, const struct plain *p) {
+PART bool is_at(const struct thread *mark, const struct plain *p) {
     return p->pc == mark->pc && memcmp(p->thread->x, mark->x, sizeof mark->x) == 0;
 }
 
 /* Whether sp, which is another than it was, is below the stack. */
-static inline bool is_below(struct stretch *stretch, const struct thread *t) {
+PART bool is_below(struct stretch *stretch, const struct thread *t) {
     stretch->is_below = stretch->stacks->first_tp != 0 && is_below_stack(stretch->stacks, t);
     return stretch->is_below;
 }
