@@ -6,7 +6,7 @@
 #include <stdlib.h>
 #include <sys/mman.h>
 
-enum { COSTS = 256, OPEN = 256, MARKS = 512, PARTS = 32, FIRST_PLACES = 16 };
+enum { COSTS = 256, OPEN = 256, MARKS = 512, PARTS = 256, FIRST_PLACES = 16 };
 
 /* The low byte of b is the cost and 1; the next bit is set while the state's turn goes on. */
 struct entry { _Atomic uint64_t a, b; };
