@@ -8,7 +8,6 @@ ghost use Rattle.dl_thread.specs.Performing.{SeesFor, bytes_for, did_for, thread
 use crate::access::{load_word, store_part, taken};
 use crate::answer::Did;
 use crate::arithmetic::combined;
-use crate::operation::operation_of_word;
 use crate::refusal::{has_word, refusal};
 use crate::sight::{Full, View};
 use crate::state::Thread;
@@ -49,7 +48,7 @@ fn run<V: View>(word: u32, t: &mut Thread, v: &mut V) -> Did
         (V.sight v.new).bytes ≡ after result s.bytes (bytes_for s (operation_of t.old word) t.old) }
     ensures view { SeesFor V.Read V.Wrote (V.sight v.old) (operation_of t.old word) t.old result v.old v.new }
 {
-    let operation = operation_of_word(word, t);
+    let operation = v.operation(word, t);
     match refusal(&operation, v.size()) {
         Some(kind) => Did::Serial(kind),
         None => perform(operation, t, v),

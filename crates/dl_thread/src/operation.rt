@@ -1,7 +1,7 @@
 //! The operation of an instruction, from the registers alone.
 ghost use Rattle.std.specs.Prelude.{◌≡◌};
 ghost use Rattle.spec_isa.specs.Arithmetic.{add, extended};
-ghost use Rattle.spec_isa.specs.Instruction.{operation_of};
+ghost use Rattle.spec_isa.specs.Instruction.{operation_found, operation_of};
 ghost use Rattle.spec_isa.specs.Operations.{branched, operation, register};
 
 use crate::arithmetic::{computed, extend, immediate, is_taken, shifted};
@@ -14,11 +14,18 @@ use spec_isa::operation::Operation;
 use spec_isa::thread::Kind;
 
 // What a fetched word is to do; one outside the table is illegal.
-#[inline(always)]
 pub(crate) fn operation_of_word(word: u32, t: &Thread) -> Operation
     ensures { result ≡ operation_of t.now word }
 {
-    match decode(word) {
+    operation_of_meaning(&decode(word), t)
+}
+
+// The same by what the word denotes.
+#[inline(always)]
+pub(crate) fn operation_of_meaning(meaning: &Option<Instr>, t: &Thread) -> Operation
+    ensures { result ≡ operation_found meaning.now t.now }
+{
+    match meaning {
         Some(instr) => operation_of_instr(instr, t),
         None => Operation::Stop(Kind::Fault(ILLEGAL)),
     }
@@ -26,10 +33,10 @@ pub(crate) fn operation_of_word(word: u32, t: &Thread) -> Operation
 
 // What an instruction is to do.
 #[inline(always)]
-fn operation_of_instr(instr: Instr, t: &Thread) -> Operation
-    ensures { result ≡ operation instr t.now }
+fn operation_of_instr(instr: &Instr, t: &Thread) -> Operation
+    ensures { result ≡ operation instr.now t.now }
 {
-    match instr {
+    match *instr {
         Instr::Lui { rd, imm } => onward(t, rd, imm.bits() << 12),
         Instr::Auipc { rd, imm } => onward(t, rd, t.pc().wrapping_add(imm.bits() << 12)),
         Instr::Jal { rd, offset } => jump(

@@ -2,7 +2,12 @@
 ghost use Rattle.std.specs.Prelude.{◌≡◌, ℕ, ◌/◌, false, length, OnOk, OnErr};
 ghost use Rattle.spec_isa.specs.Words.{Stored};
 ghost use Rattle.spec_isa.specs.Masks.{bytes_of};
+ghost use Rattle.spec_isa.specs.Instruction.{operation_of};
 ghost use Rattle.dl_thread.specs.Sight.{Sight, IsWord, Answers, Lays};
+
+use crate::operation::operation_of_word;
+use crate::state::Thread;
+use spec_isa::operation::Operation;
 
 /// There is no room for a store to a new word.
 #[derive(Clone, Copy, Debug, PartialEq, Eq)]
@@ -46,4 +51,12 @@ pub trait View {
         ensures wrote { OnOk result (Wrote self.old (bytes_of (word / 4) mask value) self.new) }
         ensures full { OnErr result ((sight self.old).room (word / 4) ≡ false) }
         ensures same { OnErr result (self.new ≡ self.old) };
+
+    /// What a fetched word is to do. A view may remember what words denote, as long as it shows the same and is the same.
+    fn operation(&mut self, word: u32, t: &Thread) -> Operation
+        ensures value { result ≡ operation_of t.now word }
+        ensures same { self.new ≡ self.old }
+    {
+        operation_of_word(word, t)
+    }
 }
