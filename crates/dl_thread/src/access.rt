@@ -22,6 +22,7 @@ pub(crate) fn load_word<V: View>(addr: u32, v: &mut V) -> Result<u32, u8>
 }
 
 // What a load's register takes from that word.
+#[inline(always)]
 pub(crate) fn taken(op: LoadOp, word: u32, addr: u32) -> u32
     ensures { result ≡ loaded op word addr }
 {

@@ -46,6 +46,7 @@ pub(crate) fn shifted(op: ShiftOp, a: u32, places: u32) -> u32
 }
 
 // What an operation gives for two registers.
+#[inline(always)]
 pub(crate) fn computed(op: RegisterOp, a: u32, b: u32) -> u32
     ensures { result ≡ register_result op a b }
 {

@@ -19,23 +19,39 @@ pub(crate) fn refusal(operation: &Operation, size: u32) -> Option<Kind>
     match *operation {
         Operation::Go { pc, .. } => (pc % 4 != 0).then_some(Kind::Fault(JUMP_MISALIGNED)),
         Operation::Stop(kind) => Some(kind),
-        Operation::Load { op, addr, .. } => refused_load(
-            size,
-            load_width(op),
-            addr,
-            reads_device(op, addr),
-        ),
-        Operation::Store { op, addr, .. } => refused_store(
-            size,
-            store_width(op),
-            addr,
-            writes_device(op, addr),
-        ),
+        Operation::Load { op, addr, .. } => load_refusal(size, op, addr),
+        Operation::Store { op, addr, .. } => store_refusal(size, op, addr),
         Operation::LoadReserved { addr, .. } => refused_load(size, 4, addr, false),
         Operation::StoreConditional { addr, .. } | Operation::Amo { addr, .. } => refused_store(
             size, 4, addr, false,
         ),
     }
+}
+
+// Why a load is serial. Most loads are of memory, below the devices, and are told apart first.
+#[inline(always)]
+#[tactic(auto, using(crate::proofs::Devices::no_device_loaded))]
+fn load_refusal(size: u32, op: LoadOp, addr: u32) -> Option<Kind>
+    ensures { result ≡ load_refusal size (load_size op) addr (is_device_load op addr) }
+{
+    let width = load_width(op);
+    if addr < MOMENT_ADDRESS && has_word(size, addr) && addr % width == 0 {
+        return None;
+    }
+    refused_load(size, width, addr, reads_device(op, addr))
+}
+
+// Why a store is serial, in the same way.
+#[inline(always)]
+#[tactic(auto, using(crate::proofs::Devices::no_device_stored))]
+fn store_refusal(size: u32, op: StoreOp, addr: u32) -> Option<Kind>
+    ensures { result ≡ store_refusal size (store_size op) addr (is_device_store op addr) }
+{
+    let width = store_width(op);
+    if addr < MOMENT_ADDRESS && has_word(size, addr) && addr % width == 0 {
+        return None;
+    }
+    refused_store(size, width, addr, writes_device(op, addr))
 }
 
 // Why a load of `width` bytes is serial.
@@ -70,7 +86,7 @@ fn refused_store(size: u32, width: u32, addr: u32, is_device: bool) -> Option<Ki
 pub(crate) fn has_word(size: u32, addr: u32) -> bool
     ensures { result ≡ is_inside size addr }
 {
-    size >= 4 && addr / 4 * 4 <= size - 4
+    addr < size / 4 * 4
 }
 
 // Only LW reads a device: the moment or the next input byte.
