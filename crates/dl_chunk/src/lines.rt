@@ -7,10 +7,12 @@ use std::alloc::{AllocError, Global};
 use std::marker::Model;
 use std::mem;
 
-// A signature, and the line marked last: most instructions mark that one again, which changes nothing.
+// A signature, and the lines marked last: most instructions mark those again, which changes nothing.
 #[derive(Drop)]
 pub(crate) struct Lines<G: Sig> {
     marked: G,
+    // that of the code and that of its data, which take turns
+    fetched: Option<u32>,
     last: Option<u32>,
 }
 
@@ -25,7 +27,7 @@ impl<G: Sig> Model for Lines<G> {
 
     ghost view = { λ l. G.marks l.marked };
 
-    ghost invariant = { λ l. IsLast l.last (G.marks l.marked) };
+    ghost invariant = { λ l. IsLast l.fetched (G.marks l.marked) × IsLast l.last (G.marks l.marked) };
 }
 
 impl<G: Sig> Lines<G> {
@@ -36,6 +38,7 @@ impl<G: Sig> Lines<G> {
     {
         Ok(Lines {
             marked: G::empty(alloc, bits)?,
+            fetched: None,
             last: None,
         })
     }
@@ -57,7 +60,18 @@ impl<G: Sig> Lines<G> {
         }
     }
 
-    #[tactic(auto, using(crate::proofs::Again::marked_again))]
+    // Marks the line of a word that was fetched.
+    #[inline(always)]
+    pub(crate) fn mark_fetched(&mut self, line: u32)
+        ensures { self.new ≡ insert line self.old }
+    {
+        match self.fetched {
+            Some(fetched) if fetched == line => {}
+            _ => self.fetch_other(line),
+        }
+    }
+
+    #[tactic(auto, using(crate::proofs::Again::marked_again, crate::proofs::Again::still_last))]
     fn mark_other(&mut self, line: u32)
         ensures { self.new ≡ insert line self.old }
     {
@@ -65,11 +79,21 @@ impl<G: Sig> Lines<G> {
         self.last = Some(line);
     }
 
+    #[tactic(auto, using(crate::proofs::Again::marked_again, crate::proofs::Again::still_last))]
+    #[inline(never)]
+    fn fetch_other(&mut self, line: u32)
+        ensures { self.new ≡ insert line self.old }
+    {
+        self.marked.insert(line);
+        self.fetched = Some(line);
+    }
+
     // Forgets every line.
     pub(crate) fn clear(&mut self)
         ensures { self.new ≡ nothing self.old.bits }
     {
         self.marked.clear();
+        self.fetched = None;
         self.last = None;
     }
 
@@ -78,6 +102,7 @@ impl<G: Sig> Lines<G> {
         ensures given { G.marks result ≡ self.old }
         ensures left { self.new ≡ G.marks marked }
     {
+        self.fetched = None;
         self.last = None;
         mem::replace(&mut self.marked, marked)
     }

@@ -1,5 +1,6 @@
 //! What a chunk stores and marks.
 ghost use Rattle.std.specs.Prelude.{◌≡◌, ◌≤◌, ◌/◌, ◌%◌, ◌+◌, true, false, IfOk, OnErr, OnOk, Some, None};
+ghost use Rattle.spec_isa.specs.Instruction.{operation_of};
 ghost use Rattle.spec_isa.specs.Masks.{bytes_of, over};
 ghost use Rattle.spec_isa.specs.Words.{Apart};
 ghost use Rattle.dl_wbuf.specs.Buffers.{has_room};
@@ -7,18 +8,20 @@ ghost use Rattle.spec_engine.specs.Signatures.{is_size, line, nothing};
 
 use crate::lines::Lines;
 use dl_sig::Sig;
-use dl_thread::Full;
+use dl_thread::{Code, Full, Operation, Thread};
 use dl_wbuf::Buffer;
 use std::alloc::{AllocError, Global};
 use std::marker::Model;
 
-// The words that a chunk of a sphere has stored, and the lines that it has read and stored to.
+// The words that a chunk of a sphere has stored, and the lines that it has read and stored to; beside them the code that was
+// run last, which outlives the chunk.
 #[derive(Drop)]
 pub(crate) struct Store<G: Sig> {
     sphere: u8,
     words: Buffer,
     reads: Lines<G>,
     writes: Lines<G>,
+    code: Code,
 }
 
 impl<G: Sig> Model for Store<G> {
@@ -50,6 +53,7 @@ impl<G: Sig> Store<G> {
             words: Buffer::new(alloc, c)?,
             reads: Lines::new(alloc, bits)?,
             writes: Lines::new(alloc, bits)?,
+            code: Code::new(alloc)?,
         })
     }
 
@@ -87,6 +91,15 @@ impl<G: Sig> Store<G> {
         self.writes.signature()
     }
 
+    // What a fetched word is to do.
+    #[inline(always)]
+    pub(crate) fn operation(&mut self, word: u32, t: &Thread) -> Operation
+        ensures value { result ≡ operation_of t.now word }
+        ensures same { self.new ≡ self.old }
+    {
+        self.code.operation(word, t)
+    }
+
     // The word at an address as it is seen through the words stored, `below` being what lies below.
     #[inline(always)]
     pub(crate) fn over(&self, addr: u32, below: u32) -> u32
@@ -113,9 +126,18 @@ impl<G: Sig> Store<G> {
         u32::from(self.sphere) * (1 << 19) + addr / 32
     }
 
-    // Marks the line of a word that was read.
+    // Marks the line of a word that was fetched to be run.
     #[inline(always)]
-    pub(crate) fn note_read(&mut self, addr: u32)
+    pub(crate) fn note_fetch(&mut self, addr: u32)
+        ensures { self.new ≡ with_read (Some (addr / 4)) self.old }
+    {
+        let line = self.line(addr);
+        self.reads.mark_fetched(line);
+    }
+
+    // Marks the line of a word that was loaded.
+    #[inline(always)]
+    pub(crate) fn note_load(&mut self, addr: u32)
         ensures { self.new ≡ with_read (Some (addr / 4)) self.old }
     {
         let line = self.line(addr);

@@ -1,14 +1,15 @@
 //! A base as a chunk on a core sees it: with the chunk's own words over it, and words held up by the flights that the core was
 //! told of.
-ghost use Rattle.std.specs.Prelude.{◌≡◌, Some};
+ghost use Rattle.std.specs.Prelude.{◌≡◌, ◌/◌, Some, length};
 ghost use Rattle.dl_thread.specs.Answer.{after, did, thread_next};
+ghost use Rattle.dl_thread.specs.Sight.{Answers, IsWord};
 ghost use Rattle.dl_chunk.specs.Seeing.{left, shown};
 
 use crate::base::Base;
 use crate::store::Store;
 use dl_fly::Flights;
 use dl_sig::Sig;
-use dl_thread::{Did, Full, Thread, View, one};
+use dl_thread::{Did, Full, Operation, Thread, View, one};
 
 // The base and the flights, beside what the chunk stores and marks.
 #[derive(Drop)]
@@ -17,6 +18,23 @@ struct Seen<'a, B: Base, G: Sig> {
     flights: &'a Flights<G>,
     core: u8,
     store: &'a mut Store<G>,
+}
+
+impl<'a, B: Base, G: Sig> Seen<'a, B, G> {
+    // The word at an address, or the flight that holds it up.
+    #[inline(always)]
+    fn word(&self, addr: u32) -> Result<u32, u8>
+        requires { let s = shown (B.bytes self.now.base.now) self.now.flights.now.slots self.now.core self.now.store.now in
+            IsWord (length s.bytes) addr }
+        ensures { let s = shown (B.bytes self.now.base.now) self.now.flights.now.slots self.now.core self.now.store.now in
+            Answers s (addr / 4) result }
+    {
+        if let Some(flight) = self.flights.holder(self.core, self.store.line(addr)) {
+            return Err(flight);
+        }
+        let word = self.store.over(addr, self.base.word(addr));
+        Ok(word)
+    }
 }
 
 impl<'a, B: Base, G: Sig> View for Seen<'a, B, G> {
@@ -40,22 +58,34 @@ impl<'a, B: Base, G: Sig> View for Seen<'a, B, G> {
 
     #[inline(always)]
     fn fetch(&mut self, addr: u32) -> Result<u32, u8> {
-        if let Some(flight) = self.flights.holder(self.core, self.store.line(addr)) {
-            return Err(flight);
+        match self.word(addr) {
+            Ok(word) => {
+                self.store.note_fetch(addr);
+                Ok(word)
+            }
+            Err(flight) => Err(flight),
         }
-        let word = self.store.over(addr, self.base.word(addr));
-        self.store.note_read(addr);
-        Ok(word)
     }
 
     #[inline(always)]
     fn load(&mut self, word: u32) -> Result<u32, u8> {
-        self.fetch(word)
+        match self.word(word) {
+            Ok(loaded) => {
+                self.store.note_load(word);
+                Ok(loaded)
+            }
+            Err(flight) => Err(flight),
+        }
     }
 
     #[inline(always)]
     fn store(&mut self, word: u32, mask: u8, value: u32) -> Result<(), Full> {
         self.store.put(word, mask, value)
+    }
+
+    #[inline(always)]
+    fn operation(&mut self, word: u32, t: &Thread) -> Operation {
+        self.store.operation(word, t)
     }
 }
 

@@ -1,13 +1,13 @@
 use Rattle.std.proofs.Common.{ℕ, sym, ap, ◌∙◌}
 use Rattle.spec_engine.specs.Flights.{first_slot, bounces}
 use Rattle.dl_chunk.proofs.Showing.{within, word_found}
-use Rattle.dl_chunk.proofs.view.SeenView.fetch.Goals as goal
+use Rattle.dl_chunk.proofs.view.Seen.word.Goals as goal
 
 pub word-requires-clause-inside : goal.word-requires-clause-inside
 word-requires-clause-inside g c = within (g.B.Base.bytes c.args.self.now.base.now) c.args.self.now.store.now.words.words c.args.addr c.requires.inside
 
-pub returns-clause-value : goal.returns-clause-value
-returns-clause-value g c =
+pub returns : goal.returns
+returns g c =
     let m = g.B.Base.bytes c.args.self.now.base.now in
     let ws = c.args.self.now.store.now.words.words in
     let a = c.args.addr in (
