@@ -12,7 +12,7 @@ use crate::looking::look_one;
 use crate::overlay::run_one;
 use dl_entry::{Load as LoadEntry, Loads, OutOfMemory};
 use dl_mem::Memory;
-use dl_thread::{Did, Load, Thread};
+use dl_thread::{Code, Did, Load, Thread};
 use dl_wbuf::Buffer;
 use std::alloc::Global;
 
@@ -44,6 +44,7 @@ impl Chunk {
         limit: u32,
         memory: &Memory,
         words: &mut Buffer,
+        code: &mut Code,
     ) -> Result<(), OutOfMemory>
         requires least { 1 ≤ limit }
         requires most { limit ≤ words.old.capacity }
@@ -53,7 +54,7 @@ impl Chunk {
     {
         words.clear();
         while self.n < limit {
-            if !self.step(memory, words)? {
+            if !self.step(memory, words, code)? {
                 return Ok(());
             }
         }
@@ -67,6 +68,7 @@ impl Chunk {
         limit: u32,
         memory: &Memory,
         words: &mut Buffer,
+        code: &mut Code,
         looked: &mut Vec<u32>,
     ) -> Result<(), OutOfMemory>
         requires least { 1 ≤ limit }
@@ -80,7 +82,7 @@ impl Chunk {
         words.clear();
         looked.clear();
         while self.n < limit {
-            if !self.look_step(memory, words, looked)? {
+            if !self.look_step(memory, words, code, looked)? {
                 return Ok(());
             }
         }
@@ -88,7 +90,13 @@ impl Chunk {
     }
 
     // Runs one instruction more, unless it is serial, and tells whether it did.
-    fn step(&mut self, memory: &Memory, words: &mut Buffer) -> Result<bool, OutOfMemory>
+    #[inline(always)]
+    fn step(
+        &mut self,
+        memory: &Memory,
+        words: &mut Buffer,
+        code: &mut Code,
+    ) -> Result<bool, OutOfMemory>
         requires few { length words.old.words < words.old.capacity }
         requires count { self.old.n + 1 < 2 ^ 32 }
         ensures chunk { (r : Run) → self.old ≡ chunk_of r → words.old.words ≡ r.words →
@@ -100,7 +108,7 @@ impl Chunk {
         ensures serial { IfOk result (λ went. went ≡ false →
             IsSome (next_kind self.old.thread (lays memory.now words.old.words))) }
     {
-        match run_one(&mut self.thread, memory, words) {
+        match run_one(&mut self.thread, memory, words, code) {
             Did::Next(load) => {
                 note_load(&mut self.loads, load)?;
                 self.n += 1;
@@ -116,6 +124,7 @@ impl Chunk {
         &mut self,
         memory: &Memory,
         words: &mut Buffer,
+        code: &mut Code,
         looked: &mut Vec<u32>,
     ) -> Result<bool, OutOfMemory>
         requires few { length words.old.words < words.old.capacity }
@@ -131,7 +140,7 @@ impl Chunk {
         ensures looked { (a : ℕ) → IfOk result (λ _. has looked.new.items a
             ≡ (has looked.old.items a || looks_at self.old.thread (lays memory.now words.old.words) a)) }
     {
-        let look = look_one(&mut self.thread, memory, words);
+        let look = look_one(&mut self.thread, memory, words, code);
         look.looked.put_after(looked)?;
         match look.did {
             Did::Next(load) => {

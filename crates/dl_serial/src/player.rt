@@ -25,6 +25,7 @@ use dl_kernel::{InOrder, Past, Snapshot, State, thread_at};
 use dl_mem::Memory;
 use dl_mode::{Mode, Noting};
 use dl_replay::Replayer;
+use dl_thread::Code;
 use dl_wbuf::Buffer;
 use spec_log::Log;
 use spec_play::WalkEnd;
@@ -37,6 +38,8 @@ pub struct Player<M: Mode> {
     count: u32,
     replayer: Replayer<M>,
     sphere: Sphere,
+    // what was run last, of whatever thread
+    code: Code,
 }
 
 impl<M: Mode> Model for Player<M> {
@@ -94,6 +97,7 @@ impl<M: Noting> Player<M> {
                 stores,
                 words,
             },
+            code: Code::new(alloc)?,
         })
     }
 }
@@ -137,7 +141,13 @@ impl<M: Mode> Player<M> {
         let limit = self.replayer.limit(number, thread.commits(), false);
         let mut chunk = Chunk::new(self.sphere.past.alloc, &thread);
         let words = &mut self.sphere.words;
-        chunk.look(limit, &state.memory, words, &mut footprint.looked)?;
+        chunk.look(
+            limit,
+            &state.memory,
+            words,
+            &mut self.code,
+            &mut footprint.looked,
+        )?;
         note_words(words, &mut footprint.stored)?;
         if chunk.n == 0 {
             return serve_step(&mut self.replayer, &mut self.sphere, number);
@@ -166,7 +176,7 @@ impl<M: Mode> Player<M> {
         let thread = thread_at(&state.threads, number);
         let limit = self.replayer.limit(number, thread.commits(), false);
         let mut chunk = Chunk::new(self.sphere.past.alloc, &thread);
-        chunk.run(limit, &state.memory, &mut self.sphere.words)?;
+        chunk.run(limit, &state.memory, &mut self.sphere.words, &mut self.code)?;
         if chunk.n == 0 {
             return serve_step(&mut self.replayer, &mut self.sphere, number);
         }
