@@ -8,10 +8,10 @@ ghost use Rattle.spec_strata.specs.Footprints.{looks, looks_at};
 ghost use Rattle.dl_serial.specs.Chunks.{HasRun, chunk_of};
 ghost use Rattle.dl_serial.specs.Looks.{has};
 
+use crate::base::Base;
 use crate::looking::look_one;
 use crate::overlay::run_one;
 use dl_entry::{Load as LoadEntry, Loads, OutOfMemory};
-use dl_mem::Memory;
 use dl_thread::{Code, Did, Load, Thread};
 use dl_wbuf::Buffer;
 use std::alloc::Global;
@@ -39,10 +39,11 @@ impl Chunk {
 
     /// Runs up to so many instructions on a memory, and none from the first serial one on. The words are then those that
     /// it stored, and none from before.
+    #[inline(always)]
     pub fn run(
         &mut self,
         limit: u32,
-        memory: &Memory,
+        memory: &Base,
         words: &mut Buffer,
         code: &mut Code,
     ) -> Result<(), OutOfMemory>
@@ -66,7 +67,7 @@ impl Chunk {
     pub fn look(
         &mut self,
         limit: u32,
-        memory: &Memory,
+        memory: &Base,
         words: &mut Buffer,
         code: &mut Code,
         looked: &mut Vec<u32>,
@@ -93,7 +94,7 @@ impl Chunk {
     #[inline(always)]
     fn step(
         &mut self,
-        memory: &Memory,
+        memory: &Base,
         words: &mut Buffer,
         code: &mut Code,
     ) -> Result<bool, OutOfMemory>
@@ -122,7 +123,7 @@ impl Chunk {
     // Does the same, and notes the words that the instruction looks at.
     fn look_step(
         &mut self,
-        memory: &Memory,
+        memory: &Base,
         words: &mut Buffer,
         code: &mut Code,
         looked: &mut Vec<u32>,

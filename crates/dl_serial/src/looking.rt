@@ -6,9 +6,9 @@ ghost use Rattle.dl_thread.specs.Answer.{after, did, store_laid, store_made, thr
 ghost use Rattle.dl_serial.specs.Overlays.{sight_of, with_store};
 ghost use Rattle.dl_serial.specs.Looks.{is_looked};
 
+use crate::base::Base;
 use crate::looked::Looked;
 use crate::overlay::Overlay;
-use dl_mem::Memory;
 use dl_thread::{Code, Did, Full, Operation, Thread, View, one};
 use dl_wbuf::Buffer;
 
@@ -65,7 +65,7 @@ pub struct Look {
 
 /// One instruction of a thread over the memory with the words that its chunk has stored. One that is serial isn't run, but
 /// its word is looked at.
-pub fn look_one(thread: &mut Thread, memory: &Memory, words: &mut Buffer, code: &mut Code) -> Look
+pub fn look_one(thread: &mut Thread, memory: &Base, words: &mut Buffer, code: &mut Code) -> Look
     ensures did { result.did ≡ did (sight_of memory.now words.old) thread.old }
     ensures thread { thread.new ≡ after result.did thread.old (thread_next (sight_of memory.now words.old) thread.old) }
     ensures words { let s = sight_of memory.now words.old in

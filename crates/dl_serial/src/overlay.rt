@@ -6,6 +6,7 @@ ghost use Rattle.dl_thread.specs.Answer.{after, did, store_laid, store_made, thr
 ghost use Rattle.dl_thread.specs.Sight.{IsWord};
 ghost use Rattle.dl_serial.specs.Overlays.{sight_of, with_store};
 
+use crate::base::Base;
 use dl_mem::Memory;
 use dl_thread::{Code, Did, Full, Operation, Thread, View, one};
 use dl_wbuf::Buffer;
@@ -13,7 +14,7 @@ use dl_wbuf::Buffer;
 // A memory, and the words that a chunk has stored, which aren't in it yet; beside them the code that was run last.
 #[derive(Drop)]
 pub(crate) struct Overlay<'a> {
-    pub memory: &'a Memory,
+    pub memory: &'a Base<'a>,
     pub words: &'a mut Buffer,
     pub code: &'a mut Code,
 }
@@ -73,7 +74,7 @@ impl<'a> View for Overlay<'a> {
 
 /// One instruction of a thread over the memory with the words that its chunk has stored.
 #[inline(always)]
-pub fn run_one(thread: &mut Thread, memory: &Memory, words: &mut Buffer, code: &mut Code) -> Did
+pub fn run_one(thread: &mut Thread, memory: &Base, words: &mut Buffer, code: &mut Code) -> Did
     ensures did { result ≡ did (sight_of memory.now words.old) thread.old }
     ensures thread { thread.new ≡ after result thread.old (thread_next (sight_of memory.now words.old) thread.old) }
     ensures words { let s = sight_of memory.now words.old in

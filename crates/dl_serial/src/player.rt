@@ -14,6 +14,7 @@ ghost use Rattle.dl_serial.specs.Playing.{HasLooked, advanced, played_more};
 ghost use Rattle.dl_serial.specs.Starts.{CanGoOn};
 ghost use Rattle.dl_serial.specs.Walked.{walked_in};
 
+use crate::base::Base;
 use crate::chunk::Chunk;
 use crate::committing::{commit_chunk, serve_dma, serve_step};
 use crate::footprint::Footprint;
@@ -140,14 +141,9 @@ impl<M: Mode> Player<M> {
         let thread = thread_at(&state.threads, number);
         let limit = self.replayer.limit(number, thread.commits(), false);
         let mut chunk = Chunk::new(self.sphere.past.alloc, &thread);
+        let base = Base::new(&state.memory);
         let words = &mut self.sphere.words;
-        chunk.look(
-            limit,
-            &state.memory,
-            words,
-            &mut self.code,
-            &mut footprint.looked,
-        )?;
+        chunk.look(limit, &base, words, &mut self.code, &mut footprint.looked)?;
         note_words(words, &mut footprint.stored)?;
         if chunk.n == 0 {
             return serve_step(&mut self.replayer, &mut self.sphere, number);
@@ -176,7 +172,8 @@ impl<M: Mode> Player<M> {
         let thread = thread_at(&state.threads, number);
         let limit = self.replayer.limit(number, thread.commits(), false);
         let mut chunk = Chunk::new(self.sphere.past.alloc, &thread);
-        chunk.run(limit, &state.memory, &mut self.sphere.words, &mut self.code)?;
+        let base = Base::new(&state.memory);
+        chunk.run(limit, &base, &mut self.sphere.words, &mut self.code)?;
         if chunk.n == 0 {
             return serve_step(&mut self.replayer, &mut self.sphere, number);
         }
