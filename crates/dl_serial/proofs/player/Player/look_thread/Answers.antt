@@ -1,6 +1,5 @@
 use Rattle.std.proofs.Common.{◌≡◌, ◌<◌, ◌≤◌, List, [], length, sym, ap, ◌∙◌, subst, arith}
 use Rattle.dl_entry.specs.declared.Actor.{Actor}
-use Rattle.spec_isa.specs.declared.thread.Parts.{Parts}
 use Rattle.spec_isa.specs.Words.{Stored, holds}
 use Rattle.spec_isa.specs.Runs.{Run, run}
 use Rattle.spec_play.specs.Plays.{settled}
