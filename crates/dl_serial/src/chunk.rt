@@ -8,11 +8,11 @@ ghost use Rattle.spec_strata.specs.Footprints.{looks, looks_at};
 ghost use Rattle.dl_serial.specs.Chunks.{HasRun, chunk_of};
 ghost use Rattle.dl_serial.specs.Looks.{has};
 
+use crate::base::Base;
 use crate::looking::look_one;
 use crate::overlay::run_one;
 use dl_entry::{Load as LoadEntry, Loads, OutOfMemory};
-use dl_mem::Memory;
-use dl_thread::{Did, Load, Thread};
+use dl_thread::{Code, Did, Load, Thread};
 use dl_wbuf::Buffer;
 use std::alloc::Global;
 
@@ -39,11 +39,13 @@ impl Chunk {
 
     /// Runs up to so many instructions on a memory, and none from the first serial one on. The words are then those that
     /// it stored, and none from before.
+    #[inline(always)]
     pub fn run(
         &mut self,
         limit: u32,
-        memory: &Memory,
+        memory: &Base,
         words: &mut Buffer,
+        code: &mut Code,
     ) -> Result<(), OutOfMemory>
         requires least { 1 ≤ limit }
         requires most { limit ≤ words.old.capacity }
@@ -53,7 +55,7 @@ impl Chunk {
     {
         words.clear();
         while self.n < limit {
-            if !self.step(memory, words)? {
+            if !self.step(memory, words, code)? {
                 return Ok(());
             }
         }
@@ -65,8 +67,9 @@ impl Chunk {
     pub fn look(
         &mut self,
         limit: u32,
-        memory: &Memory,
+        memory: &Base,
         words: &mut Buffer,
+        code: &mut Code,
         looked: &mut Vec<u32>,
     ) -> Result<(), OutOfMemory>
         requires least { 1 ≤ limit }
@@ -80,7 +83,7 @@ impl Chunk {
         words.clear();
         looked.clear();
         while self.n < limit {
-            if !self.look_step(memory, words, looked)? {
+            if !self.look_step(memory, words, code, looked)? {
                 return Ok(());
             }
         }
@@ -88,7 +91,13 @@ impl Chunk {
     }
 
     // Runs one instruction more, unless it is serial, and tells whether it did.
-    fn step(&mut self, memory: &Memory, words: &mut Buffer) -> Result<bool, OutOfMemory>
+    #[inline(always)]
+    fn step(
+        &mut self,
+        memory: &Base,
+        words: &mut Buffer,
+        code: &mut Code,
+    ) -> Result<bool, OutOfMemory>
         requires few { length words.old.words < words.old.capacity }
         requires count { self.old.n + 1 < 2 ^ 32 }
         ensures chunk { (r : Run) → self.old ≡ chunk_of r → words.old.words ≡ r.words →
@@ -100,7 +109,7 @@ impl Chunk {
         ensures serial { IfOk result (λ went. went ≡ false →
             IsSome (next_kind self.old.thread (lays memory.now words.old.words))) }
     {
-        match run_one(&mut self.thread, memory, words) {
+        match run_one(&mut self.thread, memory, words, code) {
             Did::Next(load) => {
                 note_load(&mut self.loads, load)?;
                 self.n += 1;
@@ -114,8 +123,9 @@ impl Chunk {
     // Does the same, and notes the words that the instruction looks at.
     fn look_step(
         &mut self,
-        memory: &Memory,
+        memory: &Base,
         words: &mut Buffer,
+        code: &mut Code,
         looked: &mut Vec<u32>,
     ) -> Result<bool, OutOfMemory>
         requires few { length words.old.words < words.old.capacity }
@@ -131,7 +141,7 @@ impl Chunk {
         ensures looked { (a : ℕ) → IfOk result (λ _. has looked.new.items a
             ≡ (has looked.old.items a || looks_at self.old.thread (lays memory.now words.old.words) a)) }
     {
-        let look = look_one(&mut self.thread, memory, words);
+        let look = look_one(&mut self.thread, memory, words, code);
         look.looked.put_after(looked)?;
         match look.did {
             Did::Next(load) => {

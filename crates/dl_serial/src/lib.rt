@@ -2,6 +2,7 @@
 //! a time, without cores and flights.
 #![tactic(auto)]
 
+mod base;
 mod chunk;
 mod committing;
 mod footprint;

@@ -6,10 +6,10 @@ ghost use Rattle.dl_thread.specs.Answer.{after, did, store_laid, store_made, thr
 ghost use Rattle.dl_serial.specs.Overlays.{sight_of, with_store};
 ghost use Rattle.dl_serial.specs.Looks.{is_looked};
 
+use crate::base::Base;
 use crate::looked::Looked;
 use crate::overlay::Overlay;
-use dl_mem::Memory;
-use dl_thread::{Did, Full, Thread, View, one};
+use dl_thread::{Code, Did, Full, Operation, Thread, View, one};
 use dl_wbuf::Buffer;
 
 // An overlay, and the words that were read through it.
@@ -50,6 +50,10 @@ impl<'a> View for Looking<'a> {
     fn store(&mut self, word: u32, mask: u8, value: u32) -> Result<(), Full> {
         self.overlay.store(word, mask, value)
     }
+
+    fn operation(&mut self, word: u32, t: &Thread) -> Operation {
+        self.overlay.operation(word, t)
+    }
 }
 
 /// What an instruction came to, and the words that it looked at.
@@ -61,7 +65,7 @@ pub struct Look {
 
 /// One instruction of a thread over the memory with the words that its chunk has stored. One that is serial isn't run, but
 /// its word is looked at.
-pub fn look_one(thread: &mut Thread, memory: &Memory, words: &mut Buffer) -> Look
+pub fn look_one(thread: &mut Thread, memory: &Base, words: &mut Buffer, code: &mut Code) -> Look
     ensures did { result.did ≡ did (sight_of memory.now words.old) thread.old }
     ensures thread { thread.new ≡ after result.did thread.old (thread_next (sight_of memory.now words.old) thread.old) }
     ensures words { let s = sight_of memory.now words.old in
@@ -69,7 +73,11 @@ pub fn look_one(thread: &mut Thread, memory: &Memory, words: &mut Buffer) -> Loo
     ensures looked { (a : ℕ) → is_looked result.looked a ≡ looks_at thread.old (lays memory.now words.old.words) a }
 {
     let mut looking = Looking {
-        overlay: Overlay { memory, words },
+        overlay: Overlay {
+            memory,
+            words,
+            code,
+        },
         looked: Looked::nothing(),
     };
     let did = one(thread, &mut looking);

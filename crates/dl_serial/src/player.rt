@@ -14,6 +14,7 @@ ghost use Rattle.dl_serial.specs.Playing.{HasLooked, advanced, played_more};
 ghost use Rattle.dl_serial.specs.Starts.{CanGoOn};
 ghost use Rattle.dl_serial.specs.Walked.{walked_in};
 
+use crate::base::Base;
 use crate::chunk::Chunk;
 use crate::committing::{commit_chunk, serve_dma, serve_step};
 use crate::footprint::Footprint;
@@ -25,6 +26,7 @@ use dl_kernel::{InOrder, Past, Snapshot, State, thread_at};
 use dl_mem::Memory;
 use dl_mode::{Mode, Noting};
 use dl_replay::Replayer;
+use dl_thread::Code;
 use dl_wbuf::Buffer;
 use spec_log::Log;
 use spec_play::WalkEnd;
@@ -37,6 +39,8 @@ pub struct Player<M: Mode> {
     count: u32,
     replayer: Replayer<M>,
     sphere: Sphere,
+    // what was run last, of whatever thread
+    code: Code,
 }
 
 impl<M: Mode> Model for Player<M> {
@@ -94,6 +98,7 @@ impl<M: Noting> Player<M> {
                 stores,
                 words,
             },
+            code: Code::new(alloc)?,
         })
     }
 }
@@ -136,8 +141,9 @@ impl<M: Mode> Player<M> {
         let thread = thread_at(&state.threads, number);
         let limit = self.replayer.limit(number, thread.commits(), false);
         let mut chunk = Chunk::new(self.sphere.past.alloc, &thread);
+        let base = Base::new(&state.memory);
         let words = &mut self.sphere.words;
-        chunk.look(limit, &state.memory, words, &mut footprint.looked)?;
+        chunk.look(limit, &base, words, &mut self.code, &mut footprint.looked)?;
         note_words(words, &mut footprint.stored)?;
         if chunk.n == 0 {
             return serve_step(&mut self.replayer, &mut self.sphere, number);
@@ -166,7 +172,8 @@ impl<M: Mode> Player<M> {
         let thread = thread_at(&state.threads, number);
         let limit = self.replayer.limit(number, thread.commits(), false);
         let mut chunk = Chunk::new(self.sphere.past.alloc, &thread);
-        chunk.run(limit, &state.memory, &mut self.sphere.words)?;
+        let base = Base::new(&state.memory);
+        chunk.run(limit, &base, &mut self.sphere.words, &mut self.code)?;
         if chunk.n == 0 {
             return serve_step(&mut self.replayer, &mut self.sphere, number);
         }

@@ -1,6 +1,5 @@
 use Rattle.std.proofs.Common.{◌≡◌, ◌<◌, ◌≤◌, List, [], length, sym, ap, ◌∙◌, subst, arith}
 use Rattle.dl_entry.specs.declared.Actor.{Actor}
-use Rattle.spec_isa.specs.declared.thread.Parts.{Parts}
 use Rattle.spec_isa.specs.Words.{Stored, holds}
 use Rattle.spec_isa.specs.Runs.{Run, run}
 use Rattle.spec_play.specs.Plays.{settled}
@@ -47,7 +46,7 @@ returns-then-chunk-eq0-clause-played g c =
     let v = serial_verdict log y.progress y.used k y.threads t y.memory in
     let turn : y.now ≡ Turn k = ap (λ (p : Playing). p.played.now) c.self.view_is ∙ c.requires in
     let same : c.new-chunk.result.thread ≡ t = ap (λ (x : Chunk). x.thread) c.new-chunk.ensures in
-    let serial = rw same at (c.in_ok-look.ensures.ran.serial c.if-chunk-eq0.true) in
+    let serial = rw (same, c.new-base.ensures) at (c.in_ok-look.ensures.ran.serial c.if-chunk-eq0.true) in
     let new = c.serve_step.new in
     on-ok c.serve_step.result (HaveCome log (settled log y k v) (with_stores s.stores.items y (Actor.Thread k) (words_gone v)) new.replayer new.sphere) _
     (seen-played log y (settled log y k v) s.stores.items (thread_stores y k v) new.replayer new.sphere c.args.self.now (step-next log y k t turn there serial) c.self.view_is)
@@ -60,14 +59,14 @@ commit_chunk-requires-clause-few g c =
     let few : t.commits ≤ s.commits = c.self.invariant.0.replaying.bounded.threads c.args.number t c.thread_at-thread.ensures.thread in
     let kept : c.look.new.self.thread.commits ≡ t.commits =
     ap (λ (x : Chunk). x.thread.commits) c.in_ok-look.ensures.ran.chunk
-    ∙ run-keeps s.memory c.new-chunk.result.thread c.limit-limit.result
+    ∙ run-keeps c.new-base.result c.new-chunk.result.thread c.limit-limit.result
     ∙ ap (λ (x : Chunk). x.thread.commits) c.new-chunk.ensures
     in
     omega (arith, few, kept)
 
 pub commit_chunk-requires-clause-inside : goal.commit_chunk-requires-clause-inside
 commit_chunk-requires-clause-inside g c =
-    chunk-inside c.self.inside.sphere.past.state.memory c.new-chunk.result.thread c.limit-limit.result c.look.new.self c.look.new.words.words c.in_ok-look.ensures.ran
+    chunk-inside c.self.inside.sphere.past.state.memory c.new-chunk.result.thread c.limit-limit.result c.look.new.self c.look.new.words.words (rw c.new-base.ensures at c.in_ok-look.ensures.ran)
 
 pub returns-clause-played : goal.returns-clause-played
 returns-clause-played g c =
@@ -83,7 +82,7 @@ returns-clause-played g c =
     let limit = c.limit-limit.result in
     let size = c.look.new.self.n in
     let same : c.new-chunk.result.thread ≡ t = ap (λ (x : Chunk). x.thread) c.new-chunk.ensures in
-    let ran = rw same at c.in_ok-look.ensures.ran in
+    let ran = rw (same, c.new-base.ensures) at c.in_ok-look.ensures.ran in
     let ran_ : Run = run m t limit in
     let v = chunk_verdict log y.progress y.used k ran_ in
     let turn : y.now ≡ Turn k = ap (λ (p : Playing). p.played.now) c.self.view_is ∙ c.requires in
@@ -110,14 +109,14 @@ returns-clause-footprint g c =
     let limit = c.limit-limit.result in
     let f : Footprint = record { looked = c.look.new.looked; stored = c.note_words.new.numbers } in
     let same : c.new-chunk.result.thread ≡ t = ap (λ (x : Chunk). x.thread) c.new-chunk.ensures in
-    let ran = rw same at c.in_ok-look.ensures.ran in
+    let ran = rw (same, c.new-base.ensures) at c.in_ok-look.ensures.ran in
     ok-of c.commit_chunk.result (HasLooked c.args.self.now f)
     (has-looked log y s.stores.items c.args.self.now k t limit f c.self.view_is
     (record {
       turn = ap (λ (p : Playing). p.played.now) c.self.view_is ∙ c.requires;
       there = c.thread_at-thread.ensures.thread;
       whole = c.limit-limit.ensures.of_thread 0 s.past.state.used [] t (sym c.commits.ensures) ∙ whole-is 0 (cursor_of r s.past.state.used []) k t h.whole (whole-positive log k t.commits h.replaying.is_log);
-      looked = λ a. c.in_ok-look.ensures.looked a ∙ ap (λ (u : Parts). looks m u limit a) same;
+      looked = λ a. c.in_ok-look.ensures.looked a ∙ (λ i. looks (c.new-base.ensures i) (same i) limit a);
       stored = λ a. c.in_ok-note_words.ensures a ∙ ap (λ (ws : List Stored). holds ws a) ran.words_stored;
       inside = subst (AreInside (length m)) ran.words_stored (chunk-inside m t limit c.look.new.self c.look.new.words.words ran);
     }))
@@ -135,14 +134,14 @@ returns-then-chunk-eq0-clause-footprint g c =
     let limit = c.limit-limit.result in
     let f : Footprint = record { looked = c.look.new.looked; stored = c.note_words.new.numbers } in
     let same : c.new-chunk.result.thread ≡ t = ap (λ (x : Chunk). x.thread) c.new-chunk.ensures in
-    let ran = rw same at c.in_ok-look.ensures.ran in
+    let ran = rw (same, c.new-base.ensures) at c.in_ok-look.ensures.ran in
     ok-of c.serve_step.result (HasLooked c.args.self.now f)
     (has-looked log y s.stores.items c.args.self.now k t limit f c.self.view_is
     (record {
       turn = ap (λ (p : Playing). p.played.now) c.self.view_is ∙ c.requires;
       there = c.thread_at-thread.ensures.thread;
       whole = c.limit-limit.ensures.of_thread 0 s.past.state.used [] t (sym c.commits.ensures) ∙ whole-is 0 (cursor_of r s.past.state.used []) k t h.whole (whole-positive log k t.commits h.replaying.is_log);
-      looked = λ a. c.in_ok-look.ensures.looked a ∙ ap (λ (u : Parts). looks m u limit a) same;
+      looked = λ a. c.in_ok-look.ensures.looked a ∙ (λ i. looks (c.new-base.ensures i) (same i) limit a);
       stored = λ a. c.in_ok-note_words.ensures a ∙ ap (λ (ws : List Stored). holds ws a) ran.words_stored;
       inside = subst (AreInside (length m)) ran.words_stored (chunk-inside m t limit c.look.new.self c.look.new.words.words ran);
     }))

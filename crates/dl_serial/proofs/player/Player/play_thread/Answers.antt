@@ -41,7 +41,7 @@ returns-then-chunk-eq0 g c =
     let v = serial_verdict log y.progress y.used k y.threads t y.memory in
     let turn : y.now ≡ Turn k = ap (λ (p : Playing). p.played.now) c.self.view_is ∙ c.requires in
     let same : c.new-chunk.result.thread ≡ t = ap (λ (x : Chunk). x.thread) c.new-chunk.ensures in
-    let serial = rw same at (c.in_ok-run.ensures.ran.serial c.if-chunk-eq0.true) in
+    let serial = rw (same, c.new-base.ensures) at (c.in_ok-run.ensures.ran.serial c.if-chunk-eq0.true) in
     let new = c.serve_step.new in
     on-ok c.serve_step.result (HaveCome log (settled log y k v) (with_stores s.stores.items y (Actor.Thread k) (words_gone v)) new.replayer new.sphere) _
     (seen-played log y (settled log y k v) s.stores.items (thread_stores y k v) new.replayer new.sphere c.args.self.now (step-next log y k t turn there serial) c.self.view_is)
@@ -54,14 +54,14 @@ commit_chunk-requires-clause-few g c =
     let few : t.commits ≤ s.commits = c.self.invariant.0.replaying.bounded.threads c.args.number t c.thread_at-thread.ensures.thread in
     let kept : c.run.new.self.thread.commits ≡ t.commits =
     ap (λ (x : Chunk). x.thread.commits) c.in_ok-run.ensures.ran.chunk
-    ∙ run-keeps s.memory c.new-chunk.result.thread c.limit-limit.result
+    ∙ run-keeps c.new-base.result c.new-chunk.result.thread c.limit-limit.result
     ∙ ap (λ (x : Chunk). x.thread.commits) c.new-chunk.ensures
     in
     omega (arith, few, kept)
 
 pub commit_chunk-requires-clause-inside : goal.commit_chunk-requires-clause-inside
 commit_chunk-requires-clause-inside g c =
-    chunk-inside c.self.inside.sphere.past.state.memory c.new-chunk.result.thread c.limit-limit.result c.run.new.self c.run.new.words.words c.in_ok-run.ensures.ran
+    chunk-inside c.self.inside.sphere.past.state.memory c.new-chunk.result.thread c.limit-limit.result c.run.new.self c.run.new.words.words (rw c.new-base.ensures at c.in_ok-run.ensures.ran)
 
 pub returns : goal.returns
 returns g c =
@@ -77,7 +77,7 @@ returns g c =
     let limit = c.limit-limit.result in
     let size = c.run.new.self.n in
     let same : c.new-chunk.result.thread ≡ t = ap (λ (x : Chunk). x.thread) c.new-chunk.ensures in
-    let ran = rw same at c.in_ok-run.ensures.ran in
+    let ran = rw (same, c.new-base.ensures) at c.in_ok-run.ensures.ran in
     let ran_ : Run = run m t limit in
     let v = chunk_verdict log y.progress y.used k ran_ in
     let turn : y.now ≡ Turn k = ap (λ (p : Playing). p.played.now) c.self.view_is ∙ c.requires in
