@@ -16,6 +16,7 @@ pub use account::account_text;
 pub use commit_lists::CommitLists;
 pub use dl_entry::{Commit, Counts, End, OutOfMemory, Point, Request, SphereLine};
 pub use dl_mem::Memory;
+pub use dl_points::Points;
 pub use dl_thread::Threads;
 pub use replays::why_text;
 pub use report::report_text;

@@ -7,17 +7,18 @@ use crate::replies::put_replies;
 use crate::summary::put_summary;
 use crate::text::Text;
 use dl_entry::{CommitKind, Counts, OutOfMemory, Point, SphereLine};
+use dl_points::Points;
 use std::alloc::Global;
 
 /// The report of a run: a line for each serialisation point in order, then one for each reply that was given, then the
 /// summary.
 pub fn report_text(
     alloc: Global,
-    points: &[Point],
+    points: &Points,
     counts: &Counts,
     spheres: &[SphereLine],
 ) -> Result<Vec<u8>, OutOfMemory>
-    ensures { IfOk result (λ text. text.items ≡ report_of points.now counts.now spheres.now) }
+    ensures { IfOk result (λ text. text.items ≡ report_of points.now.items counts.now spheres.now) }
 {
     let mut text = Text::new(alloc);
     put_points(&mut text, points)?;
@@ -26,11 +27,14 @@ pub fn report_text(
     Ok(text.into_bytes())
 }
 
-fn put_points(text: &mut Text, points: &[Point]) -> Result<(), OutOfMemory>
-    ensures { OnOk result (text.new ≡ text.old ++ flat_map point_line points.now) }
+fn put_points(text: &mut Text, points: &Points) -> Result<(), OutOfMemory>
+    ensures { OnOk result (text.new ≡ text.old ++ flat_map point_line points.now.items) }
 {
-    for point in points {
-        put_point(text, *point)?;
+    for index in 0..points.len() {
+        let Some(point) = points.get(index) else {
+            unreachable!()
+        };
+        put_point(text, point)?;
     }
     Ok(())
 }

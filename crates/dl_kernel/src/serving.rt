@@ -204,12 +204,11 @@ fn output_of(alloc: Global, want: Option<Want<'_>>, input: &Input) -> Result<Out
 fn one_output(alloc: Global, channel: u32, bytes: &[u8]) -> Result<Outputs, OutOfMemory>
     ensures { IfOk result (λ outputs. outputs ≡ record { channel = channel; bytes = bytes.now } ∷ []) }
 {
-    let mut outputs = Outputs::new(alloc);
-    outputs.push(Output {
+    let output = Output {
         channel,
         bytes: Bytes::from_slice(alloc, bytes)?,
-    })?;
-    Ok(outputs)
+    };
+    Ok(Outputs::from_vec(Vec::from_array(alloc, [output])?))
 }
 
 // A call that the kernel does by itself.
@@ -289,10 +288,11 @@ fn loaded_by(
         step.request,
         with_register(&step.thread, rd, input.result),
     )?;
-    served.loads.push(Load {
+    let load = Load {
         address: address(&step.thread, rs1, offset),
         value: input.result,
-    })?;
+    };
+    served.loads = Loads::from_slice(alloc, &[load])?;
     Ok(served)
 }
 

@@ -127,7 +127,7 @@ impl<G: Sig> State<G> {
         ensures world { OnOk result (Some self.new ≡ option_map (λ h. left (grant_chunk self.old core h how)) (at self.old.cores core)) }
         ensures err { OnErr result (self.new ≡ self.old) }
     {
-        self.points.reserve(1)?;
+        self.points.reserve()?;
         let empty = G::empty(self.alloc, self.cores.bits())?;
         let chunk = self.cores.older(core);
         let (n, limit) = (chunk.n(), chunk.limit());
@@ -163,7 +163,7 @@ impl<G: Sig> State<G> {
         ensures world { OnOk result (Some self.new ≡ option_map (λ h. left (grant_serial self.old core h)) (at self.old.cores core)) }
         ensures err { OnErr result (self.new ≡ self.old) }
     {
-        self.points.reserve(1)?;
+        self.points.reserve()?;
         let mut writes = G::empty(self.alloc, self.cores.bits())?;
         let moment = self.counts.events;
         let cut = (moment % (1 << 32)) as u32;

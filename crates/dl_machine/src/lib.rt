@@ -18,6 +18,7 @@ mod turns;
 
 pub use dl_entry::{Counts, OutOfMemory, Point};
 pub use dl_fly::Flights;
+pub use dl_points::Points;
 pub use dl_sig::Sig;
 pub use dl_sphere::{Role, Sphere, SphereSetup};
 pub use machine::Machine;

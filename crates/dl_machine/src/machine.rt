@@ -12,8 +12,9 @@ ghost use Rattle.spec_protocol.specs.promises.Kept.{NoneIsDue};
 use crate::one_core::Held;
 use crate::setup::Setup;
 use crate::state::State;
-use dl_entry::{Counts, OutOfMemory, Point};
+use dl_entry::{Counts, OutOfMemory};
 use dl_fly::Flights;
+use dl_points::Points;
 use dl_sig::Sig;
 use dl_sphere::Sphere;
 use spec_protocol::{Event, Reply};
@@ -108,9 +109,9 @@ impl<G: Sig> Machine<G> {
     }
 
     /// The serialisation points so far. The plain and recorded spheres and the devices are those of doing them one at a time.
-    pub fn points(&self) -> &[Point]
-        ensures value { result.now ≡ self.now.points }
-        ensures serial { (s : SetupOf) (es : List Event) → IsRun s es self.now → IsSerial s self.now result.now }
+    pub fn points(&self) -> &Points
+        ensures value { result.now.items ≡ self.now.points }
+        ensures serial { (s : SetupOf) (es : List Event) → IsRun s es self.now → IsSerial s self.now result.now.items }
     {
         &self.state.points
     }

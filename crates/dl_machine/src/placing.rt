@@ -82,7 +82,7 @@ impl<G: Sig> State<G> {
             self.new ≡ left (raise_in self.old sphere thread value t)) }
         ensures err { OnErr result (self.new ≡ self.old) }
     {
-        self.points.reserve(1)?;
+        self.points.reserve()?;
         self.spheres.raise(sphere, thread, value)?;
         self.points.push_reserved(Point::Raise {
             moment: self.counts.events,

@@ -18,8 +18,9 @@ use crate::one_core::Held;
 use crate::setup::Setup;
 use crate::spheres::Spheres;
 use dl_dev::Devices;
-use dl_entry::{Bytes, Counts, OutOfMemory, Point};
+use dl_entry::{Bytes, Counts, OutOfMemory};
 use dl_fly::Flights;
+use dl_points::Points;
 use dl_sig::Sig;
 use spec_protocol::{Event, Reply};
 use std::alloc::Global;
@@ -34,7 +35,7 @@ pub(crate) struct State<G: Sig> {
     pub(crate) flights: Flights<G>,
     pub(crate) devices: Devices,
     pub(crate) counts: Counts,
-    pub(crate) points: Vec<Point>,
+    pub(crate) points: Points,
 }
 
 impl<G: Sig> Model for State<G> {
@@ -73,7 +74,7 @@ impl<G: Sig> State<G> {
             flights: Flights::new(alloc, setup.window, setup.cores)?,
             devices: Devices::new(alloc, input, setup.seed)?,
             counts: Counts::new(),
-            points: Vec::new(alloc),
+            points: Points::new(alloc),
         })
     }
 

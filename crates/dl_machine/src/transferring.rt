@@ -114,7 +114,7 @@ impl<G: Sig> State<G> {
             self.new ≡ left (dma_done self.old sphere (G.marks writes) v)) }
         ensures err { OnErr result (self.new ≡ self.old) }
     {
-        self.points.reserve(1)?;
+        self.points.reserve()?;
         match self.spheres.dma(sphere, &mut self.devices)? {
             Moved::Granted(words) | Moved::Piece(words) => {
                 self.points.push_reserved(Point::Commit {

@@ -52,11 +52,11 @@ fn entries(alloc: Global, loads: &[dl_thread::Load]) -> Result<Loads, OutOfMemor
     Ok(Loads::from_vec(entries))
 }
 
-// Adds entries, for which room is made at once.
+// Adds entries, for which room is made at once, and no more of it: a commit keeps them as long as the run.
 fn add_entries(entries: &mut Vec<Load>, loads: &[dl_thread::Load]) -> Result<(), OutOfMemory>
     ensures { OnOk result (entries.new.items ≡ entries.old.items ++ map entry_of loads.now) }
 {
-    entries.reserve(loads.len())?;
+    entries.reserve_exact(loads.len())?;
     for load in loads {
         entries.push_reserved(Load {
             address: load.addr,

@@ -1,6 +1,7 @@
 //! Reports of worked runs, and one with every reply.
-use dl_account::{Counts, Point, SphereLine, report_text};
-use dl_entry::{Actor, CommitKind, ReplyName, Why};
+use dl_account::{Counts, Point, Points, SphereLine, report_text};
+use dl_entry::{Actor, CommitKind, OutOfMemory, ReplyName, Why};
+use std::alloc::Global;
 use std::test::Fail;
 
 /// A run of one sphere, and its report.
@@ -16,10 +17,20 @@ struct Row {
 fn reports_are_those_of_the_worked_runs(rt: HostRuntime) -> Result<(), Fail> {
     for row in ROWS {
         let counts = counts_of(row.events, row.replies);
-        let report = report_text(rt.alloc(), row.points, &counts, &[row.sphere])?;
+        let points = points_of(rt.alloc(), row.points)?;
+        let report = report_text(rt.alloc(), &points, &counts, &[row.sphere])?;
         assert!(rt; report.as_slice() == row.report);
     }
     Ok(())
+}
+
+fn points_of(alloc: Global, given: &[Point]) -> Result<Points, OutOfMemory> {
+    let mut points = Points::new(alloc);
+    for point in given {
+        points.reserve()?;
+        points.push_reserved(*point);
+    }
+    Ok(points)
 }
 
 fn counts_of(events: u64, given: &[(ReplyName, u64)]) -> Counts {
@@ -41,7 +52,7 @@ fn every_reply_has_its_place(rt: HostRuntime) -> Result<(), Fail> {
         ],
     };
     let spheres = [SphereLine::Plain(3), SphereLine::Record(1)];
-    let report = report_text(rt.alloc(), &[], &counts, &spheres)?;
+    let report = report_text(rt.alloc(), &Points::new(rt.alloc()), &counts, &spheres)?;
     assert!(rt; report.as_slice() == EVERY_REPLY);
     Ok(())
 }

@@ -2,5 +2,5 @@ use Rattle.std.proofs.Common.{◌≡◌, ◌++◌, take, flat_map}
 use Rattle.dl_account.specs.Report.{point_line}
 use Rattle.dl_account.proofs.report.put_points.Given as goal
 
-abbrev pub invariant-loop-point : goal.invariant-loop-point
-invariant-loop-point l = l.text ≡ l.initial.text ++ flat_map point_line (take l.point-index l.points)
+abbrev pub invariant-loop-index : goal.invariant-loop-index
+invariant-loop-index l = l.text ≡ l.initial.text ++ flat_map point_line (take l.index l.points.items)

@@ -1,4 +1,4 @@
-use Rattle.std.proofs.Common.{◌≡◌, List, sym, subst, arith}
+use Rattle.std.proofs.Common.{List, subst, arith}
 use Rattle.std.proofs.lemmas.Grind.{common_steps}
 use Rattle.dl_entry.specs.declared.Point.{Point}
 use Rattle.dl_machine.specs.Runs.{IsSerial}
@@ -7,5 +7,4 @@ use Rattle.dl_machine.proofs.machine.Machine.points.Goals as goal
 
 pub returns-clause-serial : goal.returns-clause-serial
 returns-clause-serial g c =
-    let same : c.deref.result.now ≡ c.args.self.now.points = grind (arith, common_steps) in
-    λ s es run. subst (λ (ps : List Point). IsSerial s c.args.self.now ps) (sym same) (serial_run s es c.args.self.now run)
+    λ s es run. subst (λ (ps : List Point). IsSerial s c.args.self.now ps) (grind (arith, common_steps)) (serial_run s es c.args.self.now run)

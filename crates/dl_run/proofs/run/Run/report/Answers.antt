@@ -14,7 +14,7 @@ returns c =
     let counts = c.counts.ensures.value ∙ ap (λ (x : Ran). x.world.counts) c.self.view_is in
     let lines = c.deref.ensures.value in
     IfOk-weaker c.report_text.result
-    (λ text. text.items ≡ report_of c.points.result.now c.counts.result.now c.deref.result.now)
+    (λ text. text.items ≡ report_of c.points.result.now.items c.counts.result.now c.deref.result.now)
     (λ text. (es : List Event) → IsOver es r → text.items ≡ report_text r.setup es)
     (λ text e es over.
     e
