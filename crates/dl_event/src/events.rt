@@ -72,6 +72,28 @@ impl Events {
         self.count += times;
         Ok(())
     }
+
+    /// Puts the events of another list after the others.
+    pub(crate) fn append(&mut self, other: &Events) -> Result<(), AllocError>
+        requires { length self.old + length other.now < 2 ^ 32 }
+        ensures ok { OnOk result (self.new ≡ self.old ++ other.now) }
+        ensures err { OnErr result (self.new ≡ self.old) }
+    {
+        if let [one] = other.repeated() {
+            return self.push(one.event, one.times);
+        }
+        self.repeated.extend_from_slice(other.repeated())?;
+        self.count += other.count;
+        Ok(())
+    }
+
+    /// Takes all events out, and keeps their memory for others.
+    pub(crate) fn clear(&mut self)
+        ensures { self.new ≡ [] }
+    {
+        self.repeated.clear();
+        self.count = 0;
+    }
 }
 
 // Whether the last one is this event.
