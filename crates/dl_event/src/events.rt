@@ -58,6 +58,7 @@ impl Events {
     }
 
     /// Puts an event after the others, that many times in a row.
+    #[inline(always)]
     pub fn push(&mut self, event: Event, times: u32) -> Result<(), AllocError>
         requires { length self.old + times < 2 ^ 32 }
         ensures ok { OnOk result (self.new ≡ self.old ++ replicate times event) }
@@ -97,11 +98,23 @@ impl Events {
 }
 
 // Whether the last one is this event.
+#[inline(always)]
 fn ends_with(repeated: &[Repeated], event: Event) -> bool
     ensures { result ≡ true → EndsWith event repeated.now }
 {
     match repeated {
-        [.., last] => last.event == event,
+        [.., last] => is_same(last.event, event),
         [] => false,
+    }
+}
+
+// Whether two events are the same. Most events are steps, and so they are compared first.
+#[inline(always)]
+fn is_same(a: Event, b: Event) -> bool
+    ensures { result ≡ true → a ≡ b }
+{
+    match (a, b) {
+        (Event::Step(m), Event::Step(n)) => m == n,
+        _ => a == b,
     }
 }

@@ -1,10 +1,8 @@
 //! Whole scripts.
-ghost use Rattle.std.specs.Prelude.{◌≡◌, ◌≢◌, ◌≤◌, ◌<◌, ◌^◌, ◌+◌, ℕ, List, ◌∷◌, ◌++◌, length, take, drop, replicate, Ok, IfOk, IfErr, IfSome, MatchOption};
-ghost use Rattle.std.specs.Int.{to_le_bytes, w64};
+ghost use Rattle.std.specs.Prelude.{◌≡◌, ◌≢◌, ◌≤◌, ◌<◌, ◌^◌, ℕ, List, ◌∷◌, ◌++◌, length, Ok, IfOk, IfErr, IfSome, MatchOption};
 ghost use Rattle.std.specs.List.{AllWithin};
-ghost use Rattle.dl_event.specs.declared.line.Line.TheVariants.{Holds};
 ghost use Rattle.dl_event.specs.Script.{lines_of, script_of, Refuses};
-ghost use Rattle.dl_event.specs.Reading.{IsBehind, IsLine};
+ghost use Rattle.dl_event.specs.Reading.{IsBehind};
 
 use crate::error::ScriptError;
 use crate::events::Events;
