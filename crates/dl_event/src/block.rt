@@ -7,9 +7,9 @@ use spec_protocol::Event;
 use std::alloc::AllocError;
 
 // The fewest lines of a block that ends where it begins again, and the most of any.
-const FEWEST_LINES: u32 = 16;
+const FEWEST_LINES: u32 = 32;
 
-const MOST_LINES: u32 = 64;
+const MOST_LINES: u32 = 128;
 
 // The bytes of `step` as one number, little-endian.
 const STEP: u32 = 0x7065_7473;

@@ -13,7 +13,8 @@ pub struct Repeated {
     pub times: u32,
 }
 
-/// Events in order, seen as their list. One that comes several times in a row is held once, with how often it comes.
+/// Events in order, seen as their list. One that comes several times in a row is held with how often it comes, in one place or in
+/// few next to each other.
 #[derive(Debug, Drop)]
 pub struct Events {
     repeated: Vec<Repeated>,
