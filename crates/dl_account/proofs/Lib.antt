@@ -1,3 +1,4 @@
+pub mod Pairs
 pub mod Digits
 pub mod Numbered
 pub mod Rows

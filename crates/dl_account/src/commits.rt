@@ -6,7 +6,8 @@ ghost use Rattle.dl_account.specs.Lines.{line, numbered};
 ghost use Rattle.dl_entry.specs.Actor.{code};
 
 use crate::commit_lists::CommitLists;
-use crate::text::{Text, high_digit, low_digit};
+use crate::hex::{high_digit, low_digit};
+use crate::text::Text;
 use dl_entry::{Commit, Load, OutOfMemory, Output};
 
 /// The bytes of a load's line. A commit's line has fewer, or hardly more.

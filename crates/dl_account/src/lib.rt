@@ -4,6 +4,7 @@
 mod account;
 mod commit_lists;
 mod commits;
+mod hex;
 mod memory;
 mod replays;
 mod replies;

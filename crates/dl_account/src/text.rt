@@ -1,8 +1,8 @@
 //! A text that is being written.
-ghost use Rattle.std.specs.Prelude.{◌≡◌, ◌<◌, ◌/◌, ◌%◌, [], ◌∷◌, ◌++◌, true, take, decimal, IfOk, OnOk, OnErr};
-ghost use Rattle.std.specs.Fmt.{digit_glyph};
+ghost use Rattle.std.specs.Prelude.{◌≡◌, [], ◌∷◌, ◌++◌, take, decimal, IfOk, OnOk, OnErr};
 ghost use Rattle.dl_account.specs.Lines.{spaced, hex_byte, hex_bytes, hex_word};
 
+use crate::hex::{high_digit, low_digit};
 use dl_entry::OutOfMemory;
 use std::alloc::Global;
 use std::marker::Model;
@@ -182,44 +182,5 @@ impl Text {
             self.bytes.truncate(len);
         }
         put
-    }
-}
-
-// The first hexadecimal digit of a byte.
-pub(crate) fn high_digit(byte: u8) -> u8
-    ensures { result ≡ digit_glyph true (byte / 16) }
-{
-    hex_digit(byte / 16)
-}
-
-// The second one.
-pub(crate) fn low_digit(byte: u8) -> u8
-    ensures { result ≡ digit_glyph true (byte % 16) }
-{
-    hex_digit(byte % 16)
-}
-
-// The upper-case hexadecimal digit of a number below 16.
-fn hex_digit(n: u8) -> u8
-    requires { n < 16 }
-    ensures { result ≡ digit_glyph true n }
-{
-    match n {
-        0 => b'0',
-        1 => b'1',
-        2 => b'2',
-        3 => b'3',
-        4 => b'4',
-        5 => b'5',
-        6 => b'6',
-        7 => b'7',
-        8 => b'8',
-        9 => b'9',
-        10 => b'A',
-        11 => b'B',
-        12 => b'C',
-        13 => b'D',
-        14 => b'E',
-        _ => b'F',
     }
 }

@@ -1,4 +1,4 @@
-mod Alike
+mod Blocks
 mod Examples
 mod Reading
 mod Repeats

@@ -1,10 +1,10 @@
 -- A script is the events of its lines, if none is refused, and else refused by the first line that is; and how a reader
 -- comes to them, line after line.
-use Rattle.std.proofs.Common.{replicate, length-append, append-nil, append_assoc, ◌≡◌, ℕ, ◌+◌, ◌-◌, ◌^◌, ◌<◌, ◌≤◌, Bool, true, false, cond, List, [], ◌∷◌, ◌++◌, length, take, drop, get_or, map, length-drop, length-take, subst, add-one, ◌≢◌, Some, None, Ok, Err, refl, sym, ap, ap₂, ◌∙◌, inl, inr, arith, suc, zero, below_more, eqb}
+use Rattle.std.proofs.Common.{length-append, append-nil, append_assoc, ◌≡◌, ℕ, ◌+◌, ◌-◌, ◌^◌, ◌<◌, ◌≤◌, Bool, true, false, cond, List, [], ◌∷◌, ◌++◌, length, take, drop, get_or, map, length-drop, length-take, subst, add-one, ◌≢◌, Some, None, Ok, Err, refl, sym, ap, ap₂, ◌∙◌, inl, inr, arith, suc, zero, below_more, eqb}
 use Rattle.std.specs.List.{All, AllWithin, HoldsAt, position_from, range_with_len, slice_get, slice_split}
 use Rattle.std.proofs.Math.Nat.{eq-or-lt_of_le}
 use Rattle.std.proofs.lemmas.Iterator.Adapters.{position_from-zero}
-use Rattle.std.proofs.lemmas.List.{drop-drop, length-replicate, take_more, take_all, take-append-drop, get_or-take}
+use Rattle.std.proofs.lemmas.List.{drop-drop, length-map, take_more, take_all, take-append-drop, get_or-take}
 use Rattle.std.proofs.lemmas.List.Splits.{slice_split_none, slice_split_at}
 use Rattle.std.proofs.lemmas.Bool.{ne_eqb}
 use Rattle.std.proofs.Math.Seq.{drop-cons, drop-append_seam}
@@ -139,30 +139,30 @@ all_read lines i events read end =
     ap (outcome lines) (position_from-zero (is_refused lines) (range_with_len 0 (length lines)) ∙ none)
     ∙ ap (λ x. Ok (events_of x)) (sym (take_all i lines (omega arith))) ∙ ap Ok (sym read.held)
 
--- ---- lines in a row that hold the same event
+-- ---- lines in a row that hold events
 
--- that many lines in a row that hold the same event add it that many times
-pub some_read : (lines : List Line) (i n : ℕ) (events : List Event) (e : Event) (more : List Line) → IsRead lines i events → drop i lines ≡ replicate n (Holds e) ++ more → length events + n ≤ 2 ^ 24 → IsRead lines (i + n) (events ++ replicate n e)
-some_read lines i zero events e more read at few =
+-- lines in a row that hold events add these events
+pub some_read : (lines : List Line) (i : ℕ) (events es : List Event) (more : List Line) → IsRead lines i events → drop i lines ≡ map Holds es ++ more → length events + length es ≤ 2 ^ 24 → IsRead lines (i + length es) (events ++ es)
+some_read lines i events [] more read at few =
     let same : i ≡ i + 0 = omega arith in
     subst (λ (k : ℕ). IsRead lines k (events ++ [])) same (subst (IsRead lines i) (sym (append-nil events)) read)
-some_read lines i (suc n) events e more read at few =
-    let here = here-and-behind lines i (Holds e) (replicate n (Holds e) ++ more) at in
+some_read lines i events (e ∷ es) more read at few =
+    let here = here-and-behind lines i (Holds e) (map Holds es ++ more) at in
     let longer : length (events ++ e ∷ []) ≡ length events + 1 = length-append events (e ∷ []) in
     let one = one_read lines i events (events ++ e ∷ []) (Holds e) read here.1 (grind (arith, nat_tests)) refl in
-    let rest = some_read lines (i + 1) n (events ++ e ∷ []) e more one here.2 (omega arith) in
-    let same : i + 1 + n ≡ i + suc n = omega arith in
-    subst (λ (k : ℕ). IsRead lines k (events ++ e ∷ replicate n e)) same (subst (IsRead lines (i + 1 + n)) (append_assoc events (e ∷ []) (replicate n e)) rest)
+    let rest = some_read lines (i + 1) (events ++ e ∷ []) es more one here.2 (omega arith) in
+    let same : i + 1 + length es ≡ i + suc (length es) = omega arith in
+    subst (λ (k : ℕ). IsRead lines k (events ++ e ∷ es)) same (subst (IsRead lines (i + 1 + length es)) (append_assoc events (e ∷ []) es) rest)
 
 -- after them the other lines are left
-pub some_left : (script text : List ℕ) (r : SoFar) (n : ℕ) (e : Event) (rest : List ℕ) → IsReadTo script text r → lines_of text ≡ replicate n (Holds e) ++ lines_of rest → length r.events + n ≤ 2 ^ 24 → IsReadTo script rest (record { lines = r.lines + n; events = r.events ++ replicate n e })
-some_left script text r n e rest to is few =
-    let held : List Line = replicate n (Holds e) in
-    let count : length held ≡ n = length-replicate n (Holds e) in
-    let behind : drop n (held ++ lines_of rest) ≡ lines_of rest =
+pub some_left : (script text : List ℕ) (r : SoFar) (es : List Event) (rest : List ℕ) → IsReadTo script text r → lines_of text ≡ map Holds es ++ lines_of rest → length r.events + length es ≤ 2 ^ 24 → IsReadTo script rest (record { lines = r.lines + length es; events = r.events ++ es })
+some_left script text r es rest to is few =
+    let held : List Line = map Holds es in
+    let count : length held ≡ length es = length-map es Holds in
+    let behind : drop (length es) (held ++ lines_of rest) ≡ lines_of rest =
     ap (λ (k : ℕ). drop k (held ++ lines_of rest)) (sym count) ∙ drop-append_seam held (lines_of rest)
     in
     record {
-      read = some_read (lines_of script) r.lines n r.events e (lines_of rest) to.read (sym to.left ∙ is) few;
-      left = sym behind ∙ ap (drop n) (sym is ∙ to.left) ∙ drop-drop n r.lines (lines_of script);
+      read = some_read (lines_of script) r.lines r.events es (lines_of rest) to.read (sym to.left ∙ is) few;
+      left = sym behind ∙ ap (drop (length es)) (sym is ∙ to.left) ∙ drop-drop (length es) r.lines (lines_of script);
     }

@@ -1,5 +1,5 @@
 -- How far a script has been read, line after line.
-use Rattle.std.specs.Prelude.{◌≡◌, ℕ, ◌<◌, ◌≤◌, ◌-◌, false, List, ◌∷◌, ◌++◌, length, take, drop}
+use Rattle.std.specs.Prelude.{◌≡◌, ℕ, ◌<◌, ◌≤◌, ◌-◌, false, List, ◌∷◌, ◌++◌, length, map, take, drop}
 use Rattle.spec_protocol.specs.declared.event.Event.{Event}
 use Rattle.dl_event.specs.declared.line.Line.{Line}
 use Rattle.dl_event.specs.declared.line.Line.TheVariants.{Holds}
@@ -29,3 +29,7 @@ pub record IsBehind (text end : List ℕ) : Type 0 where
 -- a line, with the LF at its end, that holds the event, whatever comes after it
 abbrev pub IsLine : Event → (line : List ℕ) → Type 0
 IsLine event line = (behind : List ℕ) → lines_of (line ++ behind) ≡ Holds event ∷ lines_of behind
+
+-- lines, each with the LF at its end, that hold these events, whatever comes after them
+abbrev pub AreLines : List Event → (lines : List ℕ) → Type 0
+AreLines events lines = (behind : List ℕ) → lines_of (lines ++ behind) ≡ map Holds events ++ lines_of behind

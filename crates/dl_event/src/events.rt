@@ -13,7 +13,8 @@ pub struct Repeated {
     pub times: u32,
 }
 
-/// Events in order, seen as their list. One that comes several times in a row is held once, with how often it comes.
+/// Events in order, seen as their list. One that comes several times in a row is held with how often it comes, in one place or in
+/// few next to each other.
 #[derive(Debug, Drop)]
 pub struct Events {
     repeated: Vec<Repeated>,
@@ -58,6 +59,7 @@ impl Events {
     }
 
     /// Puts an event after the others, that many times in a row.
+    #[inline(always)]
     pub fn push(&mut self, event: Event, times: u32) -> Result<(), AllocError>
         requires { length self.old + times < 2 ^ 32 }
         ensures ok { OnOk result (self.new ≡ self.old ++ replicate times event) }
@@ -72,14 +74,48 @@ impl Events {
         self.count += times;
         Ok(())
     }
+
+    /// Puts the events of another list after the others.
+    pub(crate) fn append(&mut self, other: &Events) -> Result<(), AllocError>
+        requires { length self.old + length other.now < 2 ^ 32 }
+        ensures ok { OnOk result (self.new ≡ self.old ++ other.now) }
+        ensures err { OnErr result (self.new ≡ self.old) }
+    {
+        if let [one] = other.repeated() {
+            return self.push(one.event, one.times);
+        }
+        self.repeated.extend_from_slice(other.repeated())?;
+        self.count += other.count;
+        Ok(())
+    }
+
+    /// Takes all events out, and keeps their memory for others.
+    pub(crate) fn clear(&mut self)
+        ensures { self.new ≡ [] }
+    {
+        self.repeated.clear();
+        self.count = 0;
+    }
 }
 
 // Whether the last one is this event.
+#[inline(always)]
 fn ends_with(repeated: &[Repeated], event: Event) -> bool
     ensures { result ≡ true → EndsWith event repeated.now }
 {
     match repeated {
-        [.., last] => last.event == event,
+        [.., last] => is_same(last.event, event),
         [] => false,
+    }
+}
+
+// Whether two events are the same. Most events are steps, and so they are compared first.
+#[inline(always)]
+fn is_same(a: Event, b: Event) -> bool
+    ensures { result ≡ true → a ≡ b }
+{
+    match (a, b) {
+        (Event::Step(m), Event::Step(n)) => m == n,
+        _ => a == b,
     }
 }

@@ -1,6 +1,7 @@
 //! Schedules: the events of the machine, read from the lines of a script or drawn from a seed.
 #![tactic(auto)]
 
+mod block;
 pub mod error;
 pub mod events;
 pub mod line;

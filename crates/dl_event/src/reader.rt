@@ -5,10 +5,11 @@ ghost use Rattle.dl_event.specs.declared.line.Line.{Line};
 ghost use Rattle.dl_event.specs.Script.{script_of, outcome, first_refused, Refuses};
 ghost use Rattle.dl_event.specs.Reading.{IsRead, IsReadTo, IsBehind};
 
+use crate::block::block_at;
 use crate::error::ScriptError;
 use crate::events::Events;
 use crate::line::{Line, read_line};
-use crate::script::{next_line, short_lines};
+use crate::script::next_line;
 use std::alloc::Global;
 use std::marker::Model;
 
@@ -17,6 +18,7 @@ const MOST_EVENTS: u32 = 1 << 24;
 /// Reads a script from texts that follow one another, seen as how many lines it has read and the events that they hold.
 #[derive(Debug, Drop)]
 pub struct ScriptReader {
+    alloc: Global,
     lines: u64,
     events: Events,
 }
@@ -39,6 +41,7 @@ impl ScriptReader {
         ensures lines { result.lines ≡ 0 }
     {
         ScriptReader {
+            alloc,
             lines: 0,
             events: Events::new(alloc),
         }
@@ -57,12 +60,15 @@ impl ScriptReader {
         ensures lines { IfOk result (λ r. r.0.lines + length r.1.now ≤ self.lines + length text.now) }
     {
         let mut left = text;
+        let mut held = Events::new(self.alloc);
+        let mut block = &text[..0];
         loop {
+            block = block_at(&mut held, block, left)?;
             let room = MOST_EVENTS - self.events.len();
-            if let Some((event, times, rest)) = short_lines(left, room) {
-                self.events.push(event, times)?;
-                self.lines += u64::from(times);
-                left = rest;
+            if !block.is_empty() && held.len() <= room {
+                self.events.append(&held)?;
+                self.lines += u64::from(held.len());
+                left = &left[block.len()..];
                 continue;
             }
             let Some((line, rest)) = next_line(left) else {

@@ -2,7 +2,7 @@ use Rattle.std.proofs.Common.{◌+◌, ◌-◌, ◌∷◌, ◌++◌, [], ℕ, Li
 use Rattle.std.specs.Char.{IsAsciiDigit}
 use Rattle.dl_event.specs.Script.{lines_of}
 use Rattle.dl_event.proofs.Short.{front as front_is, step_line, drain_line, ask_line, retire_line, deliver_line}
-use Rattle.dl_event.proofs.script.short_line.Goals as goal
+use Rattle.dl_event.proofs.block.short_line.Goals as goal
 
 pub returns-clause-line : goal.returns-clause-line
 returns-clause-line c =

@@ -1,0 +1,23 @@
+//! The hexadecimal digits of bytes.
+ghost use Rattle.std.specs.Prelude.{◌≡◌, ◌/◌, ◌%◌, true};
+ghost use Rattle.std.specs.Fmt.{digit_glyph};
+
+// The two digits of each byte in turn.
+static PAIRS: [u8; 512] =
+    *b"000102030405060708090A0B0C0D0E0F101112131415161718191A1B1C1D1E1F202122232425262728292A2B2C2D2E2F303132333435363738393A3B3C3D3E3F404142434445464748494A4B4C4D4E4F505152535455565758595A5B5C5D5E5F606162636465666768696A6B6C6D6E6F707172737475767778797A7B7C7D7E7F808182838485868788898A8B8C8D8E8F909192939495969798999A9B9C9D9E9FA0A1A2A3A4A5A6A7A8A9AAABACADAEAFB0B1B2B3B4B5B6B7B8B9BABBBCBDBEBFC0C1C2C3C4C5C6C7C8C9CACBCCCDCECFD0D1D2D3D4D5D6D7D8D9DADBDCDDDEDFE0E1E2E3E4E5E6E7E8E9EAEBECEDEEEFF0F1F2F3F4F5F6F7F8F9FAFBFCFDFEFF";
+
+// The first upper-case hexadecimal digit of a byte.
+#[inline(always)]
+pub(crate) fn high_digit(byte: u8) -> u8
+    ensures { result ≡ digit_glyph true (byte / 16) }
+{
+    PAIRS[2 * byte as usize]
+}
+
+// The second one.
+#[inline(always)]
+pub(crate) fn low_digit(byte: u8) -> u8
+    ensures { result ≡ digit_glyph true (byte % 16) }
+{
+    PAIRS[2 * byte as usize + 1]
+}
