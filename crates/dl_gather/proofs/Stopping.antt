@@ -13,7 +13,7 @@ use Rattle.spec_program.specs.declared.status.Refusal.{Refusal}
 use Rattle.spec_program.proofs.Turns.{AreThere}
 use Rattle.dl_gather.specs.declared.halt.Halt.{Halt}
 use Rattle.dl_gather.specs.Forms.{IsLineOf}
-use Rattle.dl_gather.specs.Halts.{Halts, IsFault, IsMissing, Unread, Refuses}
+use Rattle.dl_gather.specs.Halts.{Halts, IsFault, IsMissing, Unread}
 use Rattle.dl_gather.specs.Names.{IsNamed}
 use Rattle.dl_gather.specs.Reads.{read_for_schedule, read_for_role, read_for_sphere}
 use Rattle.dl_gather.proofs.Names.{holds_always, may_hold}
@@ -140,12 +140,6 @@ stage_halts reads stage rest old new h halts =
     halts_in reads reads stage (λ m. stage m >> rest) old new h (λ m e r is. err_then (stage m) rest r is) (λ x is. is) (λ m e x next. next) halts
 
 -- ---- the command
-
--- a stage that is refused stops the stages after it
-pub refuses_in : {A B : Type 0} (stage : Result A Refused) (whole : Result B Refused) (h : Halt) → ((r : Refused) → stage ≡ Err r → whole ≡ Err r) → Refuses stage h → Refuses whole h
-refuses_in stage whole (Halt.Refused why text) errs u = (errs _ u.0, u.1, u.2, u.3)
-refuses_in stage whole (Halt.Fault text) errs u = absurd u
-refuses_in stage whole Halt.OutOfMemory errs u = tt
 
 -- ---- what is there, once a part is read
 
