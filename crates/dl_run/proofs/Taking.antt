@@ -1,5 +1,5 @@
 -- A machine that takes a schedule one event at a time has room before each, and has taken it once none is left.
-use Rattle.std.proofs.Common.{◌≡◌, ℕ, suc, ◌^◌, ◌<◌, ◌≤◌, ◌+◌, ◌-◌, List, [], ◌∷◌, ◌++◌, length, drop, get_or, refl, sym, ap, ◌∙◌, subst, arith, append_assoc}
+use Rattle.std.proofs.Common.{◌≡◌, ℕ, suc, ◌^◌, ◌<◌, ◌≤◌, ◌+◌, ◌-◌, List, [], ◌∷◌, ◌++◌, length, drop, get_or, sym, ap, ◌∙◌, subst, arith, append_assoc}
 use Rattle.std.specs.Prelude.{replicate}
 use Rattle.std.proofs.Math.Seq.{drop-cons}
 use Rattle.std.proofs.Math.ListN.{length-append}
@@ -20,7 +20,7 @@ use Rattle.dl_machine.specs.Runs.{IsRun}
 use Rattle.dl_machine.proofs.Worlds.Promised.{room_alike}
 use Rattle.dl_finish.specs.Runs.{HasEnded}
 use Rattle.dl_run.specs.Ran.{IsOver}
-use Rattle.dl_run.specs.Taken.{IsNew, HasTaken}
+use Rattle.dl_run.specs.Taken.{HasTaken}
 
 -- ---- runs
 
@@ -51,10 +51,6 @@ pub record Driving (all left : List Event) (new now : World) : Type 0 where
   pub done : List Event
   pub both : done ++ left ≡ all
   pub taken : HasTaken done new now
-
--- in the new world no event was taken, and all are left
-pub driving_start : (all : List Event) (w : World) → IsNew w → Driving all all w w
-driving_start all w new = record { setup = new.setup; first = new.run; done = []; both = refl; taken = λ s run. run }
 
 -- an event that leads from this world to the next is one more that was taken, and one less that is left
 pub driving_next : (all left : List Event) (e : Event) (new now next : World) → Driving all (e ∷ left) new now → ((s : Setup) (es : List Event) → IsRun s es now → IsRun s (es ++ e ∷ []) next) → Driving all left new next
