@@ -2,7 +2,7 @@
 use Rattle.std.proofs.Common.{◌≡◌, ℕ, zero, suc, ◌+◌, ◌<◌, ◌≤◌, ◌==◌, Bool, false, ◌&&◌, cond, nat_le, nat_lt, List, [], ◌∷◌, length, replicate, slice_index, Option, Some, None, option_map, inl, inr, refl, sym, ap, ◌∙◌, subst, arith}
 use Rattle.std.proofs.Math.ListN.{get_or}
 use Rattle.std.proofs.lemmas.Bool.{cases_Bool, lt-leb}
-use Rattle.std.proofs.lemmas.Option.{none-some, same_Some}
+use Rattle.std.proofs.lemmas.Option.{none-some}
 use Rattle.dl_entry.specs.declared.Commit.{Commit}
 use Rattle.dl_entry.specs.declared.End.{End}
 use Rattle.dl_entry.specs.declared.Why.{Why}
@@ -176,11 +176,6 @@ starts_first image Role.Plain is = refl
 starts_first image (Role.Record version mode epochs) is = refl
 starts_first image (Role.Replay r) is = first-start image (log_of r) (begun_of r) (strata_in (strata_of r)) is
 
-begun-start : (image : SphereSetup) (log : LogParts) (o : Option Begun) (strata : Option (List Stratum)) (b : Begun) → o ≡ Some b → IsBegunIf image (record { log = log; interval = interval_in o; strata = strata }) o
-    → state_in b.state ≡ start_as image (IsReplayed (record { log = log; interval = interval_in o; strata = strata }))
-begun-start image log None strata b is h = absurd (none-some b is)
-begun-start image log (Some other) strata b is h = ap (λ (x : Begun). state_in x.state) (sym (same_Some _ _ is)) ∙ h.state
-
 unless-begun : (image : SphereSetup) (asked : ReplaySetup) (o : Option Begun) → o ≡ None → IsBegunIf image asked o
 unless-begun image asked None is = tt
 unless-begun image asked (Some b) is = absurd (none-some b (sym is))
@@ -201,12 +196,6 @@ pub parallel_as : (image : SphereSetup) (role : Role) → IsBegunAs image role �
 parallel_as image Role.Plain h = tt
 parallel_as image (Role.Record version mode epochs) h = tt
 parallel_as image (Role.Replay r) h = h.1
-
--- else where the interval begins
-pub starts_begun : (image : SphereSetup) (role : Role) (b : Begun) → begun_as role ≡ Some b → IsBegunAs image role → state_in b.state ≡ start_as image (role_setup role)
-starts_begun image Role.Plain b is h = absurd (none-some b is)
-starts_begun image (Role.Record version mode epochs) b is h = absurd (none-some b is)
-starts_begun image (Role.Replay r) b is h = begun-start image (log_of r) (begun_of r) (strata_in (strata_of r)) b is h.0
 
 -- strata begin before the first commit
 pub first_if : (image : SphereSetup) (r : Replay) (s : State) → s ≡ start_as image (role_setup (Role.Replay r)) → IsFirstIf r s.commits
