@@ -275,7 +275,3 @@ module _ (bytes : List ℕ) (d : TailDraft) (after : ℕ) (e : all_of stages bla
 
   pub more-read : after < length bytes → read_of bytes ≡ Err (record { number = 7; offset = after })
   more-read more = let end : nat_lt after (length bytes) ≡ true = lt-ltb _ _ more in rw (e, end) refl
-
--- if the stages of a tail come to a fault, its bytes are read as that fault
-pub fault-read : (bytes : List ℕ) (fault : Fault) → all_of stages blank bytes 0 ≡ Err fault → read_of bytes ≡ Err fault
-fault-read bytes fault e = rw e refl
