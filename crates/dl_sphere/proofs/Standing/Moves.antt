@@ -1,15 +1,15 @@
 -- What is true of every sphere stays true as it commits, transfers and takes interrupts.
-use Rattle.std.proofs.Common.{◌≡◌, ℕ, suc, ◌+◌, ◌<◌, ◌≤◌, Bool, true, false, ◌&&◌, not, List, [], ◌∷◌, ◌++◌, length, Option, Some, None, slice_index, refl, sym, ap, ◌∙◌, subst, arith, inl, inr, set, get_or-set_same, get_or-set_other, length-set, length-append, append-nil}
+use Rattle.std.proofs.Common.{◌≡◌, ℕ, suc, ◌+◌, ◌<◌, ◌≤◌, Bool, true, false, List, [], ◌∷◌, ◌++◌, length, Option, Some, None, slice_index, refl, sym, ap, ◌∙◌, subst, arith, inl, inr, set, get_or-set_same, get_or-set_other, length-set, length-append, append-nil}
 use Rattle.std.specs.Prelude.{slice_get, OnSome}
 use Rattle.dl_kernel.specs.Calls.{spawned_list}
-use Rattle.std.proofs.lemmas.Bool.{cases_eq, and_parts, true≢false}
+use Rattle.std.proofs.lemmas.Bool.{cases_eq}
 use Rattle.std.proofs.lemmas.Option.{slice_get_within}
 use Rattle.dl_entry.specs.declared.Actor.{Actor}
 use Rattle.dl_entry.specs.declared.Commit.{Commit}
 use Rattle.dl_entry.specs.declared.Input.{Input}
 use Rattle.spec_isa.specs.declared.thread.Parts.{Parts}
 use Rattle.spec_log.specs.Noting.{index_of, done_with, insert_interrupt}
-use Rattle.spec_kernel.specs.Interrupts.{is_live, has_handler, takes_interrupt, interrupted}
+use Rattle.spec_kernel.specs.Interrupts.{takes_interrupt, interrupted}
 use Rattle.spec_play.specs.Effects.{dma_commit}
 use Rattle.spec_play.specs.Progress.{Progress, position}
 use Rattle.spec_play.specs.Recording.{noted, input_noted, dma_noted}
@@ -22,6 +22,7 @@ use Rattle.spec_sphere.specs.promises.Sound.{AreFresh, commits_in, commits_if}
 use Rattle.spec_sphere.proofs.Logs.Growing.{commits-other, commits-same}
 use Rattle.spec_sphere.proofs.Logs.Fresh.{fresh-commit, fresh-raise}
 use Rattle.spec_sphere.proofs.Logs.Lookups.{none-there}
+use Rattle.spec_sphere.proofs.PlayingBack.Transfers.{open-takes}
 use Rattle.spec_play.specs.Noted.{as_log}
 use Rattle.dl_record.specs.Epochs.{InEpochs, IsBegun}
 use Rattle.dl_sphere.specs.Recorded.{commits_of, with_commit}
@@ -153,11 +154,6 @@ pub raised_stand : (p q : Sphere) (k value : ℕ) (t : Parts) (s : ℕ) (x : Kee
 raised_stand p q k value t s x start takes threads progress h =
     kept-raised p q k value t s x start takes threads progress (λ j. ap (λ ts. commits_in ts j) threads ∙ same-raised p.threads k j value t start) h
 
-unmasked : (t : Parts) → takes_interrupt t ≡ true → t.mask ≡ false
-unmasked t takes =
-    let last = and_parts (is_live t && has_handler t) (not t.mask) takes in
-    elim (t.mask) as (λ (m : Bool). not m ≡ true → m ≡ false) [ true ↦ λ no. absurd (true≢false (sym no)) | false ↦ λ _. refl ] last.1
-
 -- an interrupt that its thread takes is of a new moment
 pub can_raise : (p : Sphere) (k : ℕ) (t : Parts) (s : ℕ) (x : Keeping) → slice_get p.threads k ≡ Some t → takes_interrupt t ≡ true → IsLiveOf s p x → IsReadyAt (position p.progress) x → CanRaise k t.commits x
 can_raise p k t s Plain start takes h ready = tt
@@ -167,7 +163,7 @@ can_raise p k t s (Recording r) start takes h ready =
     let few = h.threads in
     record {
       thread = omega arith;
-      fresh = none-there r.recorded.interrupts k t.commits (h.fresh.unmasked k t start (unmasked t takes));
+      fresh = none-there r.recorded.interrupts k t.commits (h.fresh.unmasked k t start (open-takes t takes));
       begun = subst (IsBegun r.epochs) (sym (commits_are s p r h)) ready;
     }
 

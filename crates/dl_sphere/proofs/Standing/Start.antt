@@ -1,14 +1,12 @@
 -- What is true of every sphere is true before its first commit.
-use Rattle.std.proofs.Common.{◌≡◌, ℕ, zero, suc, ◌+◌, ◌<◌, ◌≤◌, ◌==◌, Bool, false, ◌&&◌, cond, nat_le, nat_lt, List, [], ◌∷◌, length, replicate, slice_index, Option, Some, None, option_map, inl, inr, refl, sym, ap, ◌∙◌, subst, arith}
-use Rattle.std.proofs.Math.ListN.{get_or}
-use Rattle.std.proofs.lemmas.Bool.{cases_Bool, lt-leb}
+use Rattle.std.proofs.Common.{◌≡◌, ℕ, zero, suc, ◌+◌, ◌<◌, ◌≤◌, Bool, false, ◌&&◌, cond, nat_le, nat_lt, List, [], ◌∷◌, length, replicate, slice_index, Option, Some, None, option_map, refl, sym, ap, ◌∙◌, subst, arith}
+use Rattle.std.proofs.lemmas.Bool.{lt-leb}
 use Rattle.std.proofs.lemmas.Option.{none-some}
 use Rattle.dl_entry.specs.declared.Commit.{Commit}
 use Rattle.dl_entry.specs.declared.End.{End}
 use Rattle.dl_entry.specs.declared.Why.{Why}
 use Rattle.spec_isa.specs.Threads.{started}
 use Rattle.spec_log.specs.declared.LogParts.{LogParts}
-use Rattle.spec_log.specs.Versions.{new_threads}
 use Rattle.spec_play.specs.declared.interval.Interval.{Interval}
 use Rattle.spec_log.specs.Log.{IsLog}
 use Rattle.spec_play.specs.Intervals.{IsWithin, IsWithinIf, before, now_in}
@@ -29,6 +27,7 @@ use Rattle.spec_strata.specs.declared.strata.StrataParts.{StrataParts}
 use Rattle.spec_strata.specs.Standing.{stratum_begun}
 use Rattle.spec_sphere.proofs.Logs.Fresh.{fresh-none}
 use Rattle.spec_sphere.proofs.Sound.Plays.{replay-sound}
+use Rattle.spec_sphere.proofs.Points.KeptLogs.{new-least}
 use Rattle.dl_kernel.specs.States.{state_in}
 use Rattle.dl_kernel.specs.InOrder.{NoneWaits, listed}
 use Rattle.dl_sphere.specs.Setups.{HasCome, IsBegunAs, IsBegunIf, IsFirstIf, IsParallelAs, begun_as, begun_of, diverged_in, interval_in, log_of, replay_setup, role_setup, strata_as, strata_in, strata_of}
@@ -43,17 +42,13 @@ use Rattle.dl_sphere.specs.Pasts.{sphere_at, sphere_with}
 use Rattle.dl_sphere.specs.Roles.{Keeping, Plain, Recording, Replaying, recording_of, role_of, HasFew, HasRecorded, IsKeepingOf, IsSphere}
 use Rattle.dl_sphere.proofs.Replays.InStrata.{BeginsIf, begins-in}
 use Rattle.dl_sphere.specs.Starting.{IsReplayingIf, diverged_if, first_state, following_at, keeping_at, start_as, started_from}
+use Rattle.dl_replay.proofs.Counts.{zeros}
 
 -- ---- a live sphere
 
 no-commits : (entry k : ℕ) → commits_in (started entry ∷ []) k ≡ 0
 no-commits entry zero = refl
 no-commits entry (suc k) = refl
-
-zeros : (n k : ℕ) → let none : ℕ = 0 in get_or (replicate n none) k none ≡ none
-zeros zero k = refl
-zeros (suc n) zero = refl
-zeros (suc n) (suc k) = zeros n k
 
 -- at the start no thread has more than 0 commits
 pub no-more : (entry k : ℕ) → commits_in (started entry ∷ []) k ≤ 0
@@ -63,14 +58,6 @@ no-more entry k = let e = no-commits entry k in omega arith
 pub none-done : (entry k : ℕ) → slice_index (let none : ℕ = 0 in replicate 63 none) k ≡ commits_in (started entry ∷ []) k
 none-done entry zero = refl
 none-done entry (suc k) = zeros 62 k
-
--- any version of logs has a thread
-pub one-thread : (version : ℕ) → 1 ≤ new_threads version
-one-thread version =
-    elim (cases_Bool (version == 1)) [
-      | inl first ↦ rw first (omega arith)
-      | inr second ↦ rw second (omega arith)
-    ]
 
 -- ---- a replay
 
@@ -235,7 +222,7 @@ start_alone s image (IsRecorded asked) parallel =
     record {
       few = record { few = no-more image.entry };
       s = refl;
-      threads = one-thread asked.version;
+      threads = new-least asked.version;
       all = refl;
       done = none-done image.entry;
       first = first_base asked.epochs;
