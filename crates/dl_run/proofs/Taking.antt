@@ -1,9 +1,8 @@
 -- A machine that takes a schedule one event at a time has room before each, and has taken it once none is left.
-use Rattle.std.proofs.Common.{◌≡◌, ℕ, suc, ◌^◌, ◌<◌, ◌≤◌, ◌+◌, ◌-◌, List, [], ◌∷◌, ◌++◌, length, drop, get_or, sym, ap, ◌∙◌, subst, arith, append_assoc}
+use Rattle.std.proofs.Common.{◌≡◌, ℕ, suc, ◌^◌, ◌<◌, ◌≤◌, ◌+◌, ◌-◌, List, [], ◌∷◌, ◌++◌, length, drop, get_or, sym, ap, ◌∙◌, subst, arith, append_assoc, append-nil}
 use Rattle.std.specs.Prelude.{replicate}
 use Rattle.std.proofs.Math.Seq.{drop-cons}
 use Rattle.std.proofs.Math.ListN.{length-append}
-use Rattle.std.proofs.lemmas.Grind.{common_steps}
 use Rattle.spec_protocol.specs.declared.event.Event.{Event}
 use Rattle.spec_protocol.specs.machine.World.{World}
 use Rattle.spec_protocol.specs.machine.Machine.{Setup}
@@ -79,13 +78,10 @@ driving_events all left new now d few =
     let l = done_few all left new now d few in
     omega (arith, e, l)
 
-nothing_behind : (xs : List Event) → xs ++ [] ≡ xs
-nothing_behind xs = grind (arith, common_steps)
-
 -- if no event is left, all are taken
 pub driving_end : (all : List Event) (new now : World) → Driving all [] new now → HasTaken all new now
 driving_end all new now d =
-    subst (λ (es : List Event). HasTaken es new now) (sym (nothing_behind d.done) ∙ d.both) d.taken
+    subst (λ (es : List Event). HasTaken es new now) (sym (append-nil d.done) ∙ d.both) d.taken
 
 -- ---- events that are held with how often each comes in a row
 
