@@ -7,11 +7,6 @@ abbrev pub after : {A E : Type 0} → List A → Result (List A) E → Result (L
 after done (Ok rest) = Ok (done ++ rest)
 after done (Err e) = Err e
 
--- with no entry before, a list is what its stages make
-pub none_before : {A E : Type 0} (o : Result (List A) E) → o ≡ after [] o
-none_before (Ok xs) = refl
-none_before (Err e) = refl
-
 -- an entry is done
 pub moved : {A E : Type 0} (done : List A) (a : A) (rest : Result (List A) E) → after done (rest >> λ xs. Ok (a ∷ xs)) ≡ after (done ++ a ∷ []) rest
 moved done a (Ok xs) = ap Ok (sym (append_assoc done (a ∷ []) xs))

@@ -11,6 +11,7 @@ use Rattle.spec_program.specs.Stages.{Refused, refusing, ◌>>◌}
 use Rattle.spec_program.specs.Tasks.{absent, plan_at}
 use Rattle.spec_program.specs.declared.status.Refusal.{Refusal}
 use Rattle.spec_program.proofs.Turns.{AreThere}
+use Rattle.spec_program.proofs.Made.{then_ok}
 use Rattle.dl_gather.specs.declared.halt.Halt.{Halt}
 use Rattle.dl_gather.specs.Forms.{IsLineOf}
 use Rattle.dl_gather.specs.Halts.{Halts, IsFault, IsMissing, Unread}
@@ -150,10 +151,6 @@ there_at m name bytes (Some b) e = refl
 -- once a file's bytes are read, the file is there
 pub file_there : (m : Contents) (name bytes : List ℕ) → read_at m name ≡ Ok bytes → IsSome (get m name)
 file_there m name bytes e = there_at m name bytes (get m name) e
-
-then_ok : {A B E : Type 0} (o : Result A E) (f : A → Result B E) (b : B) → (o >> f) ≡ Ok b → (a : A) × (o ≡ Ok a) × (f a ≡ Ok b)
-then_ok (Err x) f b e = absurd cc
-then_ok (Ok a) f b e = (a, refl, e)
 
 -- once a schedule is read, the file that it names is there
 pub schedule_there : (m : Contents) (s : ScheduleValues) (r : ScheduleRead) → schedule_read m s ≡ Ok r → AreThere m (read_for_schedule s)
