@@ -1,5 +1,5 @@
 -- Lines in a row that are alike: what they hold, and how they come at the front of a text.
-use Rattle.std.proofs.Common.{◌≡◌, ℕ, zero, suc, ◌+◌, ◌-◌, ◌*◌, ◌/◌, ◌<◌, ◌≤◌, List, [], ◌∷◌, ◌++◌, length, take, drop, replicate, length-append, refl, sym, ap, ap₂, subst, ◌∙◌, arith, append_assoc, get_or, inl, inr, min}
+use Rattle.std.proofs.Common.{◌≡◌, ℕ, zero, suc, ◌+◌, ◌-◌, ◌*◌, ◌/◌, ◌<◌, ◌≤◌, List, [], ◌∷◌, ◌++◌, length, take, drop, replicate, refl, sym, ap, ap₂, subst, ◌∙◌, arith, append_assoc, get_or, inl, inr, min}
 use Rattle.std.specs.Array.{IsFirstChunk}
 use Rattle.std.specs.Int.{from_le_bytes, to_le_bytes, w64}
 use Rattle.std.proofs.Math.Nat.{le-div_iff_mul-le, min-le_left}
@@ -11,22 +11,12 @@ use Rattle.spec_protocol.specs.declared.event.Event.{Event}
 use Rattle.dl_event.specs.declared.line.Line.{Line}
 use Rattle.dl_event.specs.declared.line.Line.TheVariants.{Holds}
 use Rattle.dl_event.specs.Script.{lines_of}
-use Rattle.dl_event.specs.Reading.{IsBehind, IsLine}
+use Rattle.dl_event.specs.Reading.{IsLine}
 
 -- that many lines like this one
 abbrev pub copies : ℕ → (line : List ℕ) → List ℕ
 copies zero line = []
 copies (suc n) line = line ++ copies n line
-
--- n copies of a line are n times as long as the line
-pub length_copies : (n : ℕ) (line : List ℕ) → length (copies n line) ≡ n * length line
-length_copies zero line = omega arith
-length_copies (suc n) line = (let a = length-append line (copies n line) in let b = length_copies n line in grind arith)
-
--- there are at least as many bytes as lines
-pub copies_long : (n : ℕ) (line : List ℕ) → 1 ≤ length line → n ≤ length (copies n line)
-copies_long zero line some = omega arith
-copies_long (suc n) line some = omega (arith, copies_long n line some, length-append line (copies n line))
 
 -- each of them holds the event
 pub copies_hold : (n : ℕ) (line behind : List ℕ) (e : Event) → IsLine e line → lines_of (copies n line ++ behind) ≡ replicate n (Holds e) ++ lines_of behind
@@ -84,20 +74,6 @@ alike_first text size n k some within few same long =
           ∙ ap (λ (xs : List ℕ). line ++ xs) (more ∙ ap (λ (j : ℕ). copies k line ++ drop (k * j) behind) is)
           ∙ sym (append_assoc line (copies k line) (drop (k * size) behind))
           ∙ ap (λ (j : ℕ). copies j line ++ drop (k * size) behind) (let e : suc k ≡ 1 + k = omega arith in e);
-    }
-
--- the lines and the bytes of the rest are no more than the bytes of the text
-pub alike_shorter : (text line rest : List ℕ) (times : ℕ) → HasAlike text line rest times → times + length rest ≤ length text
-alike_shorter text line rest times h = omega (arith, ap length h.split, length-append (copies times line) rest, copies_long times line h.some)
-
--- the rest is a rest of the text
-pub alike_behind : (text line rest : List ℕ) (times : ℕ) → HasAlike text line rest times → IsBehind text rest
-alike_behind text line rest times h =
-    let l = ap length h.split ∙ length-append (copies times line) rest in
-    let count : length (copies times line) ≡ length text - length rest = omega arith in
-    record {
-      short = omega arith;
-      same = sym (drop-append_seam (copies times line) rest) ∙ ap (drop (length (copies times line))) (sym h.split) ∙ ap (λ (j : ℕ). drop j text) count;
     }
 
 -- the lines of the text are those that hold the event, and then those of the rest, whatever follows
