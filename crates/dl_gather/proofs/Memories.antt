@@ -1,5 +1,5 @@
 -- Each sphere of a plan, and each that is read of it, has a size of memory that is good.
-use Rattle.std.proofs.Common.{ℕ, zero, suc, ◌+◌, ◌<◌, List, [], ◌∷◌, ◌++◌, length, map, get_or, arith}
+use Rattle.std.proofs.Common.{◌≡◌, ℕ, zero, suc, ◌+◌, ◌<◌, List, [], ◌∷◌, ◌++◌, length, map, get_or, refl, arith}
 use Rattle.std.specs.List.{AllByRecursion}
 use Rattle.dl_plan.specs.declared.Sphere.{Sphere}
 use Rattle.dl_plan.specs.Values.{SphereValues, IsMemory, AreMemories, sphere_view as planned}
@@ -31,3 +31,8 @@ all_pushed P f (y ∷ ys) x all is = (all.0, all_pushed P f ys x all.1 is)
 -- with one sphere more, which has a good size of memory, all have
 pub more_memories : (inputs : List SphereInputs) (x : SphereInputs) → HaveMemories (map sphere_view inputs) → IsMemory x.memory → HaveMemories (map sphere_view (inputs ++ x ∷ []))
 more_memories inputs x have is = all_pushed (λ (s : SphereRead). IsMemory s.memory) sphere_view inputs x have is
+
+-- with one element more a list is longer by one
+pub length_pushed : {X : Type 0} (xs : List X) (x : X) → length (xs ++ x ∷ []) ≡ length xs + 1
+length_pushed [] x = refl
+length_pushed (y ∷ ys) x = let rest = length_pushed ys x in omega (arith, rest)

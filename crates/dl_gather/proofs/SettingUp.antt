@@ -9,8 +9,8 @@ use Rattle.spec_program.specs.Built.{sphere_of, spheres_of}
 use Rattle.spec_program.specs.Stages.{Refused}
 use Rattle.dl_gather.specs.declared.inputs.SphereInputs.{SphereInputs}
 use Rattle.dl_gather.specs.Inputs.{sphere_view}
+use Rattle.dl_gather.proofs.Memories.{length_pushed}
 use Rattle.dl_gather.proofs.Stages.{after, one_more}
-use Rattle.spec_log.proofs.Sections.{length-push}
 
 -- the spheres that are set up come before those that are made of what is left
 abbrev pub Come : (whole : Result (List protocol.SphereSetup) Refused) → (done : List SphereSetup) → (inputs : List SphereInputs) → (images : List Image) → Type 0
@@ -22,7 +22,7 @@ pub setup_more : (whole : Result (List protocol.SphereSetup) Refused) (done new 
     → Come whole new rest images
 setup_more whole done new x rest image images n sphere come number made pushed =
     let left = λ (k : ℕ). spheres_of k (map sphere_view rest) images in
-    let more : suc (length done) ≡ length (done ++ sphere ∷ []) = let l = length-push done sphere in omega (arith, l) in
+    let more : suc (length done) ≡ length (done ++ sphere ∷ []) = let l = length_pushed done sphere in omega (arith, l) in
     one_more whole (map setup_view done) (setup_view sphere) (sphere_of (length done) (sphere_view x) image) (left (suc (length done))) come
     (ap (λ (k : ℕ). sphere_of k (sphere_view x) image) (sym number) ∙ made)
     ∙ ap (λ (xs : List protocol.SphereSetup). after xs (left (suc (length done)))) (sym (map-append setup_view done (sphere ∷ [])))

@@ -9,12 +9,11 @@ use Rattle.dl_gather.specs.Inputs.{IsPlannedRole, AreReadRoles, HaveMemories, sp
 use Rattle.dl_gather.specs.Halts.{Unread}
 use Rattle.dl_gather.specs.Reads.{read_for_sphere}
 use Rattle.dl_gather.proofs.Spheres.{sphere_part, spheres_more, turns_more}
-use Rattle.dl_gather.proofs.Memories.{more_memories, planned_memory}
+use Rattle.dl_gather.proofs.Memories.{length_pushed, more_memories, planned_memory}
 use Rattle.dl_gather.proofs.Recordable.{more_recordable, planned_recordable}
 use Rattle.dl_gather.proofs.Stages.{after}
 use Rattle.dl_gather.proofs.Stopping.{halt_carried, unread_in}
 use Rattle.dl_gather.proofs.gathering.read_spheres.Goals as goal
-use Rattle.spec_log.proofs.Sections.{length-push}
 
 pub returns-in_err-sphere-clause-halt : goal.returns-in_err-sphere-clause-halt
 returns-in_err-sphere-clause-halt g c =
@@ -52,7 +51,7 @@ loop-sphere-preserved g c =
       read = λ m e. spheres_more m ss i d done x c.loop-sphere-test.true (inv.read m e) (made m e) ∙ ap (λ (xs : List SphereInputs). after (map sphere_inputs xs) (spheres_read m (map sphere_view (drop (i + 1) ss)))) (sym pushed);
       turns = λ m e. turns_more m ss i d x c.loop-sphere-test.true (inv.turns m e) (made m e);
       seen = c.in_ok-sphere.ensures.same ∙ inv.seen;
-      count = ap length pushed ∙ length-push done x ∙ ap (λ (n : ℕ). n + 1) inv.count;
+      count = ap length pushed ∙ length_pushed done x ∙ ap (λ (n : ℕ). n + 1) inv.count;
       memories = subst (λ (xs : List SphereInputs). HaveMemories (map sphere_inputs xs)) (sym pushed) (more_memories done x inv.memories has);
       roles =
           λ s are.

@@ -5,10 +5,9 @@ use Rattle.spec_program.specs.Built.{image_read, images_of}
 use Rattle.dl_gather.specs.declared.inputs.SphereInputs.{SphereInputs}
 use Rattle.dl_gather.specs.Inputs.{sphere_view}
 use Rattle.dl_gather.proofs.Stages.{after}
-use Rattle.dl_gather.proofs.Memories.{memory_at}
+use Rattle.dl_gather.proofs.Memories.{memory_at, length_pushed}
 use Rattle.dl_gather.proofs.Loading.{images_more}
 use Rattle.dl_gather.proofs.images.load_images.Goals as goal
-use Rattle.spec_log.proofs.Sections.{length-push}
 
 pub load_one-requires : goal.load_one-requires
 load_one-requires c =
@@ -27,5 +26,5 @@ loop-i-preserved c =
     let made : image_read i (sphere_view (get_or inputs i d)) ≡ Ok x = ap (λ (s : SphereInputs). image_read i (sphere_view s)) (sym c.index-inputs-i.is) ∙ c.in_ok-image.ensures.image in (
       images_more inputs i d done x within c.loop-i.invariant.0 made
           ∙ ap (λ (xs : List Image). after xs (images_of (i + 1) (map sphere_view (drop (i + 1) inputs)))) (sym pushed),
-      ap length pushed ∙ length-push done x ∙ ap (λ (n : ℕ). n + 1) c.loop-i.invariant.1,
+      ap length pushed ∙ length_pushed done x ∙ ap (λ (n : ℕ). n + 1) c.loop-i.invariant.1,
     )

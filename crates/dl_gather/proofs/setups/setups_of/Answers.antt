@@ -6,10 +6,10 @@ use Rattle.spec_program.specs.Built.{spheres_of}
 use Rattle.dl_gather.specs.declared.inputs.SphereInputs.{SphereInputs}
 use Rattle.dl_gather.specs.Inputs.{sphere_view}
 use Rattle.dl_gather.specs.Intervals.{AreAllOrdered}
+use Rattle.dl_gather.proofs.Memories.{length_pushed}
 use Rattle.dl_gather.proofs.SettingUp.{setup_more}
 use Rattle.dl_gather.proofs.Stages.{after}
 use Rattle.dl_gather.proofs.setups.setups_of.Goals as goal
-use Rattle.spec_log.proofs.Sections.{length-push}
 
 pub setup_of-requires : goal.setup_of-requires
 setup_of-requires c =
@@ -49,7 +49,7 @@ loop-input-preserved c =
       begun =
           subst (All HasBegun) (sym pushed)
           (All-append HasBegun done (sphere ∷ []) at.invariant.begun (All-cons HasBegun sphere [] c.in_ok-sphere.ensures.begun (All-nil HasBegun)));
-      number = omega (arith, ap length pushed, length-push done sphere, length-push at.yielded x, at.invariant.number);
+      number = omega (arith, ap length pushed, length_pushed done sphere, length_pushed at.yielded x, at.invariant.number);
       made =
           setup_more _ done c.push.new.self.items x rest c.in-Some-next.image images c.len.result sphere
           (at.invariant.made ∙ (λ k. after (map setup_view done) (spheres_of (length done) (map sphere_view (steps k)) (taken k))))
