@@ -1,5 +1,5 @@
 -- Words as a chunk sees them.
-use Rattle.std.proofs.Common.{◌≡◌, ℕ, ◌+◌, ◌/◌, ◌%◌, ◌≤◌, true, false, is_err, List, [], length, Option, Some, Result, Ok, Err, OnOk, sym, subst, ◌∙◌, ap, arith}
+use Rattle.std.proofs.Common.{◌≡◌, ℕ, ◌+◌, ◌/◌, ◌%◌, ◌≤◌, true, false, is_err, List, length, Option, Some, Result, Ok, Err, OnOk, sym, subst, ◌∙◌, ap, arith}
 use Rattle.std.proofs.lemmas.Bool.{true≢false}
 use Rattle.spec_isa.specs.Words.{Stored, Apart, IsBytes, lays, put, read}
 use Rattle.spec_isa.specs.Masks.{over, bytes_of}
@@ -29,10 +29,6 @@ shown_put m slots c n after a mask value apart room e =
     record { room = room; bytes = ap (λ (x : Notes). lays m x.words.words) e ∙ lays_put m n.words.words (bytes_of a mask value) apart }
 
 -- ---- the words laid over bytes
-
--- no words at all, laid over bytes, leave bytes
-pub none_leave : LeaveBytes []
-none_leave = record { each = λ m bytes. bytes }
 
 -- words that leave bytes do with a store of bytes put to them
 pub put_leave : (ws : List Stored) (a mask value : ℕ) → Apart ws → LeaveBytes ws → LeaveBytes (put ws (bytes_of a mask value))

@@ -65,10 +65,6 @@ here-and-behind lines n line more e =
 
 -- ---- the rest of a text
 
--- a text is a rest of itself
-pub behind_itself : (text : List ℕ) → IsBehind text text
-behind_itself text = record { short = omega arith; same = ap (λ (n : ℕ). drop n text) (let n : 0 ≡ length text - length text = omega arith in n) }
-
 -- a rest of a rest is a rest
 pub behind_more : (text left rest : List ℕ) → IsBehind text left → IsBehind left rest → IsBehind text rest
 behind_more text left rest a b =
@@ -112,10 +108,6 @@ events-more : (lines : List Line) (i : ℕ) (line : Line) → slice_get lines i 
 events-more lines i line at =
     ap events_of (take_more lines i line (slice_get_within lines i line at)) ∙ filter_map-append event_in (take i lines) _
     ∙ ap (λ x. events_of (take i lines) ++ events_of (x ∷ [])) (get_or_from_slice_get lines i line line at)
-
--- before the first line is read there is no event
-pub nothing_read : (lines : List Line) → IsRead lines 0 []
-nothing_read lines = record { within = omega arith; held = refl; taken = λ k l. absurd (omega arith) }
 
 -- a line that isn't refused adds the event that it holds, if any, to those that were read
 pub one_read : (lines : List Line) (i : ℕ) (events more : List Event) (line : Line) → IsRead lines i events → slice_get lines i ≡ Some line → is_refused_after events (Some line) ≡ false → more ≡ events ++ events_of (line ∷ []) → IsRead lines (i + 1) more

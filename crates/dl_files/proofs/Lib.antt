@@ -1,3 +1,4 @@
 pub mod Lengths
+pub mod Maps
 pub mod Places
 pub mod Telling

@@ -5,17 +5,13 @@ use Rattle.std.specs.List.{position_or_len}
 use Rattle.std.proofs.lemmas.Bool.{ltb-true, ltb-false}
 use Rattle.std.proofs.lemmas.Bool.Decides.{Decides-ltb}
 use Rattle.std.specs.Str.{bytes_eq}
-use Rattle.std.specs.Ordering.{nat_cmp, eq_by_cmp}
+use Rattle.std.specs.Ordering.{nat_cmp}
 use Rattle.std.specs.Cmp.Lexicographic.{slice_cmp, nat_list_cmp_total}
 use Rattle.std.specs.FinMap.{find, get, insert, get-insert, get-from_entries, same_map, slice_cmp-IsAntisymmetric, nat_cmp-IsAntisymmetric}
-use Rattle.std.proofs.lemmas.Map.Text.{is_eq-slice_cmp}
 use Rattle.std.proofs.lemmas.Slice.Eq.{bytes_eq-Decides}
 use Rattle.dl_files.specs.Contents.{SameBut, more}
 use Rattle.dl_files.specs.Entries.{Entry, contents_of, place_of, name_at, bytes_at, with_name, NamesStay}
-
--- two names are the same, as the map's order tests it
-abbrev same : List ℕ → List ℕ → Bool
-same = eq_by_cmp (slice_cmp nat_cmp)
+use Rattle.dl_files.proofs.Maps.{same, same-true, same-false, same_itself}
 
 -- the bytes of a name, if an entry has it
 abbrev found : List ℕ → List Entry → Option (List ℕ)
@@ -27,17 +23,7 @@ FirstAt [] name i = ⊥
 FirstAt (e ∷ es) name zero = e.0 ≡ name
 FirstAt (e ∷ es) name (suc i) = (e.0 ≢ name) × FirstAt es name i
 
--- the test is true only of equal names
-same-true : (x y : List ℕ) → same x y ≡ true → x ≡ y
-same-true x y e = (bytes_eq-Decides x y).0 (sym (is_eq-slice_cmp x y) ∙ e)
-
-same_itself : (x y : List ℕ) → x ≡ y → same x y ≡ true
-same_itself x y e = is_eq-slice_cmp x y ∙ (bytes_eq-Decides x y).1 e
-
-same-false : (x y : List ℕ) → x ≢ y → same x y ≡ false
-same-false x y n = elim (same x y) as (λ b. same x y ≡ b → b ≡ false) [ true ↦ λ e. absurd (n (same-true x y e)) | false ↦ λ _. refl ] refl
-
--- nor are names the same whose bytes differ
+-- names whose bytes differ aren't the same
 differ : (x y : List ℕ) → bytes_eq x y ≡ false → x ≢ y
 differ x y e same = let t : bytes_eq x y ≡ true = (bytes_eq-Decides x y).1 same in cc
 

@@ -1,50 +1,16 @@
 -- What a system tells after some calls, one after another.
-use Rattle.std.proofs.Common.{◌≡◌, ◌≢◌, ℕ, ◌+◌, List, [], ◌∷◌, ◌++◌, Bool, true, false, cond, Option, None, Some, refl, sym, ap, subst, ◌∙◌, arith, unwrap_or, le_refl, take, Result, Ok, Err, OnOk, OnErr}
+use Rattle.std.proofs.Common.{◌≡◌, ◌≢◌, ℕ, ◌+◌, List, [], ◌++◌, Option, None, Some, refl, sym, ap, subst, ◌∙◌, arith, unwrap_or, le_refl, take, Result, Ok, Err, OnOk, OnErr}
 use Rattle.std.specs.Prelude.{IfOk, IfSome}
-use Rattle.std.specs.Ordering.{nat_cmp, eq_by_cmp}
-use Rattle.std.specs.Cmp.Lexicographic.{slice_cmp, nat_list_cmp_total}
-use Rattle.std.specs.FinMap.{get, insert, get-insert, same_map, slice_cmp-IsAntisymmetric, nat_cmp-IsAntisymmetric}
-use Rattle.std.proofs.lemmas.Map.Text.{is_eq-slice_cmp}
-use Rattle.std.proofs.lemmas.Slice.Eq.{bytes_eq-Decides}
+use Rattle.std.specs.FinMap.{get, insert}
 use Rattle.std.proofs.lemmas.List.{append_assoc}
 use Rattle.dl_files.specs.Contents.{Contents, more}
 use Rattle.dl_files.specs.Told.{Told, Reads, Grows, Spoils, holding, opening}
+use Rattle.dl_files.proofs.Maps.{get_inserted, get_other, insert_twice}
 
 -- ---- files
 
-abbrev same : List ℕ → List ℕ → Bool
-same = eq_by_cmp (slice_cmp nat_cmp)
-
-same_self : (k : List ℕ) → same k k ≡ true
-same_self k = is_eq-slice_cmp k k ∙ (bytes_eq-Decides k k).1 refl
-
-same_not : (x y : List ℕ) → x ≢ y → same x y ≡ false
-same_not x y n = elim (same x y) as (λ b. same x y ≡ b → b ≡ false) [ true ↦ λ e. absurd (n ((bytes_eq-Decides x y).0 (sym (is_eq-slice_cmp x y) ∙ e))) | false ↦ λ _. refl ] refl
-
-shadow : (b : Bool) (x y z : Option (List ℕ)) → cond b x (cond b y z) ≡ cond b x z
-shadow true x y z = refl
-shadow false x y z = refl
-
-insert_twice : (m : Contents) (k a b : List ℕ) → insert (insert m k a) k b ≡ insert m k b
-insert_twice m k a b =
-    same_map nat_list_cmp_total (slice_cmp-IsAntisymmetric nat_cmp-IsAntisymmetric) _ _
-    (λ q. get-insert nat_list_cmp_total (insert m k a) k b q
-    ∙ ap (cond (same q k) (Some b)) (get-insert nat_list_cmp_total m k a q)
-    ∙ shadow (same q k) (Some b) (Some a) (get m q)
-    ∙ sym (get-insert nat_list_cmp_total m k b q))
-
-get_inserted : (m : Contents) (k a : List ℕ) → get (insert m k a) k ≡ Some a
-get_inserted m k a = get-insert nat_list_cmp_total m k a k ∙ ap (λ b. cond b (Some a) (get m k)) (same_self k)
-
-get_other : (m : Contents) (k a q : List ℕ) → q ≢ k → get (insert m k a) q ≡ get m q
-get_other m k a q n = get-insert nat_list_cmp_total m k a q ∙ ap (λ b. cond b (Some a) (get m q)) (same_not q k n)
-
 more_of : (m : Contents) (k a b : List ℕ) → more k b (insert m k a) ≡ insert m k (a ++ b)
 more_of m k a b = ap (λ o. insert (insert m k a) k (unwrap_or o [] ++ b)) (get_inserted m k a) ∙ insert_twice m k a (a ++ b)
-
-append_none : (xs : List ℕ) → xs ++ [] ≡ xs
-append_none [] = refl
-append_none (x ∷ xs) = ap (λ (l : List ℕ). x ∷ l) (append_none xs)
 
 -- ---- reading
 

@@ -44,10 +44,6 @@ events_after w (e ∷ es) =
 
 -- ---- runs
 
-after_both : (w : World) (es fs : List Event) → world_after w (es ++ fs) ≡ world_after (world_after w es) fs
-after_both w [] fs = refl
-after_both w (e ∷ es) fs = after_both (happens w e).world es fs
-
 -- these events have led to the world, and nothing was given up
 pub record IsWhole (w : World) : Type 0 where
   pub setup : Setup

@@ -1,7 +1,7 @@
 -- A walk up to an interval's first commit leaves the state where its replay begins, and says whether the play diverges before it.
 use Rattle.std.proofs.Common.{◌≡◌, ℕ, zero, suc, ◌<◌, ◌≤◌, inl, inr, Bool, true, false, cond, Option, Some, None, List, refl, sym, ap, ◌∙◌, subst, arith}
 use Rattle.std.specs.Prelude.{◌||◌, nat_le, nat_lt, slice_get}
-use Rattle.std.proofs.lemmas.Bool.{true≢false, cases_lt, lt-ltb}
+use Rattle.std.proofs.lemmas.Bool.{cases_lt, lt-ltb}
 use Rattle.dl_entry.specs.declared.Actor.{Actor}
 use Rattle.dl_entry.specs.declared.End.{End}
 use Rattle.dl_entry.specs.declared.Why.{Why}
@@ -23,6 +23,7 @@ use Rattle.spec_play.specs.Intervals.{IsWithin, without_commits}
 use Rattle.spec_play.proofs.Going.{plays-most, plays-go}
 use Rattle.dl_sphere.specs.Setups.{HasCome}
 use Rattle.dl_gather.specs.Intervals.{HasDivergedBefore}
+use Rattle.spec_sphere.proofs.PlayingBack.Moves.{not_less}
 
 -- ---- how a play ends
 
@@ -51,16 +52,9 @@ left_ends : (count n : ℕ) (left : Bool) → count ≤ n → EndsAt count n (at
 left_ends count n true over = refl
 left_ends count n false over = over
 
-not_below : (n count : ℕ) → nat_lt n count ≡ false → count ≤ n
-not_below n count e =
-    elim (cases_lt n count) [
-      | inl below ↦ absurd (true≢false (sym (lt-ltb n count below) ∙ e))
-      | inr over ↦ over
-    ]
-
 below_ends : (count n : ℕ) (ts : List Parts) (o : Option Actor) (left below : Bool) → nat_lt n count ≡ below → EndsAt count n (cond below (turn_of n ts o) (at_end n left))
 below_ends count n ts o left true e = actor_ends count n ts o
-below_ends count n ts o left false e = left_ends count n left (not_below n count e)
+below_ends count n ts o left false e = left_ends count n left (not_less n count e)
 
 now_ends : (log : LogParts) (p : Progress) (u : Used) (ts : List Parts) → EndsAt log.count (position p) (now_at log p u ts)
 unfolding now_at

@@ -9,5 +9,4 @@ pub mod SettingUp
 pub mod Spheres
 pub mod Stages
 pub mod Stopping
-pub mod Tasking
 pub mod Unread

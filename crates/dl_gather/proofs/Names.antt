@@ -1,11 +1,9 @@
 -- Names that are read of a part are read of the whole.
-use Rattle.std.proofs.Common.{◌≡◌, ℕ, zero, suc, ◌<◌, List, [], ◌∷◌, length, map, get_or, flat_map, cond, Contains, Option, Some, None, Result, Ok, ok_or, refl, sym, ap, subst, ◌∙◌, arith}
-use Rattle.std.specs.Cmp.Lexicographic.{nat_list_cmp_total}
-use Rattle.std.specs.FinMap.{empty, get, insert, get-insert}
-use Rattle.std.proofs.lemmas.Map.Text.{is_eq-slice_cmp}
-use Rattle.std.proofs.lemmas.Slice.Eq.{bytes_eq-Decides}
+use Rattle.std.proofs.Common.{◌≡◌, ℕ, zero, suc, ◌<◌, List, [], ◌∷◌, length, map, get_or, flat_map, Contains, Option, Some, None, Result, Ok, ok_or, refl, sym, ap, subst, ◌∙◌, arith}
+use Rattle.std.specs.FinMap.{empty, insert}
 use Rattle.std.proofs.lemmas.List.Elements.{Contains-append_left, Contains-append_right}
 use Rattle.dl_files.specs.Contents.{Contents}
+use Rattle.dl_files.proofs.Maps.{get_inserted}
 use Rattle.dl_plan.specs.Files.{input_names}
 use Rattle.dl_plan.specs.Plans.{plan_of}
 use Rattle.dl_plan.specs.Values.{PlanValues}
@@ -26,11 +24,6 @@ may_hold (Some m) P Q follows p = follows m p
 pub holds_always : (known : Option Contents) (P : Contents → Type 0) → ((m : Contents) → P m) → MayHold known P
 holds_always None P all = (empty, all empty)
 holds_always (Some m) P all = all m
-
-get_inserted : (m : Contents) (name bytes : List ℕ) → get (insert m name bytes) name ≡ Some bytes
-get_inserted m name bytes =
-    get-insert nat_list_cmp_total m name bytes name
-    ∙ ap (λ b. cond b (Some bytes) (get m name)) (is_eq-slice_cmp name name ∙ (bytes_eq-Decides name name).1 refl)
 
 planned_at : (m : Contents) (name bytes : List ℕ) (p : PlanValues) → read_at m name ≡ Ok bytes → plan_of name bytes ≡ Ok p → plan_at m name ≡ Ok p
 planned_at m name bytes p there is =

@@ -7,13 +7,10 @@ use Rattle.dl_sphere.specs.Setups.{setup_of as setup_view}
 use Rattle.spec_sphere.specs.sphere.Setups as protocol
 use Rattle.spec_program.specs.Built.{sphere_of, spheres_of}
 use Rattle.spec_program.specs.Stages.{Refused}
-use Rattle.dl_gather.specs.declared.halt.Halt.{Halt}
 use Rattle.dl_gather.specs.declared.inputs.SphereInputs.{SphereInputs}
-use Rattle.dl_gather.specs.Halts.{Refuses}
 use Rattle.dl_gather.specs.Inputs.{sphere_view}
 use Rattle.dl_gather.proofs.Memories.{length_pushed}
-use Rattle.dl_gather.proofs.Stages.{after, none_made, one_more}
-use Rattle.dl_gather.proofs.Stopping.{refuses_in}
+use Rattle.dl_gather.proofs.Stages.{after, one_more}
 
 -- the spheres that are set up come before those that are made of what is left
 abbrev pub Come : (whole : Result (List protocol.SphereSetup) Refused) → (done : List SphereSetup) → (inputs : List SphereInputs) → (images : List Image) → Type 0
@@ -31,10 +28,3 @@ setup_more whole done new x rest image images n sphere come number made pushed =
     ∙ ap (λ (xs : List protocol.SphereSetup). after xs (left (suc (length done)))) (sym (map-append setup_view done (sphere ∷ [])))
     ∙ ap (λ (k : ℕ). after (map setup_view (done ++ sphere ∷ [])) (left k)) more
     ∙ ap (λ (xs : List SphereSetup). after (map setup_view xs) (left (length xs))) (sym pushed)
-
--- a sphere that is refused, once those before it are set up, refuses all
-pub setup_refused : (whole : Result (List protocol.SphereSetup) Refused) (done : List SphereSetup) (x : SphereInputs) (rest : List SphereInputs) (image : Image) (images : List Image) (n : ℕ) (h : Halt)
-    → Come whole done (x ∷ rest) (image ∷ images) → n ≡ length done → Refuses (sphere_of n (sphere_view x) image) h → Refuses whole h
-setup_refused whole done x rest image images n h come number refuses =
-    refuses_in (sphere_of n (sphere_view x) image) whole h
-    (λ r bad. none_made whole (map setup_view done) r (sphere_of (length done) (sphere_view x) image) _ come (ap (λ (k : ℕ). sphere_of k (sphere_view x) image) (sym number) ∙ bad)) refuses

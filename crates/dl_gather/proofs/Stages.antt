@@ -1,16 +1,11 @@
 -- A list that is made entry after entry is the whole list, or refused by the first entry that is.
-use Rattle.std.proofs.Common.{◌≡◌, List, [], ◌∷◌, ◌++◌, Result, Ok, Err, refl, sym, ◌∙◌, ap, append_assoc, append-nil}
+use Rattle.std.proofs.Common.{◌≡◌, List, [], ◌∷◌, ◌++◌, Result, Ok, Err, refl, sym, ◌∙◌, ap, append_assoc}
 use Rattle.spec_program.specs.Stages.{◌>>◌}
 
 -- entries before those that a stage makes
 abbrev pub after : {A E : Type 0} → List A → Result (List A) E → Result (List A) E
 after done (Ok rest) = Ok (done ++ rest)
 after done (Err e) = Err e
-
--- with no entry before, a list is what its stages make
-pub none_before : {A E : Type 0} (o : Result (List A) E) → o ≡ after [] o
-none_before (Ok xs) = refl
-none_before (Err e) = refl
 
 -- an entry is done
 pub moved : {A E : Type 0} (done : List A) (a : A) (rest : Result (List A) E) → after done (rest >> λ xs. Ok (a ∷ xs)) ≡ after (done ++ a ∷ []) rest
@@ -26,7 +21,3 @@ one_more whole done a first rest is made = is ∙ ap (λ o. after done (o >> λ 
 pub none_made : {A B E : Type 0} (whole : Result (List A) E) (done : List A) (e : E) (first : Result B E) (next : B → Result (List A) E)
     → whole ≡ after done (first >> next) → first ≡ Err e → whole ≡ Err e
 none_made whole done e first next is refused = is ∙ ap (λ o. after done (o >> next)) refused
-
--- where nothing is left to make, what is done is the whole
-pub all_made : {A E : Type 0} (whole : Result (List A) E) (done : List A) (rest : Result (List A) E) → whole ≡ after done rest → rest ≡ Ok [] → whole ≡ Ok done
-all_made whole done rest is none = is ∙ ap (after done) none ∙ ap Ok (append-nil done)

@@ -11,9 +11,10 @@ use Rattle.spec_program.specs.Stages.{Refused, refusing, ◌>>◌}
 use Rattle.spec_program.specs.Tasks.{absent, plan_at}
 use Rattle.spec_program.specs.declared.status.Refusal.{Refusal}
 use Rattle.spec_program.proofs.Turns.{AreThere}
+use Rattle.spec_program.proofs.Made.{then_ok}
 use Rattle.dl_gather.specs.declared.halt.Halt.{Halt}
 use Rattle.dl_gather.specs.Forms.{IsLineOf}
-use Rattle.dl_gather.specs.Halts.{Halts, IsFault, IsMissing, Unread, Refuses}
+use Rattle.dl_gather.specs.Halts.{Halts, IsFault, IsMissing, Unread}
 use Rattle.dl_gather.specs.Names.{IsNamed}
 use Rattle.dl_gather.specs.Reads.{read_for_schedule, read_for_role, read_for_sphere}
 use Rattle.dl_gather.proofs.Names.{holds_always, may_hold}
@@ -141,12 +142,6 @@ stage_halts reads stage rest old new h halts =
 
 -- ---- the command
 
--- a stage that is refused stops the stages after it
-pub refuses_in : {A B : Type 0} (stage : Result A Refused) (whole : Result B Refused) (h : Halt) → ((r : Refused) → stage ≡ Err r → whole ≡ Err r) → Refuses stage h → Refuses whole h
-refuses_in stage whole (Halt.Refused why text) errs u = (errs _ u.0, u.1, u.2, u.3)
-refuses_in stage whole (Halt.Fault text) errs u = absurd u
-refuses_in stage whole Halt.OutOfMemory errs u = tt
-
 -- ---- what is there, once a part is read
 
 there_at : (m : Contents) (name bytes : List ℕ) (o : Option (List ℕ)) → ok_or o name ≡ Ok bytes → IsSome o
@@ -156,10 +151,6 @@ there_at m name bytes (Some b) e = refl
 -- once a file's bytes are read, the file is there
 pub file_there : (m : Contents) (name bytes : List ℕ) → read_at m name ≡ Ok bytes → IsSome (get m name)
 file_there m name bytes e = there_at m name bytes (get m name) e
-
-then_ok : {A B E : Type 0} (o : Result A E) (f : A → Result B E) (b : B) → (o >> f) ≡ Ok b → (a : A) × (o ≡ Ok a) × (f a ≡ Ok b)
-then_ok (Err x) f b e = absurd cc
-then_ok (Ok a) f b e = (a, refl, e)
 
 -- once a schedule is read, the file that it names is there
 pub schedule_there : (m : Contents) (s : ScheduleValues) (r : ScheduleRead) → schedule_read m s ≡ Ok r → AreThere m (read_for_schedule s)

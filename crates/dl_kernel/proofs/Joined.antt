@@ -2,7 +2,7 @@
 use Rattle.std.proofs.Common.{◌≡◌, ℕ, zero, suc, ◌+◌, ◌-◌, ◌<◌, ◌≤◌, Bool, true, false, List, [], ◌∷◌, ◌++◌, length, get_or, set, take, drop, map, Vec, Global, refl, sym, ap, ◌∙◌, arith, length-append}
 use Rattle.std.proofs.lemmas.Bool.{true≢false}
 use Rattle.std.specs.List.{flat_map, insert}
-use Rattle.std.proofs.lemmas.List.{append-nil, take_more_set, drop_more, drop-set-lt, get_or-map, map-set, map-append, length-map, set-get_or}
+use Rattle.std.proofs.lemmas.List.{append-nil, take_more_set, drop_more, drop-set-lt, get_or-map, map-set, length-map, set-get_or}
 use Rattle.std.proofs.lemmas.List.Concat.{flat_map-append}
 use Rattle.std.proofs.lemmas.List.Edits.{insert-append_left, insert-append_right, insert_end}
 
@@ -76,26 +76,6 @@ pub same-items : {X : Type 0} (lists : List (Vec X Global)) (t : ℕ) (old new :
     → new.items ≡ old.items → items_of (set lists t new) ≡ items_of lists
 same-items lists t old new l is e =
     map-set (λ w. w.items) lists t new ∙ (ap (λ (x : List _). set (items_of lists) t x) (e ∙ item-at lists t old l is) ∙ set-get_or (items_of lists) t [])
-
-empty-more : {X : Type 0} (xs : List (List X)) (n : ℕ) → all_of (take n (xs ++ [] ∷ [])) ≡ all_of (take n xs)
-empty-more [] zero = refl
-empty-more [] (suc zero) = refl
-empty-more [] (suc (suc n)) = refl
-empty-more (x ∷ xs) zero = refl
-empty-more (x ∷ xs) (suc n) = ap (λ (ys : List _). x ++ ys) (empty-more xs n)
-
--- an empty vector more, among the first ones and among all
-pub one-more-first : {X : Type 0} (lists : List (Vec X Global)) (new : Vec X Global) (n : ℕ) → new.items ≡ [] → all_of (take n (items_of (lists ++ new ∷ []))) ≡ all_of (take n (items_of lists))
-one-more-first lists new n e =
-    ap (λ (xs : List (List _)). all_of (take n xs)) (map-append (λ w. w.items) lists (new ∷ []) ∙ ap (λ (x : List _). items_of lists ++ x ∷ []) e)
-    ∙ empty-more (items_of lists) n
-
--- an empty vector more leaves all entries of the vectors as they are
-pub one-more : {X : Type 0} (lists : List (Vec X Global)) (new : Vec X Global) → new.items ≡ [] → all_of (items_of (lists ++ new ∷ [])) ≡ all_of (items_of lists)
-one-more lists new e =
-    ap all_of (map-append (λ w. w.items) lists (new ∷ []))
-    ∙ (flat_map-append (λ x. x) (items_of lists) (new.items ∷ [])
-    ∙ (ap (λ (x : List _). all_of (items_of lists) ++ (x ++ [])) e ∙ append-nil (all_of (items_of lists))))
 
 -- an entry at the end of a vector is one at the end of its list
 pub item-put : {X : Type 0} (lists : List (Vec X Global)) (t : ℕ) (old new : Vec X Global) (c : X) → t < length lists → old ≡ get_or lists t old

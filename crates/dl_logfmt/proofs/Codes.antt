@@ -45,7 +45,8 @@ Codes-via reader other bytes_of good same codes =
       finds = λ before bytes x after are e. codes.finds before bytes x after are (sym (same _ _) ∙ e);
     }
 
-same_ok : {X : Type 0} (r : Result X Fault) (x y : X) → r ≡ Ok x → r ≡ Ok y → x ≡ y
+-- a result has one value
+pub same_ok : {X : Type 0} (r : Result X Fault) (x y : X) → r ≡ Ok x → r ≡ Ok y → x ≡ y
 same_ok r x y e f = cc
 
 -- to read nothing is to read the one good value, whose bytes are none

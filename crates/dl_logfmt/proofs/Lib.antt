@@ -7,6 +7,7 @@ mod HalvesLaws
 pub mod LogLaws
 mod OrderLaws
 pub mod Parsing
+pub mod Repeating
 pub mod SectionLaws
 pub mod SizeLaws
 pub mod Streams

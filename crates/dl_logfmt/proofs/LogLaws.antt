@@ -396,7 +396,8 @@ Codes-all =
     Codes-constant_then magic (drop 1 stages) blank blank 4 2 0x4E524C44 bytes-version Known-version (omega arith) (staged-once (number 4 2 (λ x. x == 0x4E524C44)) (λ x. blank))
     Codes-from_version
 
-same-parts : (h o z i n d : List ℕ) → h ++ (o ++ (z ++ (i ++ (n ++ (d ++ []))))) ≡ h ++ o ++ z ++ i ++ n ++ d
+-- six parts, joined from the right or from the left
+pub same-parts : (h o z i n d : List ℕ) → h ++ (o ++ (z ++ (i ++ (n ++ (d ++ []))))) ≡ h ++ o ++ z ++ i ++ n ++ d
 same-parts h o z i n d = simp (append_assoc, append-nil)
 
 all-written : (l : Draft) → bytes-all l ≡ log_bytes (log_of l)

@@ -19,7 +19,7 @@ use Rattle.dl_logfmt.specs.declared.stage_name.StageName.{StageName}
 use Rattle.dl_logfmt.specs.declared.stage_name.StageName.TheVariants.{Magic, Version, Mode, Threads, ChunkSize, Count, Order, Sizes, Interrupts, Inputs, Dmas, End}
 use Rattle.dl_logfmt.specs.declared.parser.Parser.{Parser}
 use Rattle.dl_logfmt.specs.Parsing.{Came, Extends, Feeds, Grew, Reads, Steps, ahead, cut, mark_of, most, next, rank, remaining, said, said_in, stage_at}
-use Rattle.dl_logfmt.specs.Streams.{Stops, Streams, rest_in}
+use Rattle.dl_logfmt.specs.Streams.{Streams, rest_in}
 use Rattle.dl_logfmt.proofs.Streams.{Streams-gives, Streams-read, Streams-wider, Streams-any, Streams-field, Streams-number, Streams-one_more, Streams-short_size, Streams-interrupt, Streams-input, Streams-dma, Streams-sized, step-leads, step-stops}
 
 -- a stage that isn't the end is the first of those ahead, with those after it
@@ -223,40 +223,14 @@ module _ (stage : StageName) (left : Option ℕ) (d : Draft) (bytes : List ℕ) 
       )
   once-unread n e after OutOfMemory is more h = tt
 
--- a parser that reads nothing stays where it is
-pub Came-same : (bytes : List ℕ) (p : Parser) (at : ℕ) → at ≤ length bytes → Came bytes p at p at
-Came-same bytes p at inside = record { leads = λ before behind. refl; within = inside; cost = omega arith }
-
 -- a parser that reads on, and then on, has read on by both
 pub Came-then : (bytes : List ℕ) (p : Parser) (at : ℕ) (q : Parser) (middle : ℕ) (r : Parser) (after : ℕ)
     → Came bytes p at q middle → Came bytes q middle r after → Came bytes p at r after
 Came-then bytes p at q middle r after a b =
     record { leads = λ before behind. a.leads before behind ∙ b.leads before behind; within = b.within; cost = omega (arith, a.cost, b.cost) }
 
--- where a step fails, all was read up to it, with that error
-pub step-exit : (bytes : List ℕ) (p : Parser) (at : ℕ) (q : Parser) (middle : ℕ) (r : Parser) (after : ℕ) (error : LogError)
-    → Came bytes p at q middle → Steps bytes q middle (Err error) r after → Reads bytes p at (Err error) r middle
-step-exit bytes p at q middle r after (Malformed fault) came (still, stops) =
-    subst (λ (z : Parser). Came bytes p at z middle × Stops bytes (remaining z) middle fault) (sym still) (came, stops)
-step-exit bytes p at q middle r after OutOfMemory came h = tt
-
--- a list extends itself
-pub Extends-same : {X : Type 0} (xs : List X) → Extends xs xs
-Extends-same xs = ([], rw (append-nil xs) refl)
-
 Extends-then : {X : Type 0} (xs ys zs : List X) → Extends xs ys → Extends ys zs → Extends xs zs
 Extends-then xs ys zs a b = (a.0 ++ b.0, rw (b.1, a.1) (append_assoc xs a.0 b.0))
-
-pub Grew-same : (d : Draft) → Grew d d
-Grew-same d =
-    record {
-      order = Extends-same d.order;
-      each = Extends-same d.each;
-      short = Extends-same d.short;
-      interrupts = Extends-same d.interrupts;
-      inputs = Extends-same d.inputs;
-      dmas = Extends-same d.dmas;
-    }
 
 -- a draft that grew, and grew again, grew
 pub Grew-then : (d e f : Draft) → Grew d e → Grew e f → Grew d f

@@ -10,6 +10,7 @@ use Rattle.spec_log.specs.declared.shape.Shape.{Shape}
 use Rattle.spec_log.specs.Versions.{size_width}
 use Rattle.spec_log.specs.Reading.{thread, short_size, interrupt, counted, input, dma}
 use Rattle.dl_logfmt.specs.Streams.{Holds, Streams, Leads, Stops}
+use Rattle.dl_logfmt.proofs.Codes.{same_ok}
 
 -- a bound may be wider
 pub Holds-wider : {X : Type 0} (most wider : ℕ) (before bytes behind : List ℕ) (from at : ℕ) (r whole : Result (Read X) Fault)
@@ -158,14 +159,11 @@ Streams-interrupt shape =
     Streams-read 4 0 (any 4) _ (Streams-any 4) (λ value. Streams-gives _)))
 
 -- a number that passed its test
-same-value : {X : Type 0} (r : Result X Fault) (x y : X) → r ≡ Ok x → r ≡ Ok y → x ≡ y
-same-value r x y e f = cc
-
 passed : (fault start x : ℕ) (y : Read ℕ) (after : ℕ) (good : Bool) (bytes : List ℕ)
     → passes good fault start x bytes after ≡ Ok y → (good ≡ true) × (x ≡ y.value)
 passed fault start x y after true bytes e =
     let r : Read ℕ = record { value = x; after = after } in
-    (refl, ap (λ (z : Read ℕ). z.value) (same-value (Ok r) r y refl e))
+    (refl, ap (λ (z : Read ℕ). z.value) (same_ok (Ok r) r y refl e))
 passed fault start x y after false bytes e = cc
 
 -- the value of a number that was read passed its test

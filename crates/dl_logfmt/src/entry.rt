@@ -10,8 +10,9 @@ ghost use Rattle.spec_log.specs.declared.shape.Shape.{Shape};
 ghost use Rattle.dl_logfmt.specs.Answer.{Answers};
 
 use crate::error::LogError;
+use crate::faults::FIELD;
 use crate::fixed::Fixed;
-use crate::numbers::{FIELD, judge, read_thread, read_u32};
+use crate::numbers::{judge, read_thread, read_u32};
 use crate::recorded::{is_before, read_counted, read_kind, read_short};
 use crate::source::Source;
 use crate::unit::Unit;

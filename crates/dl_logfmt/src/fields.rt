@@ -7,7 +7,8 @@ ghost use Rattle.spec_log.specs.Versions.{most_standard as most_of};
 ghost use Rattle.dl_logfmt.specs.Answer.{Answers};
 
 use crate::error::LogError;
-use crate::numbers::{FIELD, judge, read_u8, read_u16, read_u32};
+use crate::faults::{FIELD, MAGIC, MODE, VERSION};
+use crate::numbers::{judge, read_u8, read_u16, read_u32};
 use crate::version::most_standard;
 use dl_entry::{LEAST_CHUNK, MOST_THREADS, PLAIN_THREADS};
 use spec_log::ModeName;
@@ -19,7 +20,7 @@ pub fn read_magic(bytes: &[u8], at: &mut usize) -> Result<u32, LogError>
 {
     let start = *at;
     let word = read_u32(bytes, at)?;
-    judge(word == u32::from_le_bytes(*b"DLRN"), 2, start)?;
+    judge(word == u32::from_le_bytes(*b"DLRN"), MAGIC, start)?;
     Ok(word)
 }
 
@@ -30,7 +31,7 @@ pub fn read_version(bytes: &[u8], at: &mut usize) -> Result<u8, LogError>
 {
     let start = *at;
     let version = read_u8(bytes, at)?;
-    judge(version == 1 || version == 2, 3, start)?;
+    judge(version == 1 || version == 2, VERSION, start)?;
     Ok(version)
 }
 
@@ -41,7 +42,7 @@ pub fn read_code(bytes: &[u8], at: &mut usize) -> Result<u8, LogError>
 {
     let start = *at;
     let code = read_u8(bytes, at)?;
-    judge(code <= 2, 4, start)?;
+    judge(code <= 2, MODE, start)?;
     Ok(code)
 }
 

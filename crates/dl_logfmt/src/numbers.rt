@@ -5,11 +5,9 @@ ghost use Rattle.spec_log.specs.Fields.{raw, any};
 ghost use Rattle.spec_log.specs.Reading.{thread};
 
 use crate::error::LogError;
+use crate::faults::{FIELD, SHORT};
 use byteorder::{ByteOrder, LittleEndian};
 use spec_log::{Fault, Shape};
-
-/// The number of a value out of its range.
-pub const FIELD: u8 = 5;
 
 /// The next so many bytes, as they are.
 pub fn read_raw<'a>(bytes: &'a [u8], at: &mut usize, width: usize) -> Result<&'a [u8], LogError>
@@ -19,7 +17,7 @@ pub fn read_raw<'a>(bytes: &'a [u8], at: &mut usize, width: usize) -> Result<&'a
     ensures no_memory { IfErr result (λ e. e ≢ LogError.OutOfMemory) }
 {
     let short = LogError::Malformed(Fault {
-        number: 1,
+        number: SHORT,
         offset: bytes.len() as u64,
     });
     let Some(left) = bytes.get(*at..) else {

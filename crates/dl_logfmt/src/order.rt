@@ -7,7 +7,8 @@ ghost use Rattle.spec_log.specs.Fields.{field, at_most};
 ghost use Rattle.spec_log.specs.Reading.{actor_of as actor_in, actors_by_halves, is_actor as is_code, one_actor, ordered};
 
 use crate::error::LogError;
-use crate::numbers::{FIELD, judge, read_u8, read_u32};
+use crate::faults::FIELD;
+use crate::numbers::{judge, read_u8, read_u32};
 use dl_entry::{Actor, DMA_CODE, DMA_HALF};
 use spec_log::{ModeName, Order};
 

@@ -3,6 +3,7 @@ ghost use Rattle.std.specs.Prelude.{◌≡◌, ◌≢◌, ◌≤◌, length, Mat
 ghost use Rattle.dl_logfmt.specs.Parsing.{Feeds, Grew, Reads, Steps, unread};
 
 use crate::error::LogError;
+use crate::faults::{SHORT, TRAILING};
 use crate::numbers::judge;
 use crate::source::Source;
 use crate::stage_name::StageName;
@@ -52,7 +53,7 @@ impl Parser {
         ensures grown { Grew self.old.draft self.new.draft }
     {
         match self.read(source, at) {
-            Ok(()) => judge(*at == source.bytes.len(), 7, *at),
+            Ok(()) => judge(*at == source.bytes.len(), TRAILING, *at),
             Err(LogError::Malformed(fault)) => lasting(fault),
             Err(LogError::OutOfMemory) => Err(LogError::OutOfMemory),
         }
@@ -103,7 +104,7 @@ fn lasting(fault: Fault) -> Result<(), LogError>
         (λ _. fault.number ≡ 1)
         (λ error. (fault.number ≢ 1) × (error ≡ LogError.Malformed fault)) }
 {
-    if fault.number == 1 {
+    if fault.number == SHORT {
         Ok(())
     } else {
         Err(LogError::Malformed(fault))

@@ -6,6 +6,7 @@ ghost use Rattle.dl_logfmt.specs.Answer.{IsReading};
 ghost use Rattle.dl_logfmt.specs.Feeding.{HasFed, IsFeeding, fed};
 
 use crate::error::LogError;
+use crate::faults::SHORT;
 use crate::parser::Parser;
 use crate::source::Source;
 use crate::stage_name::StageName;
@@ -108,7 +109,7 @@ impl LogReader {
         }
         if self.parser.stage != StageName::End {
             return Err(LogError::Malformed(Fault {
-                number: 1,
+                number: SHORT,
                 offset: self.start + self.pending.len() as u64,
             }));
         }

@@ -9,7 +9,8 @@ ghost use Rattle.spec_log.specs.Versions.{size_width};
 ghost use Rattle.dl_logfmt.specs.Answer.{Answers};
 
 use crate::error::LogError;
-use crate::numbers::{FIELD, judge, read_raw, read_u8, read_u16};
+use crate::faults::FIELD;
+use crate::numbers::{judge, read_raw, read_u8, read_u16};
 use crate::source::Source;
 use crate::version::read_size;
 use dl_entry::{

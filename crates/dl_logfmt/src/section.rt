@@ -6,6 +6,7 @@ ghost use Rattle.dl_logfmt.specs.Parsing.{Extends};
 
 use crate::entry::Entry;
 use crate::error::LogError;
+use crate::faults::NOT_SORTED;
 use crate::numbers::judge;
 use crate::source::Source;
 use dl_entry::Sequence;
@@ -41,7 +42,7 @@ fn read_entry<E: Entry>(
 {
     let start = *at;
     let entry = E::read(source, at, shape)?;
-    judge(follows(before, &entry), 6, start)?;
+    judge(follows(before, &entry), NOT_SORTED, start)?;
     Ok(entry)
 }
 

@@ -1,65 +1,29 @@
 -- Pieces that are appended to a file one after another make the whole, and nothing else changes.
-use Rattle.std.proofs.Common.{◌≡◌, ◌≢◌, ◌<◌, ◌≤◌, ℕ, min, Bool, true, false, List, [], ◌++◌, length, take, drop, cond, Option, Some, None, inl, inr, refl, sym, ap, subst, ◌∙◌, unwrap_or, arith, append-nil, append_assoc}
+use Rattle.std.proofs.Common.{◌≡◌, ◌<◌, ◌≤◌, ℕ, min, List, [], ◌++◌, length, take, drop, Option, Some, None, inl, inr, refl, sym, ap, subst, ◌∙◌, unwrap_or, arith, append-nil, append_assoc}
 use Rattle.std.specs.Prelude.{IfErr, IfNone, IsErrAnd, Result, Ok, Err}
 use Rattle.std.proofs.Math.Seq.{take-append_seam}
 use Rattle.std.proofs.lemmas.List.{length-take-le, nil_from_length, take-append-drop}
-use Rattle.std.specs.Ordering.{nat_cmp, eq_by_cmp}
-use Rattle.std.specs.Cmp.Lexicographic.{slice_cmp, nat_list_cmp_total}
-use Rattle.std.specs.FinMap.{get, insert, get-insert, same_map, slice_cmp-IsAntisymmetric, nat_cmp-IsAntisymmetric}
-use Rattle.std.proofs.lemmas.Map.Text.{is_eq-slice_cmp}
-use Rattle.std.proofs.lemmas.Slice.Eq.{bytes_eq-Decides}
+use Rattle.std.specs.FinMap.{insert}
 use Rattle.dl_files.specs.Contents.{Contents, SameBut, with_file, with_more}
 use Rattle.dl_files.specs.Count.{Rose, next}
 use Rattle.dl_files.specs.declared.FileError.{FileError}
 use Rattle.dl_files.specs.Seen.{Seen, IsWritten, IsUnwritten, WriteStops}
+use Rattle.dl_files.proofs.Maps.{get_inserted, get_other, insert_twice}
 use Rattle.dl_logio.specs.Files.{IsPartly, LogStops}
-
--- two names are the same
-abbrev same : List ℕ → List ℕ → Bool
-same = eq_by_cmp (slice_cmp nat_cmp)
-
-same_itself : (x : List ℕ) → same x x ≡ true
-same_itself x = is_eq-slice_cmp x x ∙ (bytes_eq-Decides x x).1 refl
-
-same-true : (x y : List ℕ) → same x y ≡ true → x ≡ y
-same-true x y e = (bytes_eq-Decides x y).0 (sym (is_eq-slice_cmp x y) ∙ e)
-
-same-false : (x y : List ℕ) → x ≢ y → same x y ≡ false
-same-false x y n = elim (same x y) as (λ b. same x y ≡ b → b ≡ false) [ true ↦ λ e. absurd (n (same-true x y e)) | false ↦ λ _. refl ] refl
-
-held : (m : Contents) (name bytes : List ℕ) → get (insert m name bytes) name ≡ Some bytes
-held m name bytes = get-insert nat_list_cmp_total m name bytes name ∙ ap (λ b. cond b (Some bytes) (get m name)) (same_itself name)
-
-over_by : (b : Bool) (x y : Option (List ℕ)) (z : Option (List ℕ)) → cond b x (cond b y z) ≡ cond b x z
-over_by true x y z = refl
-over_by false x y z = refl
-
--- of two bytes that a name is given, the later stand
-inserted_over : (m : Contents) (name first second : List ℕ) → insert (insert m name first) name second ≡ insert m name second
-inserted_over m name first second =
-    same_map nat_list_cmp_total (slice_cmp-IsAntisymmetric nat_cmp-IsAntisymmetric) _ _
-    (λ q. get-insert nat_list_cmp_total (insert m name first) name second q
-    ∙ ap (cond (same q name) (Some second)) (get-insert nat_list_cmp_total m name first q)
-    ∙ over_by (same q name) (Some second) (Some first) (get m q)
-    ∙ sym (get-insert nat_list_cmp_total m name second q))
 
 -- what is appended to the bytes that a name was given follows them
 pub appended : (known : Option Contents) (name bytes piece : List ℕ) → with_more name piece (with_file name bytes known) ≡ with_file name (bytes ++ piece) known
 appended None name bytes piece = refl
 appended (Some m) name bytes piece =
-    ap (λ (o : Option (List ℕ)). Some (insert (insert m name bytes) name (unwrap_or o [] ++ piece))) (held m name bytes)
-    ∙ ap Some (inserted_over m name bytes (bytes ++ piece))
-
-other_held : (m : Contents) (name bytes other : List ℕ) → other ≢ name → get (insert m name bytes) other ≡ get m other
-other_held m name bytes other is_other =
-    get-insert nat_list_cmp_total m name bytes other ∙ ap (λ b. cond b (Some bytes) (get m other)) (same-false other name is_other)
+    ap (λ (o : Option (List ℕ)). Some (insert (insert m name bytes) name (unwrap_or o [] ++ piece))) (get_inserted m name bytes)
+    ∙ ap Some (insert_twice m name bytes (bytes ++ piece))
 
 -- where a call on a name has changed nothing else, after the name was given bytes, nothing else has changed before either
 others_kept : (known new : Option Contents) (name bytes : List ℕ) → SameBut name (with_file name bytes known) new → SameBut name known new
 others_kept None None name bytes s = tt
 others_kept None (Some n) name bytes s = s
 others_kept (Some m) None name bytes s = s
-others_kept (Some m) (Some n) name bytes s = λ other is_other. s other is_other ∙ other_held m name bytes other is_other
+others_kept (Some m) (Some n) name bytes s = λ other is_other. s other is_other ∙ get_other m name bytes other is_other
 
 -- bytes that make a whole with what is left are the whole's front
 pub front_of_whole : (bytes left whole : List ℕ) → bytes ++ left ≡ whole → bytes ≡ take (length bytes) whole

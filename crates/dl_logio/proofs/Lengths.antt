@@ -1,8 +1,7 @@
 -- A log has fewer than 2^64 bytes.
-use Rattle.std.proofs.Common.{◌≡◌, ℕ, zero, suc, ◌+◌, ◌*◌, ◌^◌, ◌<◌, ◌≤◌, Bool, true, false, if◌then◌else◌, List, [], ◌∷◌, ◌++◌, length, map, sym, subst, refl, ap, arith}
+use Rattle.std.proofs.Common.{◌≡◌, ℕ, ◌+◌, ◌*◌, ◌^◌, ◌<◌, ◌≤◌, Bool, true, false, if◌then◌else◌, List, [], ◌∷◌, ◌++◌, length, map, sym, subst, ap, arith}
 use Rattle.std.proofs.lemmas.List.{length-append, length-map}
 use Rattle.std.proofs.lemmas.List.Elements.{recursion_from_All}
-use Rattle.std.specs.Int.{bytes_low_first}
 use Rattle.std.specs.List.{flat_map, AllByRecursion}
 use Rattle.dl_entry.specs.Actor.{code}
 use Rattle.dl_entry.specs.declared.Actor.{Actor}
@@ -13,18 +12,11 @@ use Rattle.spec_log.specs.declared.DmaRecord.{DmaRecord}
 use Rattle.spec_log.specs.declared.Interrupt.{Interrupt}
 use Rattle.spec_log.specs.declared.ShortSize.{ShortSize}
 use Rattle.spec_log.specs.declared.Sizes.{Sizes}
-use Rattle.spec_log.specs.Bytes.{little, u8, u16, u32, threads_bytes, header_bytes, section, nibbles, actor_bytes, order_bytes, size_bytes, short_size_bytes, sizes_bytes, interrupt_bytes, counted_bytes, input_bytes, dma_bytes, log_bytes}
+use Rattle.spec_log.specs.Bytes.{u8, u16, u32, threads_bytes, header_bytes, section, nibbles, actor_bytes, order_bytes, size_bytes, short_size_bytes, sizes_bytes, interrupt_bytes, counted_bytes, input_bytes, dma_bytes, log_bytes}
 use Rattle.spec_log.specs.Log.{IsOrder, IsSection, IsSizes, IsInterrupt, AreFewBytes, IsInput, IsDmaRecord, IsLog}
 use Rattle.spec_log.specs.Mode.{mode_code}
 use Rattle.spec_log.specs.Versions.{by_version, size_width}
-
-length_from : (i width x : ℕ) → length (bytes_low_first i width x) ≡ width
-length_from i zero x = refl
-length_from i (suc width) x = ap suc (length_from (suc i) width x)
-
--- a number has as many bytes as it is written in
-length-little : (width x : ℕ) → length (little width x) ≡ width
-length-little width x = length_from 0 width x
+use Rattle.dl_logfmt.proofs.ByteNumbers.{length-little}
 
 -- ---- lists of entries, each of which has at most 4,103 bytes
 

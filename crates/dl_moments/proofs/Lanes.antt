@@ -53,15 +53,6 @@ pub HaveNone-set : {V : Type 0} (lanes : List (LaneState V)) (n m t : ℕ) (new 
 HaveNone-set lanes n m t new none up within k h =
     rw (map-set marks_of lanes t new, get_or-set_other (map marks_of lanes) t k new.marks [] (λ e. omega arith)) (none k (omega arith))
 
-replicate_at : {X : Type 0} (x : X) (n k : ℕ) → get_or (replicate n x) k x ≡ x
-replicate_at x zero k = refl
-replicate_at x (suc n) zero = refl
-replicate_at x (suc n) (suc k) = replicate_at x n k
-
--- of empty lists, from the first on none has a value
-pub empty_none : {V : Type 0} (lanes : List (LaneState V)) (n : ℕ) → map marks_of lanes ≡ replicate n [] → HaveNone 0 (map marks_of lanes)
-empty_none lanes n e k h = rw e (replicate_at [] n k)
-
 -- empty lists with one more empty list are empty lists
 pub empty_lane : {V : Type 0} (lanes : List (LaneState V)) (n : ℕ) (new : LaneState V) → map marks_of lanes ≡ replicate n [] → new.marks ≡ []
     → map marks_of (lanes ++ new ∷ []) ≡ replicate (n + 1) []

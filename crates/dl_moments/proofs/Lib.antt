@@ -2,3 +2,4 @@ pub mod Cuts
 pub mod Entries
 mod Lanes
 mod Places
+pub mod Rising

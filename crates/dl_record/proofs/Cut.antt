@@ -1,9 +1,9 @@
 -- What a recorder holds together still holds together without what came before a state.
-use Rattle.std.proofs.Common.{◌≡◌, ℕ, zero, suc, ◌+◌, ◌-◌, ◌^◌, ◌<◌, ◌≤◌, nat_le, nat_lt, nat_eq, not, Bool, true, false, ◌&&◌, ◌||◌, List, [], ◌∷◌, All, length, map, drop, get_or, slice_index, slice_get, Option, ◌⊎◌, inl, inr, refl, ap, subst, ◌∙◌, arith}
+use Rattle.std.proofs.Common.{◌≡◌, ℕ, zero, suc, ◌+◌, ◌-◌, ◌<◌, ◌≤◌, nat_le, nat_lt, nat_eq, not, Bool, ◌&&◌, ◌||◌, List, [], ◌∷◌, length, map, drop, get_or, slice_index, slice_get, Option, inl, inr, refl, ap, subst, ◌∙◌, arith}
 use Rattle.std.specs.List.{filter, AllAdjacentBelow, AllPairs}
 use Rattle.std.proofs.lemmas.Bool.{lt-ltb, le-ltb, lt-leb, le-leb, eq-eqb, ne_eqb, cases_lt, cases_order, cases_Bool}
 use Rattle.std.proofs.lemmas.List.{length-drop}
-use Rattle.std.proofs.lemmas.List.Elements.{All-filter, All-weaker, All-drop}
+use Rattle.std.proofs.lemmas.List.Elements.{All-filter, All-drop}
 use Rattle.std.proofs.lemmas.List.Kept.{AllPairs-filter}
 use Rattle.dl_entry.specs.declared.input.Input.{Input}
 use Rattle.dl_entry.specs.declared.actor.Actor.{Actor}
@@ -12,7 +12,6 @@ use Rattle.spec_log.specs.declared.mode_name.ModeName.{ModeName}
 use Rattle.spec_log.specs.declared.mode_name.ModeName.TheVariants.{OrderSize, OrderOnly, Picolog}
 use Rattle.spec_log.specs.declared.records.Interrupt.{Interrupt}
 use Rattle.spec_log.specs.declared.records.DmaRecord.{DmaRecord}
-use Rattle.spec_log.specs.declared.sizes.ShortSize.{ShortSize}
 use Rattle.spec_log.specs.declared.sizes.Sizes.{Sizes}
 use Rattle.spec_log.specs.declared.sizes.Sizes.TheVariants.{Each, Short}
 use Rattle.spec_log.specs.Log.{ComesBefore, IsSection, IsActor, IsOrder, IsSizes, IsShortSize, IsInterrupt, IsInput, IsDmaRecord}
@@ -22,6 +21,7 @@ use Rattle.spec_play.specs.Epochs.{commits_of, is_masked, was_done, was_raised, 
 use Rattle.spec_play.specs.Noted.{Recorded}
 use Rattle.spec_play.specs.States.{State}
 use Rattle.dl_moments.proofs.Cuts.{length-filter-few}
+use Rattle.dl_moments.proofs.Rising.{before-far, before-trans}
 use Rattle.dl_input.specs.Tracked.{Tracked, interrupt_of, tracked_since}
 use Rattle.dl_mode.specs.Since.{sizes_since, kept_since}
 use Rattle.dl_record.specs.Epochs.{unraised_of}
@@ -30,18 +30,10 @@ use Rattle.dl_record.specs.Recording.{IsRecording, short_sizes}
 -- ---- sections without some of their entries
 
 module _ {X : Type 0} (before : X → X → Type 0) (trans : (x y z : X) → before x y → before y z → before x z) where
-  far : (xs : List X) → AllAdjacentBelow before xs (length xs) → (i n : ℕ) (d : X) → i + suc n < length xs
-      → before (get_or xs i d) (get_or xs (i + suc n) d)
-  far xs r i zero d h = r i d h
-  far xs r i (suc n) d h =
-      let e : i + suc n + 1 ≡ i + suc (suc n) = omega arith in
-      let b = subst (λ (k : ℕ). before (get_or xs (i + suc n) d) (get_or xs k d)) e (r (i + suc n) d (omega arith)) in
-      trans (get_or xs i d) (get_or xs (i + suc n) d) (get_or xs (i + suc (suc n)) d) (far xs r i n d (omega arith)) b
-
   pairs : (xs : List X) → AllAdjacentBelow before xs (length xs) → AllPairs before xs
   pairs xs r i j d h l =
       let e : i + suc (j - i - 1) ≡ j = omega arith in
-      subst (λ (k : ℕ). before (get_or xs i d) (get_or xs k d)) e (far xs r i (j - i - 1) d (omega arith))
+      subst (λ (k : ℕ). before (get_or xs i d) (get_or xs k d)) e (before-far before trans xs r i (j - i - 1) d (omega arith))
 
   -- entries that pass a test are a section still
   IsSection-filter : (good : X → Type 0) (p : X → Bool) (xs : List X) → IsSection good before xs → IsSection good before (filter p xs)
@@ -51,13 +43,6 @@ module _ {X : Type 0} (before : X → X → Type 0) (trans : (x y z : X) → bef
         each = All-filter p good xs s.each;
         rising = λ k d h. AllPairs-filter before p xs (pairs xs s.rising) k (k + 1) d (omega arith) h;
       }
-
-before-trans : (t i u j v k : ℕ) → ComesBefore t i u j → ComesBefore u j v k → ComesBefore t i v k
-before-trans t i u j v k a b =
-    elim a [
-      | inl x ↦ elim b [ inl y ↦ inl (omega arith) | inr y ↦ inl (omega (arith, y.0)) ]
-      | inr x ↦ elim b [ inl y ↦ inl (omega (arith, x.0)) | inr y ↦ inr (x.0 ∙ y.0, omega (arith, x.1, y.1)) ]
-    ]
 
 IsSection-moments : {X : Type 0} (thread index : X → ℕ) (good : X → Type 0) (p : X → Bool) (xs : List X)
     → IsSection good (λ x y. ComesBefore (thread x) (index x) (thread y) (index y)) xs

@@ -3,11 +3,9 @@ use Rattle.std.proofs.Common.{◌≡◌, ℕ, zero, suc, ◌+◌, ◌<◌, ◌�
 use Rattle.std.specs.Prelude.{slice_set}
 use Rattle.std.proofs.lemmas.Bool.{cases_Bool, ltb-true, true≢false}
 use Rattle.dl_entry.specs.declared.End.{End}
-use Rattle.dl_entry.specs.declared.commit.Commit.{Commit}
 use Rattle.spec_isa.specs.declared.thread.Parts.{Parts}
 use Rattle.spec_log.specs.Log.{IsLog}
 use Rattle.spec_log.specs.declared.log.LogParts.{LogParts}
-use Rattle.spec_play.proofs.Positions.{position-more}
 use Rattle.spec_play.specs.declared.interval.Interval.{Interval}
 use Rattle.spec_play.specs.declared.used.Used.{Used}
 use Rattle.spec_play.specs.Progress.{Progress, position}
@@ -92,10 +90,6 @@ pub followed-is : (log : LogParts) (i : Option Interval) (o : Option Standing) (
 followed-is log i o p u ts n now at_ e =
     ap (λ (m : TurnOrEnd). (let r : Following = record { log = log; interval = i; strata = o; now = m; total = 0 } in r))
     (e ∙ ap (λ (k : ℕ). now_in i log.count k (now_by o log p u ts)) (sym at_))
-
--- one commit more is done
-pub one-more : (p : Progress) (c : Commit) (n : ℕ) → position p ≡ n → p.first + length (p.commits ++ c ∷ []) ≡ n + 1
-one-more p c n d = omega (arith, position-more p c, d)
 
 abbrev pub AreBelow : ℕ → List Parts → Type 0
 AreBelow n ts = (k : ℕ) (t : Parts) → slice_get ts k ≡ Some t → t.commits ≤ n

@@ -7,7 +7,8 @@ use Rattle.spec_log.specs.declared.sizes.ShortSize.{ShortSize}
 use Rattle.spec_play.specs.Turns.{is_size_used}
 use Rattle.dl_replay.specs.Counts.{commits_at, commits_of}
 
-zeros : (n k : ℕ) → let none : ℕ = 0 in get_or (replicate n none) k none ≡ none
+-- in a list of zeros each entry is 0
+pub zeros : (n k : ℕ) → let none : ℕ = 0 in get_or (replicate n none) k none ≡ none
 zeros zero k = refl
 zeros (suc n) zero = refl
 zeros (suc n) (suc k) = zeros n k

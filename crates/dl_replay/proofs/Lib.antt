@@ -7,8 +7,6 @@ pub mod Counts
 pub mod Takes
 mod Turns
 mod Verdicts
-mod Kept
-mod Lists
 pub mod Limits
 pub mod Requests
 pub mod Advancing

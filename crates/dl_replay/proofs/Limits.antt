@@ -1,6 +1,6 @@
 -- No whole chunk is larger than a standard chunk.
-use Rattle.std.proofs.Common.{◌≡◌, ℕ, zero, suc, ◌+◌, ◌-◌, ◌<◌, ◌≤◌, ◌==◌, ◌&&◌, max, List, [], ◌∷◌, All, find, option_map, slice_get, Option, Some, None, inl, inr, refl, ap, sym, ◌∙◌, arith}
-use Rattle.std.proofs.lemmas.Bool.{cases_Bool, eq-eqb}
+use Rattle.std.proofs.Common.{◌≡◌, ℕ, zero, suc, ◌+◌, ◌-◌, ◌≤◌, ◌==◌, ◌&&◌, max, List, [], ◌∷◌, All, find, option_map, slice_get, Option, Some, None, inl, inr, refl, ap, sym, ◌∙◌, arith}
+use Rattle.std.proofs.lemmas.Bool.{cases_Bool}
 use Rattle.std.proofs.lemmas.List.Elements.{All-head, All-tail}
 use Rattle.dl_entry.specs.declared.actor.Actor.{Actor}
 use Rattle.spec_isa.specs.declared.thread.Parts.{Parts}
@@ -14,8 +14,7 @@ use Rattle.spec_log.specs.declared.sizes.Sizes.TheVariants.{Each, Short}
 use Rattle.spec_log.specs.Log.{IsLog, IsSizes, IsShortSize}
 use Rattle.spec_log.specs.Size.{is_thread, sizes_of_thread, thread_size}
 use Rattle.spec_play.specs.Effects.{counted}
-use Rattle.spec_play.specs.Turns.{Turn}
-use Rattle.spec_sphere.specs.sphere.Spheres.{Replay, limit_in, limit_of, limit_after, whole_limit, pieces_of}
+use Rattle.spec_sphere.specs.sphere.Spheres.{Replay, limit_of, limit_after, whole_limit, pieces_of}
 use Rattle.spec_play.specs.declared.used.Used.{Used}
 use Rattle.dl_replay.specs.Following.{Following, cursor_of}
 
@@ -63,14 +62,6 @@ pub limit-few : (log : LogParts) (k i : ℕ) → IsLog log → whole_limit log k
 limit-few log k i is =
     limit-by log.s (thread_size log.order log.sizes k i) (omega (arith, is.s.0))
     (λ z e. sizes-few log.mode log.threads log.s log.count log.order log.sizes k i z is.sizes e)
-
--- if a piece of the present commit is shorter than its limit, the commit's pieces have no more instructions than a standard
--- chunk
-pub pieces-fit : (r : Following) (u : Used) (loads : List Load) (s k i n : ℕ) → IsLog r.log → r.now ≡ Turn k → 1 ≤ n → n < limit_in (Replay (cursor_of r u loads)) s k i
-    → r.total + n ≤ r.log.s
-pieces-fit r u loads s k i n is e one few =
-    let own : pieces_of r.now k r.total ≡ r.total = rw (e, eq-eqb k k refl) refl in
-    omega (arith, limit-few r.log k i is, own, few)
 
 -- Thread k of the replay r is t.
 module _ (r : Following) (u : Used) (loads : List Load) (s k : ℕ) (t : Parts) where

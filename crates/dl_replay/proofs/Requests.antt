@@ -1,5 +1,5 @@
 -- A serial step leaves a sound request, if it leaves one.
-use Rattle.std.proofs.Common.{◌≡◌, ℕ, ◌+◌, ◌≤◌, arith, eqb, ◌&&◌, Bool, true, false, List, length, cond, Option, Some, None, refl}
+use Rattle.std.proofs.Common.{◌≡◌, ℕ, ◌+◌, ◌≤◌, arith, eqb, ◌&&◌, true, List, length, Option, Some, None}
 use Rattle.std.specs.Prelude.{nat_le, nat_lt, ◌%◌}
 use Rattle.std.proofs.lemmas.Bool.{and_parts, eqb-true, leb-true}
 use Rattle.dl_entry.specs.declared.Input.{Input}
@@ -11,12 +11,8 @@ use Rattle.spec_kernel.specs.Needs.{Need, need, a0, a1, cut}
 use Rattle.spec_kernel.specs.Answers.{bad_buffer, refused}
 use Rattle.spec_kernel.specs.Calls.{Called, gives, spawn, set_handler, iret, request_dma, is_dma_buffer, called}
 use Rattle.spec_kernel.specs.Serving.{StepResult, outside_called, inside_called, is_outside, device_loaded, device_stored, serve_kind, serve}
-use Rattle.spec_play.proofs.Threads.{any-call}
+use Rattle.spec_play.proofs.Threads.{any-call, branch}
 use Rattle.spec_sphere.specs.promises.Sound.{IsSoundRequest, IsSoundIf}
-
-branch : {A : Type 0} (P : A → Type 0) (b : Bool) (x y : A) → (b ≡ true → P x) → (b ≡ false → P y) → P (cond b x y)
-branch P true x y p q = p refl
-branch P false x y p q = q refl
 
 abbrev IsSoundCall : (size : ℕ) → Called → Type 0
 IsSoundCall size c = IsSoundIf size c.request

@@ -1,5 +1,5 @@
 -- At the end of a log its sizes are used just where the threads have done their commits.
-use Rattle.std.proofs.Common.{◌≡◌, ℕ, ◌≤◌, true, List, length, refl}
+use Rattle.std.proofs.Common.{◌≡◌, ℕ, ◌≤◌, List, length, refl}
 use Rattle.spec_isa.specs.declared.thread.Parts.{Parts}
 use Rattle.spec_log.specs.declared.mode_name.ModeName.{ModeName}
 use Rattle.spec_log.specs.declared.mode_name.ModeName.TheVariants.{OrderSize, OrderOnly, Picolog}
@@ -11,13 +11,6 @@ use Rattle.dl_entry.specs.declared.actor.Actor.{Actor}
 use Rattle.spec_play.specs.Turns.{are_sizes_used}
 use Rattle.dl_replay.specs.Counts.{commits_of}
 use Rattle.dl_replay.proofs.Counts.{sizes-used}
-
--- where each commit has its size, all are used
-pub each-used : (mode : ModeName) (t s count : ℕ) (sizes : Sizes) (ts : List Parts) → mode ≡ OrderSize → IsSizes mode t s count sizes → are_sizes_used ts sizes ≡ true
-each-used OrderSize t s count (Each sizes) ts e are = refl
-each-used OrderSize t s count (Short sizes) ts e are = absurd are
-each-used OrderOnly t s count sizes ts e are = cc
-each-used Picolog t s count sizes ts e are = cc
 
 -- in a mode that keeps short sizes, all are used just where the threads have done those commits
 pub short-used : (mode : ModeName) (t s count : ℕ) (sizes : Sizes) (order : List Actor) (commits : List ℕ) (ts : List Parts) → (mode ≡ OrderSize → ⊥)

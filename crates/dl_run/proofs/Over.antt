@@ -1,6 +1,6 @@
 -- What a run that is over tells, sphere by sphere, in the words of the machine is what its texts say.
-use Rattle.std.proofs.Common.{◌≡◌, ℕ, zero, suc, ◌+◌, ◌<◌, ◌≤◌, Bool, true, false, List, [], ◌∷◌, ◌++◌, length, Option, Some, None, refl, sym, ap, ◌∙◌, subst, arith, get_or, inl, inr}
-use Rattle.std.specs.Prelude.{◌⊎◌, ◌||◌, slice_get, drop}
+use Rattle.std.proofs.Common.{◌≡◌, ℕ, zero, suc, ◌+◌, ◌<◌, ◌≤◌, true, false, List, [], ◌∷◌, ◌++◌, length, Option, Some, None, refl, sym, ap, ◌∙◌, subst, arith, get_or, inl, inr}
+use Rattle.std.specs.Prelude.{◌⊎◌, slice_get, drop}
 use Rattle.std.proofs.lemmas.List.{append_assoc}
 use Rattle.std.proofs.lemmas.Bool.{true≢false}
 use Rattle.std.proofs.lemmas.Option.{none-some, same_Some}
@@ -19,11 +19,11 @@ use Rattle.dl_record.specs.Epochs.{base_state}
 use Rattle.spec_play.specs.Plays.{Played}
 use Rattle.spec_play.specs.Turns.{TurnOrEnd, Turn, TurnOfDma, Ended}
 use Rattle.spec_protocol.specs.declared.event.Event.{Event}
-use Rattle.spec_sphere.specs.sphere.Spheres.{Role, Plain, Record, Replay, Cursor, Sphere, is_over, no_sphere}
+use Rattle.spec_sphere.specs.sphere.Spheres.{Role, Plain, Record, Replay, Cursor, Sphere, is_over}
 use Rattle.spec_sphere.specs.sphere.Spheres.{replays}
 use Rattle.spec_protocol.specs.machine.World.{World, sphere_at}
 use Rattle.spec_sphere.specs.sphere.Setups.{EpochSetup, ReplaySetup, RecordSetup, RoleSetup, IsPlain, IsRecorded, IsReplayed, SphereSetup}
-use Rattle.spec_protocol.specs.machine.Machine.{Setup, happens, world_of, world_after}
+use Rattle.spec_protocol.specs.machine.Machine.{Setup, world_of, world_after}
 use Rattle.spec_protocol.specs.machine.Logged.{sphere_in}
 use Rattle.spec_protocol.specs.machine.Serial.{SerialState}
 use Rattle.spec_protocol.specs.promises.Promises.{IsSetup, after}
@@ -35,7 +35,8 @@ use Rattle.spec_finishing.proofs.Ending.KindsKept.{is_replayed}
 use Rattle.spec_finishing.specs.Function.{most_events, finishing_of}
 use Rattle.spec_finishing.proofs.Ending.Function.{function_finishes}
 use Rattle.spec_finishing.proofs.Ending.ShortRuns.{setups_finish}
-use Rattle.spec_run.specs.Runs.{executed, played, played_end, end_of, diverges, diverges_as, has_diverged}
+use Rattle.spec_finishing.proofs.Ending.Played.{after_both}
+use Rattle.spec_run.specs.Runs.{executed, played, played_end, end_of, diverges_as, has_diverged}
 use Rattle.spec_run.specs.Texts.{account_text, console_text, line_as, replay_line, lines_from, lines_of, log_as, log_of_points, log_text, recorded_bytes, report_text, summary_text}
 use Rattle.spec_run.specs.Tails.{tail_of_points}
 use Rattle.spec_tail.specs.Bytes.{tail_bytes}
@@ -94,10 +95,6 @@ room_all s es (e ∷ fs) is of room =
     let kept = room_kept s es e is of.0 room in
     subst (λ (w : World). HasRoom (world_after w fs)) same
     (room_all s (es ++ e ∷ []) fs is (subst (λ (w : World). OfReplays w fs) (sym same) of.1) (subst HasRoom (sym same) kept))
-
-after_both : (w : World) (es fs : List Event) → world_after w (es ++ fs) ≡ world_after (world_after w es) fs
-after_both w [] fs = refl
-after_both w (e ∷ es) fs = after_both (happens w e).world es fs
 
 -- once a run is over there is room for one more commit
 room_over : (es : List Event) (r : Ran) → IsOver es r → HasRoom r.world
@@ -290,19 +287,6 @@ one_more i = omega arith
 pub lines-after : (x : SerialState) (xs : List SphereSetup) (i : ℕ) (ls : List SphereLine) (line : SphereLine) → i < length xs → line ≡ line_as (get_or xs i no_image) (sphere_in x i) (get_or xs i no_image).role → (ls ++ line ∷ []) ++ lines_from x (i + 1) (drop (i + 1) xs) ≡ ls ++ lines_from x i (drop i xs)
 lines-after x xs i ls line inside is =
     ap (λ (n : ℕ). (ls ++ line ∷ []) ++ lines_from x n (drop n xs)) (one_more i) ∙ lines-more x xs i ls line inside is
-
-abbrev here : List SphereSetup → ℕ → Bool
-here xs i = diverges_as (get_or xs i no_image) (get_or xs i no_image).role
-
--- if sphere i hasn't diverged, a sphere from i on has diverged if a later one has
-pub diverges-later : (xs : List SphereSetup) (i : ℕ) → i < length xs → here xs i ≡ false → diverges (drop (suc i) xs) ≡ diverges (drop i xs)
-diverges-later xs i inside is =
-    ap (λ (b : Bool). b || diverges (drop (suc i) xs)) (sym is) ∙ ap diverges (sym (image-next xs i inside))
-
--- if sphere i has diverged, a sphere from i on has
-pub diverges-here : (xs : List SphereSetup) (i : ℕ) → i < length xs → here xs i ≡ true → true ≡ diverges (drop i xs)
-diverges-here xs i inside is =
-    ap (λ (b : Bool). b || diverges (drop (suc i) xs)) (sym is) ∙ ap diverges (sym (image-next xs i inside))
 
 -- ---- the report and the summary
 

@@ -1,9 +1,8 @@
 -- A machine that takes a schedule one event at a time has room before each, and has taken it once none is left.
-use Rattle.std.proofs.Common.{◌≡◌, ℕ, suc, ◌^◌, ◌<◌, ◌≤◌, ◌+◌, ◌-◌, List, [], ◌∷◌, ◌++◌, length, drop, get_or, refl, sym, ap, ◌∙◌, subst, arith, append_assoc}
+use Rattle.std.proofs.Common.{◌≡◌, ℕ, suc, ◌^◌, ◌<◌, ◌≤◌, ◌+◌, ◌-◌, List, [], ◌∷◌, ◌++◌, length, drop, get_or, sym, ap, ◌∙◌, subst, arith, append_assoc, append-nil}
 use Rattle.std.specs.Prelude.{replicate}
 use Rattle.std.proofs.Math.Seq.{drop-cons}
 use Rattle.std.proofs.Math.ListN.{length-append}
-use Rattle.std.proofs.lemmas.Grind.{common_steps}
 use Rattle.spec_protocol.specs.declared.event.Event.{Event}
 use Rattle.spec_protocol.specs.machine.World.{World}
 use Rattle.spec_protocol.specs.machine.Machine.{Setup}
@@ -20,7 +19,7 @@ use Rattle.dl_machine.specs.Runs.{IsRun}
 use Rattle.dl_machine.proofs.Worlds.Promised.{room_alike}
 use Rattle.dl_finish.specs.Runs.{HasEnded}
 use Rattle.dl_run.specs.Ran.{IsOver}
-use Rattle.dl_run.specs.Taken.{IsNew, HasTaken}
+use Rattle.dl_run.specs.Taken.{HasTaken}
 
 -- ---- runs
 
@@ -52,10 +51,6 @@ pub record Driving (all left : List Event) (new now : World) : Type 0 where
   pub both : done ++ left ≡ all
   pub taken : HasTaken done new now
 
--- in the new world no event was taken, and all are left
-pub driving_start : (all : List Event) (w : World) → IsNew w → Driving all all w w
-driving_start all w new = record { setup = new.setup; first = new.run; done = []; both = refl; taken = λ s run. run }
-
 -- an event that leads from this world to the next is one more that was taken, and one less that is left
 pub driving_next : (all left : List Event) (e : Event) (new now next : World) → Driving all (e ∷ left) new now → ((s : Setup) (es : List Event) → IsRun s es now → IsRun s (es ++ e ∷ []) next) → Driving all left new next
 driving_next all left e new now next d on =
@@ -83,13 +78,10 @@ driving_events all left new now d few =
     let l = done_few all left new now d few in
     omega (arith, e, l)
 
-nothing_behind : (xs : List Event) → xs ++ [] ≡ xs
-nothing_behind xs = grind (arith, common_steps)
-
 -- if no event is left, all are taken
 pub driving_end : (all : List Event) (new now : World) → Driving all [] new now → HasTaken all new now
 driving_end all new now d =
-    subst (λ (es : List Event). HasTaken es new now) (sym (nothing_behind d.done) ∙ d.both) d.taken
+    subst (λ (es : List Event). HasTaken es new now) (sym (append-nil d.done) ∙ d.both) d.taken
 
 -- ---- events that are held with how often each comes in a row
 

@@ -1,6 +1,6 @@
 -- The words of a buffer, one after another: of some the stores are noted, and of the rest they are not yet.
 use Rattle.std.proofs.Common.{◌≡◌, ℕ, zero, suc, ◌+◌, ◌*◌, ◌<◌, ◌≤◌, List, [], ◌∷◌, ◌++◌, length, map, slice_get, Some, None, refl, sym, ap, ◌∙◌, subst, arith}
-use Rattle.std.proofs.lemmas.List.{append_assoc, append-nil, map-append}
+use Rattle.std.proofs.lemmas.List.{append_assoc, map-append}
 use Rattle.std.proofs.lemmas.Option.{same_Some}
 use Rattle.spec_isa.specs.Words.{Stored}
 use Rattle.spec_isa.specs.Inside.{AreInside}
@@ -24,9 +24,6 @@ pub record IsNoted (f : Stored → Store) (old now : List Store) (words rest : L
   pub words_are : words ≡ done ++ rest
   pub noted : now ≡ old ++ map f done
 
-pub IsNoted-none : (f : Stored → Store) (old : List Store) (words rest : List Stored) → rest ≡ words → IsNoted f old old words rest
-IsNoted-none f old words rest e = record { done = []; words_are = sym e; noted = sym (append-nil old) }
-
 past_done : (done : List Stored) (s : Stored) (others : List Stored) → slice_get (done ++ s ∷ others) (length done) ≡ Some s
 past_done [] s others = refl
 past_done (r ∷ rs) s others = past_done rs s others
@@ -48,7 +45,3 @@ IsNoted-more f old now words rest s others h e =
           ∙ append_assoc old (map f h.done) (f s ∷ [])
           ∙ ap (λ (ss : List Store). old ++ ss) (sym (map-append f h.done (s ∷ [])));
     }
-
-pub IsNoted-all : (f : Stored → Store) (old now : List Store) (words rest : List Stored) → IsNoted f old now words rest → rest ≡ [] → now ≡ old ++ map f words
-IsNoted-all f old now words rest h e =
-    h.noted ∙ ap (λ (ws : List Stored). old ++ map f ws) (sym (h.words_are ∙ ap (λ (ws : List Stored). h.done ++ ws) e ∙ append-nil h.done))

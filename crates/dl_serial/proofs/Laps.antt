@@ -8,7 +8,6 @@ use Rattle.spec_play.specs.Plays.{Played, opened, plays}
 use Rattle.spec_play.specs.States.{State, progress_from, resumed, state_after, state_of}
 use Rattle.spec_play.specs.Resuming.{HasDone}
 use Rattle.spec_play.specs.Intervals.{without_commits}
-use Rattle.spec_play.proofs.Bounds.{after-bounded}
 use Rattle.spec_play.proofs.Going.{plays-go, plays-most, plays-stay}
 use Rattle.spec_play.proofs.Resuming.{plays_resume}
 use Rattle.dl_kernel.specs.States.{PlayState as Kept, state_in}
@@ -56,9 +55,6 @@ module _ (log : LogParts) (memory : List ℕ) (entry : ℕ) where
   -- a play that has done as many commits as it was asked for is not past the end of its log
   pub done-at : (i : ℕ) (y : Played) → IsAt i y → position y.progress ≡ i → HasDone log memory entry i
   done-at i y at done = sym (ap (λ (s : State). s.commits) at.state) ∙ done
-
-  pub done-within : (i : ℕ) → HasDone log memory entry i → i ≤ log.count
-  done-within i done = let most = (after-bounded log memory entry i).commits in omega (arith, most, done)
 
   -- and has done any fewer
   pub done-before : (i j : ℕ) → HasDone log memory entry i → j ≤ i → HasDone log memory entry j

@@ -1,5 +1,5 @@
 -- Words over a memory stay inside it, and laying them one after another lays them all.
-use Rattle.std.proofs.Common.{Result, Ok, Err, OnOk, is_ok, is_err, ◌≡◌, ◌≢◌, ℕ, zero, suc, ◌+◌, ◌*◌, ◌/◌, ◌%◌, ◌<◌, ◌≤◌, true, false, eqb, List, [], ◌∷◌, length, drop, slice_get, Some, None, refl, sym, ◌∙◌, ap, subst, arith}
+use Rattle.std.proofs.Common.{Result, Ok, Err, OnOk, is_ok, is_err, ◌≡◌, ◌≢◌, ℕ, zero, suc, ◌+◌, ◌*◌, ◌/◌, ◌%◌, ◌≤◌, true, false, eqb, List, [], ◌∷◌, length, drop, slice_get, Some, refl, sym, ◌∙◌, ap, subst, arith}
 use Rattle.std.proofs.lemmas.Bool.{eq-eqb, ne_eqb}
 use Rattle.std.proofs.lemmas.Option.{same_Some}
 use Rattle.spec_isa.specs.Words.{Stored, Lacks, Apart, IsBytes, lay, lays, read}
@@ -10,11 +10,6 @@ use Rattle.dl_wbuf.specs.Buffers.{Words, has_room}
 use Rattle.dl_thread.specs.Sight.{Lays}
 use Rattle.spec_isa.specs.Inside.{AreInside}
 use Rattle.dl_serial.specs.Overlays.{sight_of, with_word}
-
--- the first word of a list is inside the memory if all of them are
-pub first_inside : (size : ℕ) (ws : List Stored) (s : Stored) → slice_get ws 0 ≡ Some s → AreInside size ws → 4 * s.number + 4 ≤ size
-first_inside size [] s e all = cc
-first_inside size (r ∷ rs) s e all = subst (λ (q : Stored). 4 * q.number + 4 ≤ size) (let h : r ≡ s = cc in h) all.0
 
 -- the first word laid, and then the others, is all words laid
 pub first_laid : (m : List ℕ) (ws : List Stored) (s : Stored) → slice_get ws 0 ≡ Some s → lays (lay m s) (drop 1 ws) ≡ lays m ws
@@ -28,16 +23,6 @@ rest_inside size (r ∷ rs) all = all.1
 -- with any word laid, the words after the first are inside the memory still
 pub first_rest_inside : (m : List ℕ) (ws : List Stored) (s : Stored) → AreInside (length m) ws → AreInside (length (lay m s)) (drop 1 ws)
 first_rest_inside m ws s all = subst (λ (n : ℕ). AreInside n (drop 1 ws)) (sym (length_lay m s)) (rest_inside (length m) ws all)
-
--- a list of words that has a first one is shorter without it
-pub shorter : (ws : List Stored) (s : Stored) → slice_get ws 0 ≡ Some s → length (drop 1 ws) < length ws
-shorter [] s e = cc
-shorter (r ∷ rs) s e = omega arith
-
--- a list of words that has no first one is empty
-pub no_first : (ws : List Stored) → slice_get ws 0 ≡ None → ws ≡ []
-no_first [] e = refl
-no_first (r ∷ rs) e = cc
 
 -- a word of the memory, with the words over it, is the one that laying them shows
 pub word_shown : (m : List ℕ) (ws : List Stored) (addr : ℕ) → Apart ws → IsBytes m → addr % 4 ≡ 0 → addr + 4 ≤ length m

@@ -41,11 +41,6 @@ pub has-push : (xs : List ℕ) (x a : ℕ) → has (xs ++ x ∷ []) a ≡ (has x
 has-push [] x a = or-false (nat_eq x a)
 has-push (y ∷ ys) x a = ap (λ (b : Bool). nat_eq y a || b) (has-push ys x a) ∙ sym (or-assoc (nat_eq y a) (has ys a) (nat_eq x a))
 
--- with a word more, if there is one
-pub has-word : (xs ys : List ℕ) (o : Option ℕ) (a : ℕ) → ((w : ℕ) → o ≡ Some w → ys ≡ xs ++ w ∷ []) → (o ≡ None → ys ≡ xs) → has ys a ≡ (has xs a || is_word o a)
-has-word xs ys None a some none = ap (λ (zs : List ℕ). has zs a) (none refl) ∙ sym (or-false (has xs a))
-has-word xs ys (Some w) a some none = ap (λ (zs : List ℕ). has zs a) (some w refl) ∙ has-push xs w a
-
 -- ---- what the view was asked for
 
 -- a word is noted, if there is one

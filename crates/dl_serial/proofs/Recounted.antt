@@ -1,10 +1,9 @@
 -- Threads whose commits are counted from the recording's start again, one after another.
-use Rattle.std.proofs.Common.{◌≡◌, ℕ, zero, suc, ◌+◌, ◌<◌, ◌≤◌, List, [], ◌∷◌, ◌++◌, length, take, drop, Some, None, refl, sym, ap, ◌∙◌, subst, add-one, append-nil, arith}
+use Rattle.std.proofs.Common.{◌≡◌, ℕ, zero, suc, ◌+◌, List, [], ◌∷◌, ◌++◌, length, take, drop, Some, refl, sym, ap, ◌∙◌, subst, add-one, arith}
 use Rattle.std.specs.Prelude.{slice_get, slice_set}
-use Rattle.std.proofs.lemmas.List.{take_all, drop_all, length-set}
+use Rattle.std.proofs.lemmas.List.{length-set}
 use Rattle.spec_isa.specs.declared.thread.Parts.{Parts}
 use Rattle.spec_tail.specs.Playing.{begun, counted_from}
-use Rattle.dl_serial.specs.Tails.{AreBelow}
 
 -- those before this one are counted so
 pub record AreCounted (b : ℕ → ℕ) (first ts : List Parts) (k : ℕ) : Type 0 where
@@ -33,10 +32,6 @@ uncounted_yet b j [] (suc k) = refl
 uncounted_yet b j (x ∷ first) zero = refl
 uncounted_yet b j (x ∷ first) (suc k) = uncounted_yet b (suc j) first k
 
--- at first no thread is counted from the recording's start yet
-pub first-counted : (b : ℕ → ℕ) (first : List Parts) → AreCounted b first first 0
-first-counted b first = record { all = refl; so_far = refl }
-
 -- the next thread to be counted is still as it was at first
 pub its-own : (b : ℕ → ℕ) (first ts : List Parts) (k : ℕ) (p : Parts) → AreCounted b first ts k → slice_get ts k ≡ Some p → slice_get first k ≡ Some p
 its-own b first ts k p c is = sym (uncounted_yet b 0 first k) ∙ sym (ap (λ (us : List Parts). slice_get us k) c.so_far) ∙ is
@@ -55,17 +50,3 @@ next-counted b first ts k p c is =
           ∙ sym (ap (λ (n : ℕ). slice_set (counted_from b 0 (take k first) ++ drop k first) k (with_begun (b n) p)) at)
           ∙ counted_next b 0 first k p own;
     })
-
--- if no thread is left, all of them are counted from the recording's start
-pub all-counted : (b : ℕ → ℕ) (first ts : List Parts) (k : ℕ) → length first ≤ k → AreCounted b first ts k → ts ≡ counted_from b 0 first
-all-counted b first ts k past c =
-    c.so_far
-    ∙ ap (λ (us : List Parts). counted_from b 0 us ++ drop k first) (take_all k first past)
-    ∙ ap (λ (us : List Parts). counted_from b 0 first ++ us) (drop_all k first past)
-    ∙ append-nil (counted_from b 0 first)
-
--- no thread had more commits at the base than come before it
-pub begun-most : (base : ℕ) (ps : List Parts) → ((k : ℕ) (p : Parts) → slice_get ps k ≡ Some p → p.commits ≤ base) → (k : ℕ) → begun ps k ≤ base
-begun-most base [] few k = omega arith
-begun-most base (p ∷ ps) few zero = few 0 p refl
-begun-most base (p ∷ ps) few (suc k) = begun-most base ps (λ j q is. few (suc j) q is) k

@@ -1,7 +1,6 @@
 -- One instruction over a memory with a buffer is one step of the run.
-use Rattle.std.proofs.Common.{◌≡◌, ℕ, suc, ◌<◌, Bool, true, false, ◌||◌, List, length, Option, Some, None, if◌then◌else◌, refl, sym, ◌∙◌, ap, subst}
-use Rattle.std.specs.Prelude.{IsSome, nat_lt}
-use Rattle.std.proofs.lemmas.Bool.{lt-ltb}
+use Rattle.std.proofs.Common.{◌≡◌, ℕ, suc, Bool, true, false, List, length, Option, Some, None, if◌then◌else◌, refl, sym, ◌∙◌, ap, subst}
+use Rattle.std.specs.Prelude.{IsSome}
 use Rattle.spec_isa.specs.declared.thread.Parts.{Parts}
 use Rattle.spec_isa.specs.declared.thread.Load.{Load}
 use Rattle.spec_isa.specs.declared.thread.Kind.{Kind}
@@ -119,31 +118,3 @@ serial-more m ws r t kind is same d =
     ∙ ap (followed r) (one_is m ws t ∙ ap (λ (k : Option Kind). unless k (Next (thread_next s t) (load_made s t) (store_made s t))) (kind_found m ws t kind d))
 
 -- ---- nothing else comes
-
-room_there : (m : List ℕ) (ws : Words) (store : Option Stored) → length ws.words < ws.capacity → sight_room (sight_of m ws) store ≡ true
-room_there m ws None few = refl
-room_there m ws (Some b) few = by_held (holds ws.words b.number) (nat_lt (length ws.words) ws.capacity) (lt-ltb (length ws.words) ws.capacity few)
-  where
-    by_held : (a b : Bool) → b ≡ true → (a || b) ≡ true
-    by_held true b e = refl
-    by_held false b e = e
-
-full_by : (s : Sight) (o : Option Kind) (made : Option Load) (store : Option Stored) → sight_room s store ≡ true → Did.NoRoom ≡ unless_serial o (room_or_none s made store) → ⊥
-unfolding room_or_none
-full_by s (Some k) made store there e = cc
-full_by s None made store there e = let h : Did.NoRoom ≡ Did.Next made = e ∙ ap (λ (b : Bool). if b then Did.Next made else Did.NoRoom) there in cc
-
--- a buffer with fewer words than its capacity has room for any instruction's store
-pub never-full : (m : List ℕ) (ws : Words) (t : Parts) → length ws.words < ws.capacity → Did.NoRoom ≡ did (sight_of m ws) t → ⊥
-never-full m ws t few d =
-    let s = sight_of m ws in full_by s (kind_of m ws t) (load_made s t) (store_made s t) (room_there m ws (store_made s t) few) (d ∙ did_is m ws t)
-
-bounced_by : (s : Sight) (o : Option Kind) (made : Option Load) (store : Option Stored) (k : ℕ) → Did.Bounced k ≡ unless_serial o (room_or_none s made store) → ⊥
-unfolding room_or_none
-bounced_by s (Some kind) made store k e = cc
-bounced_by s None made store k e =
-    elim (sight_room s store) as (λ (b : Bool). Did.Bounced k ≡ (if b then Did.Next made else Did.NoRoom) → ⊥) [ true ↦ λ h. cc | false ↦ λ h. cc ] e
-
--- no flight holds up an instruction over a memory with a buffer
-pub never-held : (m : List ℕ) (ws : Words) (t : Parts) (k : ℕ) → Did.Bounced k ≡ did (sight_of m ws) t → ⊥
-never-held m ws t k d = let s = sight_of m ws in bounced_by s (kind_of m ws t) (load_made s t) (store_made s t) k (d ∙ did_is m ws t)

@@ -87,14 +87,3 @@ stopped-run m t n limit c words most some ran serial is stored =
       ran = all ∙ ap (run m t) (sym size);
       serial = λ none. none-run m t limit some (ap (λ (r : Run). r.n) all ∙ ran ∙ sym size ∙ none);
     }
-
--- at its limit
-pub full-run : (m : List ℕ) (t : Parts) (limit : ℕ) (c : Chunk) (words : List Stored) → 0 < limit → c.n ≡ limit → c ≡ chunk_of (run m t c.n) → words ≡ (run m t c.n).words → HasRun m t limit c words
-full-run m t limit c words some size is stored =
-    let same : run m t c.n ≡ run m t limit = ap (run m t) size in
-    record {
-      chunk = is ∙ ap chunk_of same;
-      words_stored = stored ∙ ap (λ (r : Run). r.words) same;
-      ran = sym same;
-      serial = λ none. absurd (let none_ : limit ≡ 0 = sym size ∙ none in omega arith);
-    }

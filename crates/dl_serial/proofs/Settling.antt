@@ -122,20 +122,6 @@ pub record IsLeft (s n : Sphere) (left : State) : Type 0 where
 counts : (s n : Sphere) (left : State) → IsLeft s n left → position (progress_in n.past) ≡ position (progress_in s.past)
 counts s n left l = λ i. l.first i + length (l.commits i)
 
--- a sphere that has only made room for a commit plays on
-pub same-playing : (r : Following) (s n : Sphere) → IsLeft s n s.past.state → IsPlaying r s → IsPlaying r n
-same-playing r s n same h =
-    record {
-      replaying = subst (IsReplaying r) (sym same.state) h.replaying;
-      all = h.all;
-      order = h.order;
-      whole = h.whole;
-      turn = λ k e. subst (λ (x : State). k < length x.threads) (sym same.state) (h.turn k e);
-      counted = counts s n s.past.state same ∙ h.counted ∙ sym (ap (λ (x : State). x.commits) same.state);
-      request = subst (λ (x : State). IsSoundIf (length x.memory) x.request) (sym same.state) h.request;
-      room = same.capacity ∙ h.room;
-    }
-
 -- and so does one whose replay has diverged
 pub failed-playing : (r new : Following) (s n : Sphere) (left : State) (why : Why) → HasFailed r s.past.state (progress_in s.past) new left why → IsReplaying new left → IsLeft s n left → IsPlaying r s → IsPlaying new n
 failed-playing r new s n left why failed at l h =

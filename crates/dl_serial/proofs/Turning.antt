@@ -1,5 +1,5 @@
 -- A turn of a play settles the verdict on what is next, and the player is seen so after it.
-use Rattle.std.proofs.Common.{◌≡◌, ℕ, zero, suc, ◌+◌, ◌-◌, ◌<◌, ◌≤◌, List, [], ◌++◌, append_assoc, append-nil, Option, Some, Result, Ok, Err, OnOk, sym, ap, ◌∙◌, arith}
+use Rattle.std.proofs.Common.{◌≡◌, ℕ, zero, suc, ◌+◌, ◌-◌, ◌<◌, ◌≤◌, List, [], ◌++◌, append-nil, Option, Some, Result, Ok, Err, OnOk, sym, ap, ◌∙◌, arith}
 use Rattle.std.specs.Prelude.{slice_get, IsSome}
 use Rattle.std.proofs.lemmas.Bool.{true≢false}
 use Rattle.dl_entry.specs.declared.Actor.{Actor}
@@ -132,9 +132,3 @@ over-more p i to now l some is =
 -- before the first commit
 pub more-none : (p : Playing) → p ≡ played_more p 0
 more-none p = ap (λ (ss : List Store). record p { stores = ss }) (sym (append-nil p.stores))
-
--- and with one more
-pub more-one : (p : Playing) (i : ℕ) → advanced (played_more p i) ≡ played_more p (suc i)
-more-one p i =
-    ap (λ (ss : List Store). record p { played = plays p.log p.played (suc i); stores = ss })
-    (append_assoc p.stores (stores p.log p.played i) (next_stores p.log (plays p.log p.played i)))

@@ -3,6 +3,7 @@
 #![tactic(auto)]
 
 mod commits;
+mod draining;
 mod epochs;
 mod making;
 mod moved;

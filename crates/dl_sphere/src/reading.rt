@@ -1,38 +1,27 @@
-//! What a sphere tells of itself, and the words of a flight that are laid into its memory.
-ghost use Rattle.std.specs.Prelude.{◌≡◌, ◌<◌, ◌≤◌, ◌⊎◌, ◌↔◌, [], None, false, true, IfOk, IsSome, IsTrue, Some, length, slice_get};
+//! What a sphere tells of itself.
+ghost use Rattle.std.specs.Prelude.{◌≡◌, ◌≤◌, ◌↔◌, None, false, true, IfOk, IsSome, IsTrue, Some, slice_get};
 ghost use Rattle.spec_isa.specs.declared.thread.Parts.{Parts};
-ghost use Rattle.spec_engine.specs.Flights.{IsInside, at, drain};
-ghost use Rattle.spec_kernel.specs.Devices.{Devices};
 ghost use Rattle.spec_play.specs.Progress.{position};
-ghost use Rattle.spec_sphere.specs.sphere.Commits.{MovedSphere, dma_moved};
 ghost use Rattle.spec_sphere.specs.sphere.Spheres.{replays, head_of, is_stopped, halves, is_in_pieces, turn_against};
 ghost use Rattle.spec_sphere.specs.promises.Alike.{epochs_in};
 ghost use Rattle.spec_sphere.specs.promises.Kept.{has_due};
 ghost use Rattle.spec_sphere.specs.promises.Sound.{IsChunkSize};
-ghost use Rattle.dl_fly.specs.Slots.{set_slot};
 ghost use Rattle.dl_kernel.specs.InOrder.{listed};
 ghost use Rattle.dl_kernel.specs.States.{state_in};
 ghost use Rattle.dl_record.specs.Epochs.{base_state};
 ghost use Rattle.dl_replay.specs.Limits.{chunk_limit, chunk_limit_in};
-ghost use Rattle.dl_sphere.specs.Moving.{SaysOutcome};
-ghost use Rattle.dl_sphere.specs.Reading.{end_in, joins, pieces_in, log_in, SaysBytes};
+ghost use Rattle.dl_sphere.specs.Reading.{end_in, joins, pieces_in, log_in};
 ghost use Rattle.dl_sphere.specs.Setups.{standard_in};
 
 use crate::commits::commits_of;
-use crate::moved::DmaSize;
 use crate::part::Part;
-use crate::peeking::{live_size, live_words};
 use crate::sphere::Sphere;
 use crate::turning::turn;
-use dl_dev::Devices;
 use dl_entry::{Actor, End, OutOfMemory, Request};
-use dl_fly::{Drain, Flights};
 use dl_kernel::InOrder;
 use dl_mem::Memory;
 use dl_record::Base;
-use dl_sig::Sig;
 use dl_thread::Threads;
-use dl_wbuf::Buffer;
 use spec_log::{Log, ModeName};
 
 impl Sphere {
@@ -231,57 +220,6 @@ impl Sphere {
         match &self.part {
             Part::Plain | Part::Replayed(_) => unreachable!(),
             Part::Recorded(recording) => recording.finish(),
-        }
-    }
-
-    /// Lays a word of the flight in slot `k` into the memory.
-    pub fn drain<G: Sig>(&mut self, flights: &mut Flights<G>, k: u8) -> Drain
-        requires slot { k < length flights.old.slots }
-        requires inside { IsInside (length self.old.sphere.memory) (at flights.old.slots k) }
-        ensures reply { result ≡ (drain self.old.sphere.memory (at flights.old.slots k)).reply }
-        ensures slots { flights.new ≡ set_slot k (drain self.old.sphere.memory (at flights.old.slots k)).slot flights.old }
-        ensures memory { let m = (drain self.old.sphere.memory (at flights.old.slots k)).memory in
-            self.new ≡ record self.old { sphere = record self.old.sphere { memory = m } } }
-    {
-        flights.drain(k, &mut self.past.state.memory)
-    }
-
-    /// How many bytes a DMA would store after its count, where so many of the input are left; or why the replay leaves
-    /// its log there.
-    #[tactic(auto, unfolding(spec_sphere::specs::sphere::Commits::dma_moved))]
-    pub fn dma_size(&self, input_left: u32) -> DmaSize
-        requires { replays self.now.sphere.role ≡ true ⊎ IsSome self.now.sphere.progress.request }
-        ensures bytes { (d : Devices) → length d.input ≡ input_left →
-            SaysBytes result self.now.sphere.progress.request (dma_moved d self.now.sphere) }
-        ensures outcome { (d : Devices) → length d.input ≡ input_left →
-            SaysOutcome result (position self.now.sphere.progress) (dma_moved d self.now.sphere) }
-    {
-        match &self.part {
-            Part::Plain | Part::Recorded(_) => {
-                DmaSize::Bytes(live_size(self.past.state.request, input_left))
-            }
-            Part::Replayed(replay) => match replay.player.dma_size(&self.past.state) {
-                Ok(bytes) => DmaSize::Bytes(bytes),
-                Err(why) => DmaSize::Diverged(why),
-            },
-        }
-    }
-
-    /// The words that a DMA would store: none where the replay leaves its log there, or none is asked for.
-    #[tactic(auto, unfolding(spec_sphere::specs::sphere::Commits::dma_moved))]
-    pub fn dma_words(&self, devices: &Devices) -> Result<Buffer, OutOfMemory>
-        ensures words { IfOk result (λ words. (v : MovedSphere) → dma_moved devices.now self.now.sphere ≡ Some v → words.words ≡ v.words) }
-        ensures none { IfOk result (λ words. dma_moved devices.now self.now.sphere ≡ None → words.words ≡ []) }
-    {
-        let alloc = self.past.alloc;
-        let state = &self.past.state;
-        let _ = state.memory.size();
-        match &self.part {
-            Part::Plain | Part::Recorded(_) => live_words(alloc, state.request, devices),
-            Part::Replayed(replay) => match replay.player.dma_words(state)? {
-                Ok(words) => Ok(words),
-                Err(_) => Ok(Buffer::new(alloc, 1)?),
-            },
         }
     }
 }

@@ -1,5 +1,5 @@
 -- The commits of a play that fits are added one after the other.
-use Rattle.std.proofs.Common.{◌≡◌, ℕ, zero, suc, ◌+◌, ◌*◌, ◌^◌, ◌<◌, ◌≤◌, inl, inr, ◌⊎◌, List, [], ◌∷◌, ◌++◌, length, drop, get_or, Option, Some, None, refl, sym, ap, ◌∙◌, arith}
+use Rattle.std.proofs.Common.{◌≡◌, ℕ, suc, ◌+◌, ◌*◌, ◌^◌, ◌<◌, ◌≤◌, inl, inr, ◌⊎◌, List, [], ◌∷◌, ◌++◌, length, drop, get_or, Option, Some, None, refl, sym, ap, ◌∙◌, arith}
 use Rattle.std.specs.Prelude.{slice_get}
 use Rattle.std.proofs.lemmas.Bool.{or_left, or_right}
 use Rattle.std.proofs.Math.Seq.{drop-cons}
@@ -52,11 +52,6 @@ now-size log y (Turn k) = thread-size log y k (slice_get y.threads k)
 pub one-size : (log : LogParts) (y : Played) → length (play_one log y).memory ≡ length y.memory
 unfolding play_one
 one-size log y = now-size log y y.now
-
--- any number of commits more of a play leave the size of its memory as it was
-pub plays-size : (log : LogParts) (y : Played) (n : ℕ) → length (plays log y n).memory ≡ length y.memory
-plays-size log y zero = refl
-plays-size log y (suc n) = one-size log (plays log y n) ∙ plays-size log y n
 
 -- ---- the next commit
 

@@ -96,17 +96,6 @@ module _ (v : StrataParts) (memory : List ℕ) (entry : ℕ) where
         ];
       }
 
-  -- the one at which the play diverges
-  pub diverged-unfit : (i : ℕ) (why : Why) → ((j : ℕ) → IsAsHeld kinds_done kinds_held j) → (play of_log memory entry).now ≡ Ended (End.Diverged i why) → IsLeast (IsUnfit v memory entry) i
-  diverged-unfit i why each e =
-      record {
-        there = inl (why, e);
-        least = λ j l unfit. elim unfit [
-          | inl d ↦ (let a = diverged-there j d.0 d.1 in let b = diverged-there i why e in absurd (omega (arith, a, b, l)))
-          | inr u ↦ u.other (each j u.kind u.done)
-        ];
-      }
-
   -- none
   pub complete-fits : (n : ℕ) → ((j : ℕ) → IsAsHeld kinds_done kinds_held j) → (play of_log memory entry).now ≡ Ended (End.Complete n) → AllFit v memory entry
   complete-fits n each e =

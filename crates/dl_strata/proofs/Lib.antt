@@ -1,5 +1,4 @@
 mod Order
-mod Repeating
 mod RunLaws
 mod Staging
 mod StrataLaws
@@ -9,3 +8,4 @@ mod Adding
 mod Conflicts
 mod Fitting
 mod Checks
+mod Faults

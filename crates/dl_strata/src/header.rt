@@ -10,7 +10,8 @@ ghost use Rattle.dl_strata.specs.Answer.{Leaves};
 
 use dl_entry::MOST_THREADS;
 use dl_logfmt::{
-    FIELD, Fixed, LogError, Unit, judge, read_chunk_size, read_thread_count, read_u8, read_u32,
+    FIELD, Fixed, LogError, MAGIC, Unit, VERSION, judge, read_chunk_size, read_thread_count,
+    read_u8, read_u32,
 };
 use spec_strata::{StrataDraft, StrataParts};
 
@@ -33,7 +34,7 @@ fn read_magic(bytes: &[u8], at: &mut usize) -> Result<u32, LogError>
 {
     let start = *at;
     let word = read_u32(bytes, at)?;
-    judge(word == u32::from_le_bytes(*b"DLRS"), 2, start)?;
+    judge(word == u32::from_le_bytes(*b"DLRS"), MAGIC, start)?;
     Ok(word)
 }
 
@@ -43,7 +44,7 @@ fn read_version(bytes: &[u8], at: &mut usize) -> Result<u8, LogError>
 {
     let start = *at;
     let version = read_u8(bytes, at)?;
-    judge(version == 1, 3, start)?;
+    judge(version == 1, VERSION, start)?;
     Ok(version)
 }
 

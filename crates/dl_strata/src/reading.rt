@@ -9,7 +9,7 @@ use crate::header::read_header;
 use crate::runs::read_runs;
 use crate::sections::read_sections;
 use dl_entry::Sequence;
-use dl_logfmt::{LogError, Source, judge};
+use dl_logfmt::{LogError, Source, TRAILING, judge};
 use spec_strata::{Strata, StrataDraft, StrataParts};
 use std::alloc::Global;
 
@@ -21,7 +21,7 @@ pub fn read_strata(alloc: Global, bytes: &[u8]) -> Result<Strata, StrataError>
     let mut draft = blank(alloc);
     let mut at = 0;
     read_stages(&mut draft, &source, &mut at)?;
-    judge(bytes.len() <= at, 7, at)?;
+    judge(bytes.len() <= at, TRAILING, at)?;
     Ok(Strata::new(strata_of(draft)))
 }
 

@@ -1,7 +1,7 @@
+mod Faults
 pub mod HeaderLaws
 pub mod LogStages
 pub mod PutLaws
-pub mod Repeating
 pub mod RowLaws
 pub mod RowsAgain
 pub mod StageLaws

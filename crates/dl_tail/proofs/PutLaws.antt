@@ -21,9 +21,6 @@ module _ (rest : List ℕ) (whole : length rest % 32 ≡ 0) (some : 0 < length r
   pub left-whole : length (drop 32 rest) % 32 ≡ 0
   left-whole = omega (arith, length-drop 32 rest, whole, some)
 
-  pub fits : 32 ≤ length rest
-  fits = omega (arith, whole, some)
-
   pub bytes-step : (k : ℕ) → bytes_left k rest ≡ first_bytes k (take 32 rest) ++ bytes_left (k + 1) (drop 32 rest)
   bytes-step k =
       let n = length (drop 32 rest) / 32 in

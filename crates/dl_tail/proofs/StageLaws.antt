@@ -1,5 +1,5 @@
 -- What a stage of a tail's log reads, by what it reads of the log.
-use Rattle.std.proofs.Common.{◌≡◌, ℕ, ◌-◌, ◌<◌, Bool, true, false, List, drop, Result, Ok, Err, refl, ◌∙◌, arith}
+use Rattle.std.proofs.Common.{◌≡◌, ℕ, ◌-◌, Bool, true, false, List, drop, Result, Ok, Err, refl, ◌∙◌}
 use Rattle.std.specs.Prelude.{◌≢◌, MatchResult}
 use Rattle.spec_log.specs.declared.draft.Draft.{Draft}
 use Rattle.spec_log.specs.declared.fault.Fault.{Fault}
@@ -126,18 +126,3 @@ ahead-done stage more d e bytes at after done = ahead-of stage more d bytes at �
 pub ahead-fault : (stage : StageName) → stage ≢ End → (d : TailDraft) (bytes : List ℕ) (at : ℕ) (fault : Fault)
     → staged (tail_stage stage) d bytes at ≡ Err fault → ahead stage d bytes at ≡ Err fault
 ahead-fault stage more d bytes at fault e = ahead-of stage more d bytes at ∙ rw e refl
-
--- fewer stages are left after a stage than before it
-pub rank-next : (stage : StageName) → stage ≢ End → 11 - rank (next stage) < 11 - rank stage
-rank-next Magic more = omega arith
-rank-next Version more = omega arith
-rank-next Mode more = omega arith
-rank-next Threads more = omega arith
-rank-next ChunkSize more = omega arith
-rank-next Count more = omega arith
-rank-next Order more = omega arith
-rank-next Sizes more = omega arith
-rank-next Interrupts more = omega arith
-rank-next Inputs more = omega arith
-rank-next Dmas more = omega arith
-rank-next End more = absurd (more refl)

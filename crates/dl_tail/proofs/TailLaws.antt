@@ -1,8 +1,8 @@
 -- Reading a tail undoes writing it, and what is read is a tail.
-use Rattle.std.proofs.Common.{◌≡◌, ℕ, ◌+◌, ◌*◌, ◌<◌, ◌≤◌, ◌^◌, true, false, nat_lt, ◌⊎◌, inl, inr, List, [], ◌∷◌, ◌++◌, All, length, None, Result, Ok, Err, refl, ap, sym, subst, ◌∙◌, append-nil, append_assoc, arith}
+use Rattle.std.proofs.Common.{◌≡◌, ℕ, ◌+◌, ◌*◌, ◌≤◌, ◌^◌, true, false, nat_lt, ◌⊎◌, inl, inr, List, [], ◌∷◌, ◌++◌, All, length, None, Result, Ok, Err, refl, ap, sym, subst, ◌∙◌, append-nil, append_assoc, arith}
 use Rattle.std.specs.List.{flat_map, AllByRecursion}
 use Rattle.std.proofs.lemmas.List.Elements.{All-from_recursion}
-use Rattle.std.proofs.lemmas.Bool.{leb-true, le-leb, le-ltb, lt-ltb, ltb-false}
+use Rattle.std.proofs.lemmas.Bool.{leb-true, le-leb, le-ltb, ltb-false}
 use Rattle.dl_entry.specs.Numbers.{plain_threads, most_threads}
 use Rattle.spec_isa.specs.declared.thread.Parts.{Parts}
 use Rattle.spec_log.specs.declared.draft.Draft.{Draft}
@@ -23,7 +23,7 @@ use Rattle.spec_tail.specs.Tails.{Tail, IsThreadAt, IsSize, IsRequest, IsLast, I
 use Rattle.dl_logfmt.proofs.ByteNumbers.{IsByte}
 use Rattle.dl_logfmt.proofs.EntryLaws.{few-threads}
 use Rattle.dl_logfmt.proofs.Codes.{Codes, Codes-via, Codes-part, untested}
-use Rattle.dl_logfmt.proofs.LogLaws.{draft_of as log_draft_of, log-draft, nothing-behind, shaped, whole, Known-order, Decides-threads, same-sizes, staged-on, staged-once}
+use Rattle.dl_logfmt.proofs.LogLaws.{draft_of as log_draft_of, log-draft, nothing-behind, shaped, whole, Known-order, Decides-threads, same-sizes, staged-on, staged-once, same-parts}
 use Rattle.dl_logfmt.proofs.SectionLaws.{entries, section_of, staged-entries}
 use Rattle.dl_tail.proofs.HeaderLaws.{bytes-header, IsHeader, Codes-header}
 use Rattle.dl_tail.proofs.LogStages.{put, bytes-all, Known-mode, Codes-log}
@@ -189,9 +189,6 @@ known-tail t g =
 
 -- ---- its bytes
 
-same-parts : (h o z i n d : List ℕ) → h ++ (o ++ (z ++ (i ++ (n ++ (d ++ []))))) ≡ h ++ o ++ z ++ i ++ n ++ d
-same-parts h o z i n d = simp (append_assoc, append-nil)
-
 log-written : (d : TailDraft) → d.log.shape.version ≡ 2 → bytes-all d ≡ log_bytes (log.log_of d.log)
 log-written d version =
     let l = log.log_of d.log in
@@ -272,10 +269,3 @@ module _ (bytes : List ℕ) (d : TailDraft) (after : ℕ) (e : all_of stages bla
 
   pub whole-read : length bytes ≤ after → read_of bytes ≡ Ok (tail_of d)
   whole-read all = let end : nat_lt after (length bytes) ≡ false = le-ltb _ _ all in rw (e, end) refl
-
-  pub more-read : after < length bytes → read_of bytes ≡ Err (record { number = 7; offset = after })
-  more-read more = let end : nat_lt after (length bytes) ≡ true = lt-ltb _ _ more in rw (e, end) refl
-
--- if the stages of a tail come to a fault, its bytes are read as that fault
-pub fault-read : (bytes : List ℕ) (fault : Fault) → all_of stages blank bytes 0 ≡ Err fault → read_of bytes ≡ Err fault
-fault-read bytes fault e = rw e refl

@@ -8,7 +8,7 @@ ghost use Rattle.dl_logfmt.specs.Answer.{Answers};
 
 use crate::numbers::{read_aligned, read_zero_u8, read_zero_u16, read_zero_u32};
 use dl_entry::{MOST_BYTES, MOST_THREADS, Request};
-use dl_logfmt::{FIELD, LogError, judge, read_u8, read_u16, read_u32};
+use dl_logfmt::{FIELD, LogError, MAGIC, VERSION, judge, read_u8, read_u16, read_u32};
 use spec_tail::TailHeader;
 
 /// The number that means no thread.
@@ -51,7 +51,7 @@ fn read_magic(bytes: &[u8], at: &mut usize) -> Result<u32, LogError>
 {
     let start = *at;
     let word = read_u32(bytes, at)?;
-    judge(word == u32::from_le_bytes(*b"DLRT"), 2, start)?;
+    judge(word == u32::from_le_bytes(*b"DLRT"), MAGIC, start)?;
     Ok(word)
 }
 
@@ -62,7 +62,7 @@ fn read_version(bytes: &[u8], at: &mut usize) -> Result<u8, LogError>
 {
     let start = *at;
     let version = read_u8(bytes, at)?;
-    judge(version == 1, 3, start)?;
+    judge(version == 1, VERSION, start)?;
     Ok(version)
 }
 

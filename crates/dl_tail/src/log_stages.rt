@@ -6,7 +6,7 @@ ghost use Rattle.dl_logfmt.specs.Parsing.{stage_at};
 ghost use Rattle.dl_tail.specs.Answer.{Leaves};
 ghost use Rattle.dl_tail.specs.Stages.{passes, tail_stage, test_fault};
 
-use dl_logfmt::{FIELD, LogError, Source, StageName, judge, read_once, read_times};
+use dl_logfmt::{FIELD, LogError, Source, StageName, VERSION, judge, read_once, read_times};
 use spec_log::Draft;
 use spec_tail::TailDraft;
 
@@ -69,7 +69,7 @@ fn ask(stage: StageName, draft: &TailDraft, start: usize) -> Result<(), LogError
         × (error ≡ LogError.Malformed (record { number = test_fault stage; offset = start }))) }
 {
     match stage {
-        StageName::Version => judge(draft.log.shape.version == 2, 3, start),
+        StageName::Version => judge(draft.log.shape.version == 2, VERSION, start),
         StageName::Threads => judge(
             draft.header.present <= draft.log.shape.threads,
             FIELD,

@@ -12,7 +12,7 @@ use crate::rows::{memory_of, read_rows};
 use crate::tail::{Tail, TailParts};
 use crate::threads::read_threads;
 use dl_entry::{OutOfMemory, Sequence};
-use dl_logfmt::{Log, LogError, Source, judge, log_of};
+use dl_logfmt::{Log, LogError, Source, TRAILING, judge, log_of};
 use spec_log::{Draft, ModeName, Order, Shape};
 use spec_tail::{TailDraft, TailHeader};
 use std::alloc::Global;
@@ -25,7 +25,7 @@ pub fn read_tail(alloc: Global, bytes: &[u8]) -> Result<Tail, TailError>
     let mut draft = blank(alloc);
     let mut at = 0;
     read_stages(&mut draft, &source, &mut at)?;
-    judge(bytes.len() <= at, 7, at)?;
+    judge(bytes.len() <= at, TRAILING, at)?;
     let tail = tail_of(alloc, draft)?;
     Ok(tail)
 }

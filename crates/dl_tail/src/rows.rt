@@ -7,7 +7,7 @@ ghost use Rattle.dl_logfmt.specs.Answer.{Answers};
 ghost use Rattle.dl_tail.specs.Answer.{Leaves};
 
 use dl_entry::{Bytes, OutOfMemory};
-use dl_logfmt::{FIELD, LogError, judge, read_raw, read_u32};
+use dl_logfmt::{FIELD, LogError, NOT_SORTED, judge, read_raw, read_u32};
 use spec_tail::{Row, TailDraft};
 use std::alloc::Global;
 
@@ -31,7 +31,7 @@ fn read_next_row(draft: &mut TailDraft, bytes: &[u8], at: &mut usize) -> Result<
 {
     let start = *at;
     let row = read_row(bytes, at, draft.header.size)?;
-    judge(follows(draft.rows.as_slice(), &row), 6, start)?;
+    judge(follows(draft.rows.as_slice(), &row), NOT_SORTED, start)?;
     draft.rows.push(row)?;
     Ok(())
 }

@@ -31,18 +31,6 @@ pub record IsCoded (lines : List (List ℕ)) (i index : ℕ) (words : List ℕ) 
   pub fits : place_of lines i ≤ 4194304
   pub spelled : (k : ℕ) → k < i → IfSome (instr_at lines k) (λ instr. denoted (spelling instr) ≡ Some instr)
 
--- of the first 0 lines there is no word
-pub nothing-coded : (lines : List (List ℕ)) → IsCoded lines 0 0 []
-nothing-coded lines = record {
-  within = omega arith;
-  counted = refl;
-  kept = λ k l. absurd (omega arith);
-  made = refl;
-  placed = λ k l. let e : k ≡ 0 = omega arith in ap (λ n. length (words_up_to lines n)) e ∙ sym (ap (place_of lines) e);
-  fits = omega arith;
-  spelled = λ k l. absurd (omega arith);
-}
-
 up-next : (lines : List (List ℕ)) (i : ℕ) → words_up_to lines (i + 1) ≡ words_up_to lines i ++ words_at lines i
 up-next lines i = rw add-one
 

@@ -108,14 +108,6 @@ fed-refused bytes piece all r e at fault none fed whole feeds =
     held-refused bytes piece r e at fault (holding bytes r none fed)
     (subst (λ (z : List ℕ). Feeds z r.parser 0 (Err (Malformed fault)) e at) whole feeds)
 
--- a fault that was met before
-pub refused-more : (bytes piece : List ℕ) (refusal : Fault) → Refused bytes refusal → Refused (bytes ++ piece) refusal
-refused-more bytes piece refusal h =
-    record {
-      lasting = h.lasting;
-      later = λ rest. subst (λ (whole : List ℕ). read_of whole ≡ Err refusal) (sym (append_assoc bytes piece rest)) (h.later (piece ++ rest));
-    }
-
 -- what is said of the bytes so far
 
 -- of bytes that were refused, reading them at once says the same fault

@@ -1,8 +1,7 @@
 -- Epochs begin in the spheres of a machine one by one.
 use Rattle.std.proofs.Common.{◌≡◌, ℕ, suc, ◌+◌, ◌<◌, ◌≤◌, true, false, nat_eq, List, [], ◌∷◌, ◌++◌, length, Result, Ok, Err, Option, Some, None, inl, inr, refl, sym, ap, ◌∙◌, subst, arith}
 use Rattle.std.specs.Prelude.{OnErr, OnOk}
-use Rattle.std.proofs.lemmas.Bool.{cases_Bool, cases_eq, cases_lt, eqb-true}
-use Rattle.std.proofs.lemmas.List.{get_or_past}
+use Rattle.std.proofs.lemmas.Bool.{cases_Bool, cases_eq, eqb-true}
 use Rattle.spec_isa.specs.Words.{Stored}
 use Rattle.spec_log.specs.declared.LogParts.{LogParts}
 use Rattle.spec_play.specs.Epochs.{Epoch, Epochs, given_up, with_epoch, is_due}
@@ -14,7 +13,7 @@ use Rattle.spec_protocol.specs.machine.Epochs.{begun_at, epochs_begun}
 use Rattle.spec_sphere.specs.sphere.Epochs.{begun_if, begun_in, epoch_at, epoch_begun, trimmed_by}
 use Rattle.spec_protocol.specs.machine.Machine.{Setup}
 use Rattle.spec_engine.specs.Flying.{flying, words_of}
-use Rattle.spec_sphere.specs.sphere.Spheres.{Role, Plain, Record, Replay, Sphere, no_sphere}
+use Rattle.spec_sphere.specs.sphere.Spheres.{Role, Plain, Record, Replay, Sphere}
 use Rattle.spec_protocol.specs.machine.World.{World, sphere_at}
 use Rattle.spec_protocol.specs.promises.Alike.{AreAlike}
 use Rattle.spec_protocol.specs.promises.Kept.{NoneIsDue}
@@ -22,7 +21,7 @@ use Rattle.spec_sphere.specs.promises.Kept.{has_due}
 use Rattle.spec_protocol.proofs.Alike.Good.{spheres-alike}
 use Rattle.spec_protocol.proofs.Kept.One.{begun-one-alike, begun-one-ready, begun-one-shows, begun-others, begun-same}
 use Rattle.dl_sphere.specs.Setups.{standard_in}
-use Rattle.dl_machine.specs.Begun.{HasBegunSome, IsOneDue, begun_first}
+use Rattle.dl_machine.specs.Begun.{begun_first}
 use Rattle.dl_machine.specs.Ready.{IsReady}
 use Rattle.dl_machine.specs.Runs.{HasRun, IsRun}
 use Rattle.dl_machine.proofs.Worlds.InTurn.{all_begun}
@@ -98,10 +97,6 @@ pub record HaveBegun (from now : World) (i : ℕ) : Type 0 where
   pub none : (j : ℕ) → j < i → has_due (sphere_at now j) ≡ false
   pub first : now ≡ begun_first i from
 
--- at first in none
-pub begun_none : (w : World) → HaveBegun w w 0
-begun_none w = record { run = λ s es run. run; alike = refl; same = λ none. refl; none = λ j l. absurd (omega (arith, l)); first = refl }
-
 -- they still show a run
 pub still_run : (from now : World) (i : ℕ) → HasRun from → HaveBegun from now i → HasRun now
 still_run from now i r b = record { setup = r.setup; schedule = r.schedule; run = b.run r.setup r.schedule r.run }
@@ -129,22 +124,6 @@ begun_next from now next i r b inside is =
       first = let more : suc i ≡ i + 1 = omega arith in ap (begun_at i) b.first ∙ ap (λ (n : ℕ). begun_first n from) more;
     })
 
--- at last in all of them
-pub begun_all : (from now : World) (i : ℕ) → HaveBegun from now i → length now.spheres ≤ i → NoneIsDue now
-begun_all from now i b all j =
-    elim (cases_lt j (length now.spheres)) [
-      | inl there ↦ b.none j (omega (arith, there, all))
-      | inr past ↦ ap has_due (get_or_past now.spheres j no_sphere past)
-    ]
-
 -- as the definitions have it
 pub begun_whole : (from now : World) (i : ℕ) → HaveBegun from now i → length now.spheres ≤ i → now ≡ epochs_begun from
 begun_whole from now i b all = let many = spheres_kept from now i b in b.first ∙ all_begun i from (omega (arith, all, many))
-
--- or memory runs out before
-pub begun_some : (from now new : World) (i : ℕ) → HaveBegun from now i → new ≡ now → HasBegunSome from new
-begun_some from now new i b same = record { many = i; begun = same ∙ b.first }
-
--- if an epoch is due in sphere i, one is due in some sphere of the world
-pub one_due : (now new : World) (i : ℕ) → has_due (sphere_at now i) ≡ true → new ≡ now → IsOneDue new
-one_due now new i due same = record { sphere = i; due = ap (λ (w : World). has_due (sphere_at w i)) same ∙ due }

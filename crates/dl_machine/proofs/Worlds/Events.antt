@@ -19,11 +19,6 @@ pub happens_reply : (w : World) (e : Event) → (happens w e).reply ≡ (act w e
 unfolding happens
 happens_reply w e = refl
 
--- an event leaves its world with the event counted by its reply
-pub happens_world : (w : World) (e : Event) → (happens w e).world ≡ record (left (act w e)) { counts = counted (left (act w e)).counts (name_of (act w e).reply) }
-unfolding happens
-happens_world w e = refl
-
 -- what an event leaves, counted by its reply, is the world after the event
 pub world_left : (w : World) (e : Event) (reply : Reply) (between new : World) → reply ≡ (act w e).reply → between ≡ left (act w e) → new ≡ record between { counts = counted between.counts (name_of reply) } → new ≡ (happens w e).world
 unfolding happens

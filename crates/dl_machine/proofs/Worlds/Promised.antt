@@ -83,14 +83,6 @@ pub led_on : (w next : World) (e : Event) → (wants_memory e ≡ true → NoneI
 led_on w next e none is r =
     record { setup = r.setup; schedule = r.schedule ++ e ∷ []; run = run_more r.setup r.schedule e w next none is r.run }
 
--- a world that shows the same is the same run
-pub run_same : (w next : World) → ((s : Setup) (es : List Event) → IsWithinLimits s → Shows s es w → Shows s es next) → (s : Setup) (es : List Event) → IsRun s es w → IsRun s es next
-run_same w next same s es run = record { limits = run.limits; here = same s es run.limits run.here }
-
--- if a run has led to a world, one has led to each that shows its runs
-pub led_same : (w next : World) → ((s : Setup) (es : List Event) → IsWithinLimits s → Shows s es w → Shows s es next) → HasRun w → HasRun next
-led_same w next same r = record { setup = r.setup; schedule = r.schedule; run = run_same w next same r.setup r.schedule r.run }
-
 -- what a run has led to is ready
 pub run_ready : (w : World) → HasRun w → IsReady w
 run_ready w r =

@@ -1,5 +1,5 @@
 -- Words that stand apart, put one after another, are those words.
-use Rattle.std.proofs.Common.{◌≡◌, ◌≢◌, ℕ, zero, suc, ◌+◌, ◌<◌, ◌≤◌, ◌∷◌, [], List, length, Bool, true, false, ◌||◌, Some, nat_lt, refl, arith, sym, ◌∙◌, ap, inl, inr, min}
+use Rattle.std.proofs.Common.{◌≡◌, ◌≢◌, ℕ, zero, suc, ◌+◌, ◌<◌, ◌≤◌, ◌∷◌, [], List, length, true, Some, nat_lt, arith, sym, ◌∙◌, ap, inl, inr, min}
 use Rattle.std.specs.Prelude.{take, slice_get}
 use Rattle.std.proofs.lemmas.Bool.{lt-ltb}
 use Rattle.std.proofs.lemmas.Bool.Decides.{eqb_tells}
@@ -8,10 +8,7 @@ use Rattle.std.proofs.lemmas.Option.{slice_get_within}
 use Rattle.std.proofs.Math.Nat.{not-suc-le-zero}
 use Rattle.spec_isa.specs.Words.{Stored, put, holds, Lacks, Apart}
 use Rattle.dl_wbuf.specs.Buffers.{has_room}
-
-or-right : (a b : Bool) → b ≡ true → (a || b) ≡ true
-or-right true b h = refl
-or-right false b h = h
+use Rattle.dl_replay.proofs.Takes.{or-right}
 
 -- a buffer for as many words has room for each next one of them
 pub has_room_taken : (words : List Stored) (i capacity : ℕ) (s : Stored) → slice_get words i ≡ Some s → length words ≤ capacity

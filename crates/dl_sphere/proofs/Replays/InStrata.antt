@@ -31,7 +31,7 @@ use Rattle.spec_strata.specs.Canonical.{canonical, order_of}
 use Rattle.spec_strata.specs.Standing.{Standing, after_dma, after_thread, done_up_to, head_standing, least_left, nothing_done, place_of, stratum_begun, with_one_done}
 use Rattle.spec_strata.specs.Strata.{HaveSome}
 use Rattle.spec_strata.proofs.Shares.Steps.{mapped}
-use Rattle.spec_strata.proofs.Standing.Counts.{begins as begins-at, count_at, least-left, sum-more, within}
+use Rattle.spec_strata.proofs.Standing.Counts.{begins as begins-at, count_at, least-left, sum-more, within, up-to-most}
 use Rattle.dl_kernel.specs.InOrder.{AreSame, Listed, NoneWaits, end_of, joined, listed}
 use Rattle.dl_kernel.specs.States.{PlayState as State}
 use Rattle.dl_kernel.proofs.Joined.{all-within}
@@ -59,11 +59,6 @@ done-late k [] late = refl
 done-late zero (d ∷ []) late = omega (arith, sum_by-cons (λ (x : ℕ). x) d [])
 done-late zero (d ∷ e ∷ ds) late = absurd (omega (arith, late))
 done-late (suc k) (d ∷ ds) late = omega (arith, done-late k ds (omega (arith, late)), sum_by-cons (λ (x : ℕ). x) d ds)
-
-done-within : (k : ℕ) (ds : List ℕ) → done_up_to k ds ≤ sum ds
-done-within k [] = omega arith
-done-within zero (d ∷ ds) = omega (arith, sum_by-cons (λ (x : ℕ). x) d ds)
-done-within (suc k) (d ∷ ds) = omega (arith, done-within k ds, sum_by-cons (λ (x : ℕ). x) d ds)
 
 -- they are those before the stratum and those that are done in it
 count-is : (x : Standing) (l : Listed) → ((k : ℕ) → end_of k l ≡ place_of k x) → length (listed l) ≡ x.before + sum x.done
@@ -133,7 +128,7 @@ begun-going (Dma ∷ xs) each = refl
 settled : (xs : List Stratum) (before : ℕ) (commits : Listed) → HaveSome xs → NoneWaits commits → length (listed commits) ≡ before → Next (stratum_begun xs before) commits
 settled xs before commits each none count =
     record {
-      ends = λ k. omega (arith, none k, count, done-within k (nothing_done xs), none-done xs);
+      ends = λ k. omega (arith, none k, count, up-to-most k (nothing_done xs), none-done xs);
       each = each;
       going = begun-going xs each;
     }

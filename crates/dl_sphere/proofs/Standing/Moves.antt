@@ -1,17 +1,15 @@
 -- What is true of every sphere stays true as it commits, transfers and takes interrupts.
-use Rattle.std.proofs.Common.{◌≡◌, ℕ, suc, ◌+◌, ◌<◌, ◌≤◌, ◌^◌, Bool, true, false, ◌&&◌, not, List, [], ◌∷◌, ◌++◌, length, Option, Some, None, slice_index, refl, sym, ap, ◌∙◌, subst, arith, inl, inr, set, get_or-set_same, get_or-set_other, length-set, length-append, append-nil}
+use Rattle.std.proofs.Common.{◌≡◌, ℕ, suc, ◌+◌, ◌<◌, ◌≤◌, Bool, true, false, List, [], ◌∷◌, ◌++◌, length, Option, Some, None, slice_index, refl, sym, ap, ◌∙◌, subst, arith, inl, inr, set, get_or-set_same, get_or-set_other, length-set, length-append, append-nil}
 use Rattle.std.specs.Prelude.{slice_get, OnSome}
 use Rattle.dl_kernel.specs.Calls.{spawned_list}
-use Rattle.std.proofs.lemmas.Bool.{cases_eq, and_parts, true≢false}
+use Rattle.std.proofs.lemmas.Bool.{cases_eq}
 use Rattle.std.proofs.lemmas.Option.{slice_get_within}
 use Rattle.dl_entry.specs.declared.Actor.{Actor}
 use Rattle.dl_entry.specs.declared.Commit.{Commit}
 use Rattle.dl_entry.specs.declared.Input.{Input}
 use Rattle.spec_isa.specs.declared.thread.Parts.{Parts}
-use Rattle.spec_log.specs.Log.{IsActor}
 use Rattle.spec_log.specs.Noting.{index_of, done_with, insert_interrupt}
-use Rattle.spec_log.specs.Versions.{new_threads}
-use Rattle.spec_kernel.specs.Interrupts.{is_live, has_handler, takes_interrupt, interrupted}
+use Rattle.spec_kernel.specs.Interrupts.{takes_interrupt, interrupted}
 use Rattle.spec_play.specs.Effects.{dma_commit}
 use Rattle.spec_play.specs.Progress.{Progress, position}
 use Rattle.spec_play.specs.Recording.{noted, input_noted, dma_noted}
@@ -24,11 +22,12 @@ use Rattle.spec_sphere.specs.promises.Sound.{AreFresh, commits_in, commits_if}
 use Rattle.spec_sphere.proofs.Logs.Growing.{commits-other, commits-same}
 use Rattle.spec_sphere.proofs.Logs.Fresh.{fresh-commit, fresh-raise}
 use Rattle.spec_sphere.proofs.Logs.Lookups.{none-there}
+use Rattle.spec_sphere.proofs.PlayingBack.Transfers.{open-takes}
 use Rattle.spec_play.specs.Noted.{as_log}
 use Rattle.dl_record.specs.Epochs.{InEpochs, IsBegun}
 use Rattle.dl_sphere.specs.Recorded.{commits_of, with_commit}
 use Rattle.spec_play.specs.declared.used.Used.{Used}
-use Rattle.dl_sphere.specs.Roles.{Keeping, Plain, Recording, Replaying, role_of, most_of, HasFew, with_noted, with_raised, CanNote, CanRaise, HasRecorded, IsLiveOf}
+use Rattle.dl_sphere.specs.Roles.{Keeping, Plain, Recording, Replaying, role_of, most_of, HasFew, with_noted, with_raised, CanRaise, HasRecorded, IsLiveOf}
 
 -- ---- what is noted
 
@@ -62,12 +61,6 @@ log_with r c early (Some i) = refl
 
 -- Thread k of the sphere p, which was t and is u, has committed c and spawned these threads, and the sphere is q.
 module _ (p q : Sphere) (k : ℕ) (t u : Parts) (spawned : List Parts) (c : Commit) (d : Commits p q k t u spawned c) where
-  -- what a recorder keeps then is the log with the commit noted as the one that the thread did next
-  commits_noted : (s : ℕ) (r : InEpochs) (early : Bool) (o : Option Input) → HasRecorded s p r → as_log (with_commit c early o None r).recorded ≡ input_noted o (noted c t.commits early (as_log r.recorded))
-  commits_noted s r early o h =
-      let index : index_of r.recorded.kept.done c.actor ≡ t.commits = ap (index_of r.recorded.kept.done) d.actor ∙ h.done k ∙ ap commits_if d.start in
-      log_with r c early o ∙ ap (λ n. input_noted o (noted c n early (as_log r.recorded))) index
-
   -- its counts are those of the threads
   done-after : (s : ℕ) (r : InEpochs) → HasRecorded s p r → (j : ℕ) → slice_index (done_with r.recorded.kept.done c.actor) j ≡ commits_in q.threads j
   done-after s r h j =
@@ -161,11 +154,6 @@ pub raised_stand : (p q : Sphere) (k value : ℕ) (t : Parts) (s : ℕ) (x : Kee
 raised_stand p q k value t s x start takes threads progress h =
     kept-raised p q k value t s x start takes threads progress (λ j. ap (λ ts. commits_in ts j) threads ∙ same-raised p.threads k j value t start) h
 
-unmasked : (t : Parts) → takes_interrupt t ≡ true → t.mask ≡ false
-unmasked t takes =
-    let last = and_parts (is_live t && has_handler t) (not t.mask) takes in
-    elim (t.mask) as (λ (m : Bool). not m ≡ true → m ≡ false) [ true ↦ λ no. absurd (true≢false (sym no)) | false ↦ λ _. refl ] last.1
-
 -- an interrupt that its thread takes is of a new moment
 pub can_raise : (p : Sphere) (k : ℕ) (t : Parts) (s : ℕ) (x : Keeping) → slice_get p.threads k ≡ Some t → takes_interrupt t ≡ true → IsLiveOf s p x → IsReadyAt (position p.progress) x → CanRaise k t.commits x
 can_raise p k t s Plain start takes h ready = tt
@@ -175,7 +163,7 @@ can_raise p k t s (Recording r) start takes h ready =
     let few = h.threads in
     record {
       thread = omega arith;
-      fresh = none-there r.recorded.interrupts k t.commits (h.fresh.unmasked k t start (unmasked t takes));
+      fresh = none-there r.recorded.interrupts k t.commits (h.fresh.unmasked k t start (open-takes t takes));
       begun = subst (IsBegun r.epochs) (sym (commits_are s p r h)) ready;
     }
 
@@ -224,18 +212,3 @@ transferred_stand p q s bytes (Recording r) threads first more h =
 -- a DMA of a recorded sphere leaves its log with the commit and the bytes noted
 pub transferred_role : (u : Used) (p : Sphere) (s : ℕ) (bytes : List ℕ) (r : InEpochs) → HasRecorded s p r → role_of u (with_noted dma_commit false None (Some bytes) (Recording r)) ≡ Record (record { log = dma_noted (position p.progress) bytes (noted dma_commit (position p.progress) false (as_log r.recorded)); epochs = r.epochs })
 transferred_role u p s bytes r h = ap (λ l. Record (record { log = l; epochs = r.epochs })) (dma_log_at r bytes (position p.progress) (commits_are s p r h))
-
--- ---- what can be noted
-
--- a commit of one of the threads, no larger than a standard chunk, and over 0 if it is short
-pub can_note : (s : ℕ) (p : Sphere) (x : Keeping) (k : ℕ) (c : Commit) (short : Bool) → IsLiveOf s p x → k < length p.threads → c.actor ≡ Actor.Thread k → c.size ≤ s → (short ≡ true → 1 ≤ c.size) → position p.progress < 2 ^ 24 → IsReadyAt (position p.progress) x → CanNote c short x
-can_note s p Plain k c short h inside actor size over few ready = tt
-can_note s p (Replaying r loads) k c short h inside actor size over few ready = tt
-can_note s p (Recording r) k c short h inside actor size over few ready =
-    let all = commits_are s p r h in
-    let actor_ = subst (IsActor (new_threads r.recorded.version)) (sym actor) (omega (arith, inside, h.threads)) in
-    record {
-      commit = record { actor = actor_; size = omega (arith, size, h.s); over = over; few = omega (arith, few, all) };
-      few = omega (arith, few, all);
-      begun = subst (IsBegun r.epochs) (sym all) ready;
-    }

@@ -1,14 +1,12 @@
 -- What is true of every sphere is true before its first commit.
-use Rattle.std.proofs.Common.{◌≡◌, ℕ, zero, suc, ◌+◌, ◌<◌, ◌≤◌, ◌==◌, Bool, false, ◌&&◌, cond, nat_le, nat_lt, List, [], ◌∷◌, length, replicate, slice_index, Option, Some, None, option_map, inl, inr, refl, sym, ap, ◌∙◌, subst, arith}
-use Rattle.std.proofs.Math.ListN.{get_or}
-use Rattle.std.proofs.lemmas.Bool.{cases_Bool, lt-leb}
-use Rattle.std.proofs.lemmas.Option.{none-some, same_Some}
+use Rattle.std.proofs.Common.{◌≡◌, ℕ, zero, suc, ◌+◌, ◌<◌, ◌≤◌, Bool, false, ◌&&◌, cond, nat_le, nat_lt, List, [], ◌∷◌, length, replicate, slice_index, Option, Some, None, option_map, refl, sym, ap, ◌∙◌, subst, arith}
+use Rattle.std.proofs.lemmas.Bool.{lt-leb}
+use Rattle.std.proofs.lemmas.Option.{none-some}
 use Rattle.dl_entry.specs.declared.Commit.{Commit}
 use Rattle.dl_entry.specs.declared.End.{End}
 use Rattle.dl_entry.specs.declared.Why.{Why}
 use Rattle.spec_isa.specs.Threads.{started}
 use Rattle.spec_log.specs.declared.LogParts.{LogParts}
-use Rattle.spec_log.specs.Versions.{new_threads}
 use Rattle.spec_play.specs.declared.interval.Interval.{Interval}
 use Rattle.spec_log.specs.Log.{IsLog}
 use Rattle.spec_play.specs.Intervals.{IsWithin, IsWithinIf, before, now_in}
@@ -29,6 +27,7 @@ use Rattle.spec_strata.specs.declared.strata.StrataParts.{StrataParts}
 use Rattle.spec_strata.specs.Standing.{stratum_begun}
 use Rattle.spec_sphere.proofs.Logs.Fresh.{fresh-none}
 use Rattle.spec_sphere.proofs.Sound.Plays.{replay-sound}
+use Rattle.spec_sphere.proofs.Points.KeptLogs.{new-least}
 use Rattle.dl_kernel.specs.States.{state_in}
 use Rattle.dl_kernel.specs.InOrder.{NoneWaits, listed}
 use Rattle.dl_sphere.specs.Setups.{HasCome, IsBegunAs, IsBegunIf, IsFirstIf, IsParallelAs, begun_as, begun_of, diverged_in, interval_in, log_of, replay_setup, role_setup, strata_as, strata_in, strata_of}
@@ -43,17 +42,13 @@ use Rattle.dl_sphere.specs.Pasts.{sphere_at, sphere_with}
 use Rattle.dl_sphere.specs.Roles.{Keeping, Plain, Recording, Replaying, recording_of, role_of, HasFew, HasRecorded, IsKeepingOf, IsSphere}
 use Rattle.dl_sphere.proofs.Replays.InStrata.{BeginsIf, begins-in}
 use Rattle.dl_sphere.specs.Starting.{IsReplayingIf, diverged_if, first_state, following_at, keeping_at, start_as, started_from}
+use Rattle.dl_replay.proofs.Counts.{zeros}
 
 -- ---- a live sphere
 
 no-commits : (entry k : ℕ) → commits_in (started entry ∷ []) k ≡ 0
 no-commits entry zero = refl
 no-commits entry (suc k) = refl
-
-zeros : (n k : ℕ) → let none : ℕ = 0 in get_or (replicate n none) k none ≡ none
-zeros zero k = refl
-zeros (suc n) zero = refl
-zeros (suc n) (suc k) = zeros n k
 
 -- at the start no thread has more than 0 commits
 pub no-more : (entry k : ℕ) → commits_in (started entry ∷ []) k ≤ 0
@@ -63,14 +58,6 @@ no-more entry k = let e = no-commits entry k in omega arith
 pub none-done : (entry k : ℕ) → slice_index (let none : ℕ = 0 in replicate 63 none) k ≡ commits_in (started entry ∷ []) k
 none-done entry zero = refl
 none-done entry (suc k) = zeros 62 k
-
--- any version of logs has a thread
-pub one-thread : (version : ℕ) → 1 ≤ new_threads version
-one-thread version =
-    elim (cases_Bool (version == 1)) [
-      | inl first ↦ rw first (omega arith)
-      | inr second ↦ rw second (omega arith)
-    ]
 
 -- ---- a replay
 
@@ -176,11 +163,6 @@ starts_first image Role.Plain is = refl
 starts_first image (Role.Record version mode epochs) is = refl
 starts_first image (Role.Replay r) is = first-start image (log_of r) (begun_of r) (strata_in (strata_of r)) is
 
-begun-start : (image : SphereSetup) (log : LogParts) (o : Option Begun) (strata : Option (List Stratum)) (b : Begun) → o ≡ Some b → IsBegunIf image (record { log = log; interval = interval_in o; strata = strata }) o
-    → state_in b.state ≡ start_as image (IsReplayed (record { log = log; interval = interval_in o; strata = strata }))
-begun-start image log None strata b is h = absurd (none-some b is)
-begun-start image log (Some other) strata b is h = ap (λ (x : Begun). state_in x.state) (sym (same_Some _ _ is)) ∙ h.state
-
 unless-begun : (image : SphereSetup) (asked : ReplaySetup) (o : Option Begun) → o ≡ None → IsBegunIf image asked o
 unless-begun image asked None is = tt
 unless-begun image asked (Some b) is = absurd (none-some b (sym is))
@@ -201,12 +183,6 @@ pub parallel_as : (image : SphereSetup) (role : Role) → IsBegunAs image role �
 parallel_as image Role.Plain h = tt
 parallel_as image (Role.Record version mode epochs) h = tt
 parallel_as image (Role.Replay r) h = h.1
-
--- else where the interval begins
-pub starts_begun : (image : SphereSetup) (role : Role) (b : Begun) → begun_as role ≡ Some b → IsBegunAs image role → state_in b.state ≡ start_as image (role_setup role)
-starts_begun image Role.Plain b is h = absurd (none-some b is)
-starts_begun image (Role.Record version mode epochs) b is h = absurd (none-some b is)
-starts_begun image (Role.Replay r) b is h = begun-start image (log_of r) (begun_of r) (strata_in (strata_of r)) b is h.0
 
 -- strata begin before the first commit
 pub first_if : (image : SphereSetup) (r : Replay) (s : State) → s ≡ start_as image (role_setup (Role.Replay r)) → IsFirstIf r s.commits
@@ -246,7 +222,7 @@ start_alone s image (IsRecorded asked) parallel =
     record {
       few = record { few = no-more image.entry };
       s = refl;
-      threads = one-thread asked.version;
+      threads = new-least asked.version;
       all = refl;
       done = none-done image.entry;
       first = first_base asked.epochs;

@@ -1,7 +1,8 @@
 use Rattle.std.proofs.Common.{◌∙◌, arith}
 use Rattle.std.proofs.lemmas.Result.{err_from_is_err_and}
 use Rattle.spec_strata.specs.Reading.{strata}
-use Rattle.dl_strata.proofs.Repeating.{repeated-more, repeated-not, repeated-all, fault-left}
+use Rattle.dl_logfmt.proofs.Repeating.{repeated-more, repeated-not, repeated-all}
+use Rattle.dl_strata.proofs.Faults.{fault-left}
 use Rattle.dl_strata.proofs.runs.read_runs.Goals as goal
 
 pub returns-in_err-read_run : goal.returns-in_err-read_run

@@ -1,7 +1,8 @@
 use Rattle.std.proofs.Common.{◌∙◌, arith}
 use Rattle.std.proofs.lemmas.Result.{err_from_is_err_and}
 use Rattle.spec_log.specs.Fields.{one_more}
-use Rattle.dl_strata.proofs.Repeating.{repeated-more, repeated-not, repeated-all, fault-made}
+use Rattle.dl_logfmt.proofs.Repeating.{repeated-more, repeated-not, repeated-all}
+use Rattle.dl_strata.proofs.Faults.{fault-made}
 use Rattle.dl_strata.proofs.sections.read_section.Goals as goal
 
 pub returns-in_err-read_next : goal.returns-in_err-read_next

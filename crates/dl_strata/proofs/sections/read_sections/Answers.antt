@@ -1,6 +1,6 @@
 use Rattle.std.proofs.Common.{◌∙◌, refl}
 use Rattle.std.proofs.lemmas.Result.{err_from_is_err_and}
-use Rattle.dl_strata.proofs.Repeating.{fault-left}
+use Rattle.dl_strata.proofs.Faults.{fault-left}
 use Rattle.dl_strata.proofs.Staging.{sections-are}
 use Rattle.dl_strata.proofs.sections.read_sections.Goals as goal
 

@@ -1,6 +1,6 @@
 use Rattle.std.proofs.Common.{◌∙◌, rules}
 use Rattle.std.proofs.lemmas.Result.{err_from_is_err_and}
-use Rattle.dl_tail.proofs.Repeating.{fault-left}
+use Rattle.dl_tail.proofs.Faults.{fault-left}
 use Rattle.dl_tail.proofs.StageLaws.{ahead-done, ahead-fault}
 use Rattle.dl_tail.proofs.log_stages.read_log_fields.Goals as goal
 

@@ -1,7 +1,8 @@
 use Rattle.std.proofs.Common.{◌∙◌, arith}
 use Rattle.std.proofs.lemmas.Result.{err_from_is_err_and}
 use Rattle.dl_logfmt.specs.Parsing.{stage_at}
-use Rattle.dl_tail.proofs.Repeating.{repeated-more, repeated-not, repeated-all, fault-made}
+use Rattle.dl_logfmt.proofs.Repeating.{repeated-more, repeated-not, repeated-all}
+use Rattle.dl_tail.proofs.Faults.{fault-made}
 use Rattle.dl_tail.proofs.log_stages.read_log_stage.Goals as goal
 
 pub returns-in_err-read_once : goal.returns-in_err-read_once

@@ -1,5 +1,5 @@
 use Rattle.std.proofs.lemmas.Result.{err_from_is_err_and}
-use Rattle.dl_tail.proofs.Repeating.{fault-left}
+use Rattle.dl_tail.proofs.Faults.{fault-left}
 use Rattle.dl_tail.proofs.StageLaws.{stage-fault, stage-asked}
 use Rattle.dl_tail.proofs.log_stages.read_stage.Goals as goal
 

@@ -1,7 +1,8 @@
 use Rattle.std.proofs.Common.{◌∙◌, arith}
 use Rattle.std.proofs.lemmas.Result.{err_from_is_err_and}
 use Rattle.spec_tail.specs.Reading.{rows}
-use Rattle.dl_tail.proofs.Repeating.{repeated-more, repeated-not, repeated-all, fault-left}
+use Rattle.dl_logfmt.proofs.Repeating.{repeated-more, repeated-not, repeated-all}
+use Rattle.dl_tail.proofs.Faults.{fault-left}
 use Rattle.dl_tail.proofs.rows.read_rows.Goals as goal
 
 pub returns-in_err-read_next_row : goal.returns-in_err-read_next_row

@@ -3,7 +3,8 @@ use Rattle.std.proofs.lemmas.Result.{err_from_is_err_and}
 use Rattle.std.proofs.lemmas.List.{length-set, take_all}
 use Rattle.std.proofs.lemmas.Grind.{take-set_at}
 use Rattle.spec_log.specs.Fields.{any, one_more, repeated}
-use Rattle.dl_tail.proofs.Repeating.{repeated-more, repeated-not, repeated-all, fault-answered}
+use Rattle.dl_logfmt.proofs.Repeating.{repeated-more, repeated-not, repeated-all}
+use Rattle.dl_tail.proofs.Faults.{fault-answered}
 use Rattle.dl_tail.proofs.Words.{more-read, more-not}
 use Rattle.dl_tail.proofs.thread.read_words.Goals as goal
 
