@@ -1,4 +1,4 @@
-use Rattle.std.proofs.Common.{◌≡◌, All, List, length, sym, ap, ◌∙◌, subst, arith}
+use Rattle.std.proofs.Common.{◌≡◌, ℕ, ◌<◌, ◌^◌, All, List, length, sym, ap, ◌∙◌, subst, arith}
 use Rattle.spec_sphere.specs.promises.Sound.{IsImage}
 use Rattle.dl_sphere.specs.declared.setup.SphereSetup.{SphereSetup}
 use Rattle.dl_sphere.specs.Setups.{setup_of}
@@ -16,3 +16,6 @@ invariant_of-result-2 g c =
 
 pub returns-clause-images : goal.returns-clause-images
 returns-clause-images g c = subst (λ (xs : List SphereSetup). All (λ x. IsImage c.args.setup.now.s (setup_of x)) xs) c.as_slice.ensures c.in_ok-spheres.ensures.images
+
+pub returns-clause-input : goal.returns-clause-input
+returns-clause-input g c = subst (λ (xs : List ℕ). All (λ byte. byte < 2 ^ 8) xs) c.bytes_of-input.ensures.value c.bytes_of-input.ensures.bytes
