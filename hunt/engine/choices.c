@@ -70,7 +70,7 @@ bool is_leaf(struct run *run) {
     return true;
 }
 
-void count_place(struct trial *t, enum stop stop) { t->places += stop == AT_PLACE && others_could_come(t->run); }
+bool is_counted(const struct trial *t, enum stop stop) { return stop == AT_PLACE && others_could_come(t->run); }
 
 static uint32_t new_item(const struct trial *t, uint32_t choice) {
     return add_item((struct item){t->item, t->stop, t->places, (uint8_t)choice});
@@ -115,8 +115,7 @@ static void offer_interrupts(const struct trial *t, bool of_current_alone) {
             put_off(t, RAISE + j);
 }
 
-void offer(struct trial *t, enum stop stop, struct hash state) {
-    count_place(t, stop);
+void offer(const struct trial *t, enum stop stop, struct hash state) {
     if (whole.tally->bound == whole.limits->switches)
         return;
     if (stop == AT_PLACE) {

@@ -19,8 +19,9 @@ struct trial {
 void comes(struct trial *t);
 void take_choice(struct trial *t, uint32_t choice, enum turn_end end);
 /* The choices that there are at this stop, in this whole state, with one forced switch more. */
-void offer(struct trial *t, enum stop stop, struct hash state);
-void count_place(struct trial *t, enum stop stop);
+void offer(const struct trial *t, enum stop stop, struct hash state);
+/* Whether it is a place at which others could come. */
+bool is_counted(const struct trial *t, enum stop stop);
 /* Whether no thread goes on, and nothing else can come. */
 bool is_leaf(struct run *run);
 

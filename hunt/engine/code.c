@@ -1,6 +1,6 @@
 #include "inside.h"
 #include "operations.h"
-#include "sharing.h"
+#include "segments.h"
 
 static int of_table(const int8_t *table, uint32_t f3) { return table[f3] < 0 ? ILLEGAL : table[f3]; }
 
@@ -78,12 +78,21 @@ static struct code taken_apart(uint32_t w) {
     return c;
 }
 
+/* Whether an instruction is one that a thread does between places. A word that anybody has stored to isn't, since it may change. */
+static bool is_plain(const struct machine *m, uint32_t pc, int operation) {
+    bool is_one = is_local(operation) || (is_access(operation) && !is_marked(m, pc));
+    return is_one && touchers_of(pc).storer == NOBODY && !is_place_word(pc);
+}
+
 const struct code *code_at(struct machine *m, uint32_t pc) {
     struct code *c = &m->code[pc / 4];
-    uint32_t word = word_at(m, pc);
+    uint32_t word = word_at(m, pc), now;
     if (c->word != word || c->word == 0) {
         *c = taken_apart(word);
         note_fetched(pc);
     }
+    now = changes_begun() + 1;
+    if (c->plain != now && is_plain(m, pc, c->operation))
+        c->plain = now;
     return c;
 }

@@ -111,8 +111,9 @@ static void wait_for(const char *microseconds) {
 
 void delay(const char *point) {
     const char *at = delays();
-    size_t length = strlen(point);
-    while (*at) {
+    if (*at == 0)
+        return;
+    for (size_t length = strlen(point); *at != 0;) {
         bool is_here = strncmp(at, point, length) == 0 && at[length] == ':';
         const char *who = is_here ? at + length + 1 : at;
         if (is_here && (*who == '*' || strtoul(who, NULL, 10) == number) && strchr(who, ':'))

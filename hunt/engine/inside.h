@@ -12,4 +12,7 @@ const struct code *code_at(struct machine *m, uint32_t pc);
 void run_store(struct machine *m, uint32_t number, uint32_t address, const struct code *c);
 void put_register(struct thread *t, uint32_t r, uint32_t v);
 
+/* Of an instruction. An acquire may be a place, or wait. */
+static inline bool is_marked(const struct machine *m, uint32_t pc) { return m->setup->acquires != NULL && m->setup->acquires[pc / 4]; }
+
 #endif

@@ -68,11 +68,8 @@ static uint32_t swapped(int operation, uint32_t old, uint32_t b) {
 }
 
 void run_store(struct machine *m, uint32_t number, uint32_t address, const struct code *c) {
-    uint32_t width = width_of(c->operation), shift = address % 4 * 8;
-    uint32_t mask = (width == 4 ? 0xFFFFFFFF : (1u << 8 * width) - 1) << shift;
-    uint32_t value = m->threads[number].x[c->rs2] << shift;
     note_store(context_of(m, number), address);
-    put_word(m, address, (word_at(m, address) & ~mask) | (value & mask));
+    put_word(m, address, stored(word_at(m, address), address, c->operation, m->threads[number].x[c->rs2]));
 }
 
 /* The instructions from the LR on, which are one chunk. */

@@ -29,15 +29,22 @@ void *more_room(void *old, size_t count, size_t size) {
 
 void happened(struct machine *m) { m->events++; }
 
-void put_word(struct machine *m, uint32_t address, uint32_t word) {
-    uint32_t old = word_at(m, address);
-    if (old == word)
-        return;
+static void add_to_journal(struct machine *m, struct stored stored) {
     if (m->journal_length == m->journal_room) {
         m->journal_room = m->journal_room ? 2 * m->journal_room : 1024;
         m->journal = more_room(m->journal, m->journal_room, sizeof *m->journal);
     }
-    m->journal[m->journal_length++] = (struct stored){address & ~3u, old};
+    m->journal[m->journal_length++] = stored;
+}
+
+/* Whoever stores has noted it, so an instruction that is changed isn't plain any more, also if it comes back. */
+void put_word(struct machine *m, uint32_t address, uint32_t word) {
+    uint32_t old = word_at(m, address);
+    if (touchers_of(address).fetched)
+        m->code[address / 4].plain = 0;
+    if (old == word)
+        return;
+    add_to_journal(m, (struct stored){address & ~3u, old});
     memcpy(m->memory + (address & ~3u), &word, 4);
     struct hash before = mixed(address & ~3u, old), after = mixed(address & ~3u, word);
     m->memory_hash.a += after.a - before.a;

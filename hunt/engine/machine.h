@@ -36,11 +36,13 @@ struct next {
     uint32_t cause;   /* of a fault */
 };
 
-/* A word of code, taken apart. */
+/* A word of code, taken apart. It is known to be plain as long as no word has become shared or a places' word since: then `plain` is what
+   the count of such changes is, and 1. 0 if it isn't plain, or that isn't known. */
 struct code {
     uint32_t word;
     uint8_t operation, rd, rs1, rs2;
     int32_t value;
+    uint32_t plain;
 };
 
 /* What came from outside for one serial step. thread: whose step it answers, or ANYONE's. */
@@ -83,7 +85,6 @@ struct machine {
     uint8_t *memory;
     struct code *code; /* of each word that was fetched */
     struct hash memory_hash;
-    struct thread threads[MOST_THREADS];
     uint32_t thread_count;
     bool requested;
     uint32_t request_buffer, request_length;
@@ -99,6 +100,7 @@ struct machine {
     size_t dmas_done;
     uint64_t ended;            /* the threads that have ended, as bits */
     struct hash answers_taken; /* which of the answers that were handed in */
+    struct thread threads[MOST_THREADS]; /* last, so that a copy ends with those that there are */
 };
 
 /* What one serial step did, beside what it changed. */
@@ -115,9 +117,16 @@ void start_machine(struct machine *m, struct setup *setup);
 void reset_machine(struct machine *m);
 struct next next_of(struct machine *m, const struct thread *t);
 void run_local(struct machine *m, uint32_t number);
-/* So many plain instructions at most, or until the thread is at this pc, or its sp is another; how many they were. Plain is what is at
-   no place: local instructions, loads and stores. But one that wasn't taken apart yet isn't counted among them, nor is one with a mark. */
-uint64_t run_plain(struct machine *m, uint32_t number, uint64_t most, uint32_t pc);
+/* Where plain instructions end, beside where they are no longer plain. */
+struct stretch {
+    uint64_t most;               /* instructions */
+    const struct thread *mark;   /* once the thread has this pc and these registers */
+    const struct stacks *stacks; /* once its sp has come below its stack; tp 0 if that isn't asked */
+    bool is_below;               /* it has */
+};
+/* Plain instructions; how many they were. Plain is what is at no place: local instructions, loads and stores. But one that wasn't taken
+   apart yet isn't counted among them, nor is one with a mark. */
+uint64_t run_plain(struct machine *m, uint32_t number, struct stretch *stretch);
 void run_access(struct machine *m, uint32_t number, uint32_t address, struct served *load);
 void serve(struct machine *m, uint32_t number, struct next next, struct served *served);
 void end_chunk(struct thread *t);

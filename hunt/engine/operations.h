@@ -68,6 +68,12 @@ static inline uint32_t computed(int operation, uint32_t a, uint32_t b) {
     return 0;
 }
 
+/* The word that was `old`, once the value was stored at the address, which is in it. */
+static inline uint32_t stored(uint32_t old, uint32_t address, int operation, uint32_t value) {
+    uint32_t width = width_of(operation), shift = address % 4 * 8, mask = width == 4 ? 0xFFFFFFFF : ((1u << 8 * width) - 1) << shift;
+    return (old & ~mask) | (value << shift & mask);
+}
+
 static inline uint32_t loaded(const struct machine *m, uint32_t address, int operation) {
     uint32_t v = word_at(m, address) >> address % 4 * 8;
     switch (operation) {

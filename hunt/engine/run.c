@@ -303,18 +303,18 @@ static uint64_t steps_to_look(struct run *r) {
 
 /* Plain steps of the current thread, some at most; how many they were. What is left is to look how it is. */
 static uint64_t step_plainly(struct run *r, uint64_t most) {
+    struct stretch stretch = {least(most, steps_to_look(r)), &r->mark, &r->stacks, false};
     uint64_t stores = r->machine.stores;
-    uint32_t sp = r->machine.threads[r->current].x[SP];
     if (r->met)
         return 0;
     go_on_in_segment();
-    uint64_t count = run_plain(&r->machine, r->current, r->watched != NULL ? 1 : least(most, steps_to_look(r)), r->mark.pc);
+    uint64_t count = run_plain(&r->machine, r->current, &stretch);
     if (count == 0)
         return 0;
     present(r)->steps += count;
     r->mark_age += count - 1;
+    r->met = r->met || stretch.is_below;
     look_at_moment(r, stores);
-    look_at_stack(r, sp);
     return count;
 }
 
@@ -325,10 +325,11 @@ static bool is_interruptible(const struct run *r) {
     return false;
 }
 
+/* What is at a place isn't plain. */
 enum stop go_on(struct run *r, bool past) {
     enum stop stop;
     for (;; past = false) {
-        if (r->raise_count == 0 && step_plainly(r, UINT64_MAX) > 0) {
+        if (r->raise_count == 0 && !past && step_plainly(r, UINT64_MAX) > 0) {
             if ((stop = after_step(r)) != AT_PLACE)
                 return stop;
             continue;

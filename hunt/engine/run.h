@@ -26,7 +26,6 @@ struct turn {
 };
 
 struct run {
-    struct machine machine;
     bool all_places;  /* each access to a shared word is a place */
     bool minds_marks; /* a thread before a marked instruction whose lock is held waits */
     const struct condition *watched; /* words that must never be so are looked at after each store; or NULL */
@@ -49,6 +48,7 @@ struct run {
     struct hash still;
     uint64_t still_events;
     size_t still_turn;
+    struct machine machine; /* last, as its threads are in it */
 };
 
 /* What a thread came to: a place, where it is about to touch what others see; a point between places at which an interrupt may come

@@ -1,17 +1,22 @@
+#define _DEFAULT_SOURCE
 #include "seen.h"
 
 #include "crew.h"
 
 #include <stdlib.h>
+#include <sys/mman.h>
 
 enum { COSTS = 256, OPEN = 256, MARKS = 512, PARTS = 256, FIRST_PLACES = 16 };
 
-/* The low byte of b is the cost and 1, and 0 in an empty place; the next bit is set while the state's turn goes on. Once b isn't 0
-   the state is there, and stays; only the cost becomes less, and the bit is cleared. */
+/* The low byte of b is the cost and 1; the next bit is set while the state's turn goes on. */
 struct entry { _Atomic uint64_t a, b; };
+
+/* A place has a tag, which is 0 while it is empty, and else some bits of its state. So mostly the tags alone are looked at, which the
+   processor has near. Once the tag isn't 0 the state is there, and stays; only the cost becomes less, and OPEN is cleared. */
 struct table {
     uint64_t places;
     struct table *former; /* which others may still look at */
+    _Atomic uint8_t *tags;
     struct entry in[];
 };
 
@@ -26,10 +31,27 @@ static struct part parts[PARTS];
 static struct counter count;
 static uint64_t most;
 
+/* In the system's large pages, if it is large: else the processor would mostly be looking for pages. */
+static void *wide_room(size_t size) {
+    enum { LARGE_PAGE = 1 << 21 };
+    void *got;
+    if (size < LARGE_PAGE)
+        return more_room(NULL, size, 1);
+    if (posix_memalign(&got, LARGE_PAGE, size) != 0)
+        fail("out of memory");
+#ifdef MADV_HUGEPAGE
+    madvise(got, size, MADV_HUGEPAGE);
+#endif
+    return got;
+}
+
 static struct table *new_table(uint64_t places, struct table *former) {
-    struct table *t = room(1, sizeof *t + places * sizeof t->in[0]);
+    struct table *t = wide_room(sizeof *t + places * (sizeof t->in[0] + sizeof t->tags[0]));
     t->places = places;
     t->former = former;
+    t->tags = (_Atomic uint8_t *)&t->in[places];
+    for (uint64_t j = 0; j < places; j++)
+        atomic_init(&t->tags[j], 0);
     return t;
 }
 
@@ -69,36 +91,65 @@ bool seen_is_full(void) { return count.value >= most; }
 
 /* ---------------------------------------------------------------- a part */
 
-static struct part *part_of(struct hash state) { return &parts[state.a >> 56]; }
+static struct part *part_of(struct hash state) { return &parts[(state.a >> 32) % PARTS]; }
 
-/* What is loaded of an entry's b is returned: 0 if the state isn't there. */
-static struct entry *place_of(struct table *t, struct hash state, uint64_t *b) {
-    for (uint64_t at = state.a & (t->places - 1);; at = (at + 1) & (t->places - 1)) {
-        struct entry *e = &t->in[at];
-        *b = atomic_load_explicit(&e->b, memory_order_acquire);
-        if (*b == 0 || (*b / MARKS == state.b / MARKS && atomic_load_explicit(&e->a, memory_order_relaxed) == state.a))
-            return e;
+static uint8_t tag_of(struct hash state) { return (uint8_t)(state.b >> 57 | 128); }
+
+static bool is_of(const struct entry *e, struct hash state, uint64_t b) {
+    return b / MARKS == state.b / MARKS && atomic_load_explicit(&e->a, memory_order_relaxed) == state.a;
+}
+
+/* The state's place, or the empty one where it would be; it isn't at any from its first place to this one. What is loaded of its b
+   is put there: 0 if the place is empty. */
+static uint64_t place_from(const struct table *t, uint64_t at, struct hash state, uint64_t *b) {
+    uint8_t wanted = tag_of(state), tag;
+    for (; (tag = atomic_load_explicit(&t->tags[at], memory_order_acquire)) != 0; at = (at + 1) & (t->places - 1)) {
+        if (tag != wanted)
+            continue;
+        *b = atomic_load_explicit(&t->in[at].b, memory_order_acquire);
+        if (is_of(&t->in[at], state, *b))
+            return at;
     }
+    *b = 0;
+    return at;
 }
 
-static void put_at(struct entry *e, uint64_t a, uint64_t b) {
-    atomic_store_explicit(&e->a, a, memory_order_relaxed);
-    atomic_store_explicit(&e->b, b, memory_order_release);
+static uint64_t place_of(const struct table *t, struct hash state, uint64_t *b) {
+    return place_from(t, state.a & (t->places - 1), state, b);
 }
+
+void look_ahead(struct hash state) {
+#ifdef __GNUC__
+    const struct table *t = part_of(state)->table;
+    uint64_t at = state.a & (t->places - 1);
+    __builtin_prefetch(&t->tags[at]);
+    __builtin_prefetch(&t->in[at]);
+#else
+    (void)state;
+#endif
+}
+
+static void put_at(struct table *t, uint64_t at, struct hash entry) {
+    atomic_store_explicit(&t->in[at].a, entry.a, memory_order_relaxed);
+    atomic_store_explicit(&t->in[at].b, entry.b, memory_order_release);
+    atomic_store_explicit(&t->tags[at], tag_of(entry), memory_order_release);
+}
+
+static struct hash entry_at(const struct table *t, uint64_t at) { return (struct hash){t->in[at].a, t->in[at].b}; }
 
 static void grow(struct part *p) {
     struct table *t = p->table, *larger = new_table(2 * t->places, t);
     for (uint64_t j = 0, b; j < t->places; j++)
-        if (t->in[j].b != 0)
-            put_at(place_of(larger, (struct hash){t->in[j].a, t->in[j].b}, &b), t->in[j].a, t->in[j].b);
+        if (t->tags[j] != 0)
+            put_at(larger, place_of(larger, entry_at(t, j), &b), entry_at(t, j));
     p->table = larger;
     if (crew_size() == 1)
         drop_former_tables();
 }
 
 /* In that place, in which b is now. */
-static void put(struct part *p, struct entry *place, uint64_t now, struct hash state) {
-    put_at(place, state.a, state.b);
+static void put(struct part *p, uint64_t place, uint64_t now, struct hash entry) {
+    put_at(p->table, place, entry);
     if (now != 0)
         return;
     count_up(&count, crew_size() == 1);
@@ -112,12 +163,12 @@ static enum meeting meeting_of(uint64_t b, uint32_t cost) {
 
 static enum meeting met_with(struct hash state, uint32_t cost, uint64_t open) {
     struct part *p = part_of(state);
-    uint64_t b;
-    place_of(p->table, state, &b);
+    const struct table *t = p->table;
+    uint64_t b, place = place_of(t, state, &b);
     if (meeting_of(b, cost) == IS_KNOWN)
         return IS_KNOWN;
     spin_lock(&p->lock);
-    struct entry *place = place_of(p->table, state, &b);
+    place = p->table == t ? place_from(t, place, state, &b) : place_of(p->table, state, &b);
     enum meeting meeting = meeting_of(b, cost);
     if (meeting == IS_FIRST)
         put(p, place, b, (struct hash){state.a, state.b / MARKS * MARKS + open + cost + 1});
@@ -133,8 +184,8 @@ void turn_has_ended(struct hash state) {
     struct part *p = part_of(state);
     uint64_t b;
     spin_lock(&p->lock);
-    struct entry *place = place_of(p->table, state, &b);
-    atomic_store_explicit(&place->b, b & ~(uint64_t)OPEN, memory_order_release);
+    uint64_t place = place_of(p->table, state, &b);
+    atomic_store_explicit(&p->table->in[place].b, b & ~(uint64_t)OPEN, memory_order_release);
     spin_unlock(&p->lock);
 }
 
@@ -142,16 +193,15 @@ void turn_has_ended(struct hash state) {
 
 void each_seen(void (*see)(struct hash entry)) {
     for (int k = 0; k < PARTS; k++) {
-        struct table *t = parts[k].table;
+        const struct table *t = parts[k].table;
         for (uint64_t j = 0; j < t->places; j++)
-            if (t->in[j].b != 0)
-                see((struct hash){t->in[j].a, t->in[j].b});
+            if (t->tags[j] != 0)
+                see(entry_at(t, j));
     }
 }
 
 void put_seen(struct hash entry) {
     struct part *p = part_of(entry);
-    uint64_t b;
-    struct entry *place = place_of(p->table, entry, &b);
+    uint64_t b, place = place_of(p->table, entry, &b);
     put(p, place, b, entry);
 }

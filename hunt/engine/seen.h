@@ -8,6 +8,8 @@
 void start_seen(uint64_t most);
 void forget_seen(void);
 void drop_former_tables(void); /* which nobody looks at any more, since all of the crew have come back */
+/* It is going to be asked for the state, which may be far away in memory. */
+void look_ahead(struct hash state);
 /* Whether the state wasn't met yet with so few; from now on it was, and whoever asked goes on from it. */
 bool is_new(struct hash state, uint32_t cost);
 /* The same of a state within a turn. Until its turn has come to its end, or to a state from which another turn has, the state is

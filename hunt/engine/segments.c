@@ -10,6 +10,7 @@ struct touched_by { uint64_t loads, stores; };
 /* Of the runs of each of the crew: */
 static _Thread_local struct touched_by *touched_by;
 static _Thread_local struct segment present[MOST_THREADS];
+static _Thread_local uint32_t threads; /* that have touched a word in any segment, or come before one that has */
 static _Thread_local struct hash sum_of_all;
 static _Thread_local uint64_t touches;
 static _Thread_local bool news, at_place, learns = true;
@@ -92,8 +93,9 @@ void start_segments(uint32_t size) {
 }
 
 void forget_segments(void) {
-    for (uint32_t k = 0; k < MOST_THREADS; k++)
+    for (uint32_t k = 0; k < threads; k++)
         empty(k);
+    threads = 0;
     touches = 0;
     news = false;
     known_then = knowledge();
@@ -110,6 +112,7 @@ static void add_touch(uint32_t thread, uint32_t word) {
     struct segment *s = &present[thread];
     struct hash h = mixed(word, thread + 0x5E6);
     *mask_of(word) |= 1ull << thread;
+    threads = thread < threads ? threads : thread + 1;
     add_word(s, word);
     s->hash = sum(s->hash, h);
     sum_of_all = sum(sum_of_all, h);
@@ -142,16 +145,17 @@ static void copy_segment(struct segment *to, const struct segment *from) {
 }
 
 void keep_segments(struct kept_segments *k) {
-    for (uint32_t j = 0; j < MOST_THREADS; j++)
+    for (uint32_t j = 0; j < threads; j++)
         copy_segment(&k->of[j], &present[j]);
+    k->threads = threads;
     k->touches = touches;
 }
 
 void take_back_segments(const struct kept_segments *k) {
-    for (uint32_t j = 0; j < MOST_THREADS; j++) {
+    for (uint32_t j = 0; j < threads; j++)
         empty(j);
+    for (uint32_t j = 0; j < k->threads; j++)
         for (size_t w = 0; w < k->of[j].count; w++)
             add_touch(j, k->of[j].words[w]);
-    }
     touches = k->touches;
 }

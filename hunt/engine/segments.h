@@ -55,6 +55,7 @@ struct segment {
 /* The segments as they are at one time. */
 struct kept_segments {
     struct segment of[MOST_THREADS];
+    uint32_t threads; /* of which these are */
     uint64_t touches;
 };
 void keep_segments(struct kept_segments *k);

@@ -37,6 +37,16 @@ static inline uint32_t context_of(const struct machine *m, uint32_t thread) {
     return thread + (m->threads[thread].masked ? IN_HANDLER : 0);
 }
 
+/* Whether such an access brings nothing new of a word that isn't shared. */
+static inline bool is_known_load(struct touchers t, uint32_t context) {
+    bool mine = t.loader == context + 1 && (t.storer == NOBODY || t.storer == context + 1);
+    return !t.shared && (mine || (t.loader == MANY && t.storer == NOBODY));
+}
+
+static inline bool is_known_store(struct touchers t, uint32_t context) {
+    return !t.shared && !t.fetched && t.storer == context + 1 && (t.loader == NOBODY || t.loader == context + 1);
+}
+
 static inline bool is_shared(uint32_t address) { return touchers_of(address).shared; }
 
 #endif

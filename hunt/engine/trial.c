@@ -26,6 +26,8 @@ static void go_past(struct trial *t, enum stop stop, bool *past) {
    one loop would wait for each other, and neither would see that the thread waits. */
 static enum result at_place(struct trial *t, enum stop stop, bool *past) {
     struct hash state = whole_state(t->run), key = key_of(state, t->run->current, AT_PLACE_KEY);
+    look_ahead(key);
+    bool counts = is_counted(t, stop);
     enum meeting meeting = meet(key, whole.tally->bound);
     delay("place");
     if (meeting == IS_KNOWN) {
@@ -34,9 +36,10 @@ static enum result at_place(struct trial *t, enum stop stop, bool *past) {
     }
     if (meeting == IS_FIRST) {
         keep_key(key);
+        t->places += counts;
         offer(t, stop, state);
     } else if (!is_in_turn(key))
-        count_place(t, stop);
+        t->places += counts;
     go_past(t, stop, past);
     return GOES_ON;
 }

@@ -16,6 +16,8 @@ char *tmpnam(char *) DELOREAN_NO_FILES;
 int remove(const char *) DELOREAN_NO_FILES;
 int rename(const char *, const char *) DELOREAN_NO_FILES;
 FILE *popen(const char *, const char *) DELOREAN_MISSING("there is one process: take threads");
+FILE *open_memstream(char **, size_t *) DELOREAN_MISSING("there are no streams beside stdin, stdout and stderr: take snprintf");
+FILE *fmemopen(void *, size_t, const char *) DELOREAN_MISSING("there are no streams beside stdin, stdout and stderr: take sscanf");
 void flockfile(FILE *) DELOREAN_MISSING("each call prints as a whole by itself: take a mutex around several");
 void funlockfile(FILE *) DELOREAN_MISSING("each call prints as a whole by itself: take a mutex around several");
 ssize_t getline(char **, size_t *, FILE *);

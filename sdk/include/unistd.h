@@ -22,5 +22,8 @@ int access(const char *, int) DELOREAN_NO_FILE;
 off_t lseek(int, off_t, int) DELOREAN_NO_FILE;
 unsigned alarm(unsigned) DELOREAN_MISSING("there are no signals: let a thread look at the clock");
 int pause(void) DELOREAN_MISSING("there are no signals: let a thread look at a word");
+#ifdef _GNU_SOURCE
+pid_t gettid(void) DELOREAN_MISSING("threads have no numbers of a system: take pthread_self");
+#endif
 
 #endif
