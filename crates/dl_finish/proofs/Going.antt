@@ -1,6 +1,8 @@
 -- Finishing goes on event by event, and ends once all events that finish the run are done.
-use Rattle.std.proofs.Common.{◌≡◌, ℕ, ◌+◌, true, ◌^◌, ◌<◌, ◌≤◌, List, [], ◌∷◌, ◌++◌, length, take, Some, None, refl, sym, ap, ◌∙◌, subst, arith, append_assoc}
-use Rattle.std.specs.Prelude.{slice_get}
+use Rattle.std.proofs.Common.{◌≡◌, ℕ, zero, suc, ◌+◌, ◌-◌, true, ◌^◌, ◌<◌, ◌≤◌, List, [], ◌∷◌, ◌++◌, length, take, Some, None, refl, sym, ap, ◌∙◌, subst, arith, append_assoc}
+use Rattle.std.specs.Fn.{iterate}
+use Rattle.std.specs.Prelude.{slice_get, replicate}
+use Rattle.std.proofs.lemmas.Bool.{true≢false}
 use Rattle.std.proofs.lemmas.Option.{none-some, same_Some}
 use Rattle.std.proofs.lemmas.Grind.{common_steps}
 use Rattle.dl_entry.specs.declared.Counts.{Counts}
@@ -21,7 +23,11 @@ use Rattle.spec_finishing.proofs.Ending.ShortRuns.{setups_finish, runs_short}
 use Rattle.dl_machine.specs.Events.{wants_memory}
 use Rattle.dl_machine.specs.Ready.{HasRoom}
 use Rattle.dl_machine.specs.Runs.{HasRun, IsRun}
-use Rattle.dl_machine.proofs.Worlds.Promised.{room_alike}
+use Rattle.dl_machine.specs.Steps.{AreSteps, event_left, event_reply}
+use Rattle.dl_machine.specs.declared.Steps.{Steps}
+use Rattle.dl_machine.proofs.Counted.{steps_world}
+use Rattle.dl_machine.proofs.Repeating.{iterate_last, iterate_suc}
+use Rattle.dl_machine.proofs.Worlds.Promised.{room_alike, run_more}
 use Rattle.spec_protocol.specs.promises.Alike.{AreAlike}
 use Rattle.spec_protocol.specs.promises.Promises.{after}
 use Rattle.spec_protocol.specs.promises.Sound.{IsWithinLimits}
@@ -219,6 +225,40 @@ step_again now new e r is world reply c step ran =
     let same : next now ≡ Some (Event.Step c) = is ∙ ap (λ (x : Event). Some x) step in
     let ran_ : (happens now (Event.Step c)).reply ≡ Reply.Ran = sym (ap (λ (x : Event). (happens now x).reply) step) ∙ sym reply ∙ ran in
     next_alike new (happens now e).world world ∙ ap (λ (x : Event). next (happens now x).world) step ∙ ran_again now c same ran_ ∙ ap (λ (x : Event). Some x) (sym step)
+
+-- ---- several steps
+
+module _ (from now : World) (core times : ℕ) (t : Steps) (g : Going from now) (is : Some (Event.Step core) ≡ next now) (steps : AreSteps (event_reply core) (event_left core) now times t) where
+  abbrev nth : ℕ → World
+  nth k = iterate (event_left core) k now
+
+  one_on : (w : World) → Going from w → next w ≡ Some (Event.Step core) → Going from (event_left core w)
+  one_on w h here = going_next from w (event_left core w) (Event.Step core) h (sym here) refl (λ s es run. run_more s es (Event.Step core) w (event_left core w) (λ wants. absurd (true≢false (sym wants))) refl run)
+
+  -- after each but the last the same event is next
+  steps_on : (k : ℕ) → k < t.taken → Going from (nth k) × (next (nth k) ≡ Some (Event.Step core))
+  steps_on zero l = (g, sym is)
+  steps_on (suc k) l =
+      let before = steps_on k (omega (arith, l)) in
+      let w = nth k in
+      let more : nth (suc k) ≡ event_left core w = iterate_suc (event_left core) k now in (
+        subst (Going from) (sym more) (one_on w before.0 before.1),
+        ap next more ∙ step_again w (event_left core w) (Event.Step core) (event_reply core w) before.1 refl refl core refl (steps.before k (omega (arith, l))),
+      )
+
+  -- so many steps bring finishing as many events further
+  pub going_steps : (new : World) → new ≡ world_after now (replicate t.taken (Event.Step core)) → Going from new
+  going_steps new left =
+      let some = steps.some in
+      let last = steps_on (t.taken - 1) (omega (arith, some)) in
+      let world : event_left core (nth (t.taken - 1)) ≡ new = sym (left ∙ sym (steps_world core t.taken now) ∙ iterate_last (event_left core) t.taken now some) in
+      subst (Going from) world (one_on (nth (t.taken - 1)) last.0 last.1)
+
+-- so many steps are counted
+pub steps_events : (now new : World) (core n : ℕ) → new ≡ world_after now (replicate n (Event.Step core)) → new.counts.events ≡ now.counts.events + n
+steps_events now new core n left =
+    let l : length (replicate n (Event.Step core)) ≡ n = grind (arith, common_steps) in
+    ap (λ (w : World). w.counts.events) left ∙ events_after now (replicate n (Event.Step core)) ∙ ap (λ (k : ℕ). now.counts.events + k) l
 
 -- ---- the end
 

@@ -11,7 +11,7 @@ use crate::next::next_event;
 use dl_entry::OutOfMemory;
 use dl_machine::Machine;
 use dl_sig::Sig;
-use spec_protocol::{Event, Reply};
+use spec_protocol::Event;
 
 /// Takes the next event until there is none. Then no flight is left, and every replay is complete or has diverged; for each
 /// unit of the run's work there were at most as many events as there are cores, plus six; and none was bounced, denied,
@@ -27,10 +27,11 @@ pub fn finish<G: Sig>(machine: &mut Machine<G>) -> Result<(), OutOfMemory>
 {
     machine.has_run();
     while let Some(event) = next_event(machine) {
-        let mut reply = machine.apply(event)?;
-        // A step whose instruction ran is the next event again.
-        while let (Event::Step(_), Reply::Ran) = (event, reply) {
-            reply = machine.apply(event)?;
+        if let Event::Step(core) = event {
+            // A step whose instruction ran is the next event again.
+            machine.step_on(core, u32::MAX);
+        } else {
+            machine.apply(event)?;
         }
     }
     Ok(())

@@ -1,5 +1,10 @@
 pub mod Rows
 pub mod Worlds
 pub mod Commits
-pub mod Steps
+pub mod OneStep
 pub mod Signatures
+pub mod GoesOn
+pub mod Repeating
+pub mod Going
+pub mod InARow
+pub mod Counted

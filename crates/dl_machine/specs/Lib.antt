@@ -9,3 +9,4 @@ pub mod Events
 pub mod Begun
 pub mod Setups
 pub mod Runs
+pub mod Steps

@@ -6,15 +6,17 @@ ghost use Rattle.spec_engine.specs.Signatures.{is_size, nothing};
 ghost use Rattle.spec_protocol.specs.machine.Flying.{squashed, squashed_younger, younger_of};
 ghost use Rattle.spec_protocol.specs.machine.Machine.{first_cores};
 ghost use Rattle.spec_protocol.specs.machine.World.{held_afresh, runs};
-ghost use Rattle.dl_chunk.specs.Pairs.{pair_cut, pair_step};
+ghost use Rattle.dl_chunk.specs.Pairs.{pair_cut};
 ghost use Rattle.dl_sphere.specs.Setups.{standard_in};
 ghost use Rattle.dl_machine.specs.Cores.{holding, idle};
 ghost use Rattle.dl_machine.specs.Setups.{IsWithin, first_held, numbers_with};
+ghost use Rattle.dl_machine.specs.Steps.{HaveEnded, HeldSteps, held_after};
 
 use crate::one_core::{Core, Held};
 use crate::setup::Setup;
 use crate::spheres::Spheres;
-use dl_chunk::{Chunk, CutReply, Stepped};
+use crate::steps::Steps;
+use dl_chunk::{Chunk, CutReply};
 use dl_fly::Flights;
 use dl_mem::Memory;
 use dl_sig::Sig;
@@ -148,23 +150,28 @@ impl<G: Sig> Cores<G> {
         self.row[core as usize].waits(replays)
     }
 
-    /// A core runs one instruction of a chunk. A younger chunk that begins for that has this limit.
-    pub(crate) fn step(
+    /// A core runs up to `times` instructions of a chunk, until one doesn't run. A younger chunk that begins for that has this
+    /// limit.
+    pub(crate) fn steps(
         &mut self,
         core: u8,
         memory: &Memory,
         flights: &Flights<G>,
         limit: u32,
-    ) -> Stepped
+        times: u32,
+    ) -> Steps
         requires core { core < length self.old.held }
         requires runs { CanStepHeld limit (core_in self.old core) (at self.old.held core) }
-        ensures reply { let f = pair_step memory.now flights.now.slots core limit in
-            Some result ≡ option_map (λ h. (f (pair_in (core_in self.old core) h)).reply) (at self.old.held core) }
-        ensures core { let f = pair_step memory.now flights.now.slots core limit in
-            self.new ≡ with_held core (option_map (λ h. with_pair h (f (pair_in (core_in self.old core) h)).pair) (at self.old.held core)) self.old }
+        requires some { 1 ≤ times }
+        ensures steps { let held = at self.old.held core in
+            HeldSteps memory.now flights.now.slots core limit (core_in self.old core) held times result }
+        ensures ended { HaveEnded times result }
+        ensures core { let held = at self.old.held core in
+            let after = held_after memory.now flights.now.slots core limit result.taken (core_in self.old core) held in
+            self.new ≡ with_held core after self.old }
     {
         let runner = &mut self.row[core as usize];
-        runner.step(memory, flights, core, limit)
+        runner.steps(memory, flights, core, limit, times)
     }
 
     /// A core's younger chunk is cut off, or the older where there is no younger.

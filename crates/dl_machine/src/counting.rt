@@ -1,9 +1,11 @@
 //! How events are counted.
-ghost use Rattle.std.specs.Prelude.{◌≡◌, ◌≤◌, ◌<◌, ◌+◌, ◌^◌, ℕ, slice_index};
+ghost use Rattle.std.specs.Prelude.{◌≡◌, ◌≤◌, ◌<◌, ◌+◌, ◌-◌, ◌^◌, ℕ, slice_index};
 ghost use Rattle.dl_entry.specs.Counts.{counted};
 ghost use Rattle.spec_protocol.specs.machine.Machine.{name_of as name_in};
+ghost use Rattle.dl_machine.specs.Steps.{ran_counted};
 
 use crate::state::State;
+use crate::steps::Steps;
 use dl_entry::ReplyName;
 use dl_sig::Sig;
 use spec_protocol::Reply;
@@ -16,6 +18,29 @@ impl<G: Sig> State<G> {
         ensures { self.new ≡ record self.old { counts = counted self.old.counts (name_in reply) } }
     {
         self.counts.note(name_of(reply));
+    }
+
+    // The steps are counted: all but the last with Ran, and the last with its reply.
+    pub(crate) fn count_steps(&mut self, steps: Steps)
+        requires some { 1 ≤ steps.taken }
+        requires events { self.old.counts.events < 2 ^ 63 }
+        requires replies { (k : ℕ) → slice_index self.old.counts.replies k ≤ self.old.counts.events }
+        ensures { let before = ran_counted (steps.taken - 1) self.old.counts in
+            self.new ≡ record self.old { counts = counted before (name_in steps.reply) } }
+    {
+        self.count_ran(steps.taken - 1);
+        self.count(steps.reply);
+    }
+
+    // So many events more are counted, all answered by Ran.
+    fn count_ran(&mut self, times: u32)
+        requires events { self.old.counts.events < 2 ^ 63 }
+        requires replies { (k : ℕ) → slice_index self.old.counts.replies k ≤ self.old.counts.events }
+        ensures counts { self.new ≡ record self.old { counts = ran_counted times self.old.counts } }
+        ensures replies { (k : ℕ) → slice_index self.new.counts.replies k ≤ self.new.counts.events }
+    {
+        self.counts.events += times as u64;
+        self.counts.replies[ReplyName::Ran.place()] += times as u64;
     }
 }
 

@@ -13,6 +13,7 @@ mod setup;
 mod spheres;
 mod state;
 mod stepping;
+mod steps;
 mod transferring;
 mod turns;
 
@@ -25,3 +26,4 @@ pub use one_core::Held;
 pub use setup::Setup;
 pub use spec_log::ModeName;
 pub use spec_protocol::{Event, Reply};
+pub use steps::Steps;

@@ -1,9 +1,9 @@
 //! The machine.
-ghost use Rattle.std.specs.Prelude.{◌≡◌, ◌≤◌, ◌<◌, ◌^◌, ◌∷◌, ◌++◌, [], List, true, false, IfOk, IsOk, OnErr, OnOk, length, option_map};
+ghost use Rattle.std.specs.Prelude.{◌≡◌, ◌≤◌, ◌<◌, ◌^◌, ◌∷◌, ◌++◌, [], List, true, false, IfOk, IsOk, OnErr, OnOk, length, option_map, replicate};
 ghost use Rattle.spec_engine.specs.Flights.{at};
 ghost use Rattle.spec_protocol.specs.declared.event.Event.{Event};
 ghost use Rattle.spec_protocol.specs.machine.Epochs.{epochs_begun};
-ghost use Rattle.spec_protocol.specs.machine.Machine.{Setup as SetupOf, happens, world_of};
+ghost use Rattle.spec_protocol.specs.machine.Machine.{Setup as SetupOf, happens, world_after, world_of};
 ghost use Rattle.spec_protocol.specs.machine.Serial.{serial};
 ghost use Rattle.spec_protocol.specs.machine.World.{sphere_at};
 ghost use Rattle.spec_protocol.specs.promises.Alike.{AreAlike};
@@ -12,6 +12,7 @@ ghost use Rattle.spec_protocol.specs.promises.Kept.{NoneIsDue};
 use crate::one_core::Held;
 use crate::setup::Setup;
 use crate::state::State;
+use crate::steps::Steps;
 use dl_entry::{Counts, OutOfMemory, Point};
 use dl_fly::Flights;
 use dl_sig::Sig;
@@ -49,6 +50,7 @@ impl<G: Sig> Machine<G> {
     ghost use Rattle.dl_machine.specs.Events.{IsWanted, wants_memory};
     ghost use Rattle.dl_machine.specs.Runs.{HasRun, IsPromised, IsRun, IsSerial};
     ghost use Rattle.dl_machine.specs.Setups.{IsWithin, setup_in};
+    ghost use Rattle.dl_machine.specs.Steps.{AreSteps, HaveEnded, event_left, event_reply};
 
     /// The machine of a setup, before the first event.
     pub fn new(alloc: Global, setup: &Setup) -> Result<Machine<G>, OutOfMemory>
@@ -105,6 +107,22 @@ impl<G: Sig> Machine<G> {
     {
         self.state.prepare(event)?;
         self.state.take(event)
+    }
+
+    /// Takes up to `times` events `Step core`, until one answers otherwise than Ran. Each happens as `apply` has it happen. None
+    /// takes memory.
+    #[inline(always)]
+    pub fn step_on(&mut self, core: u8, times: u32) -> Steps
+        requires events { self.old.counts.events < 2 ^ 63 }
+        requires commits { HasRoom self.old }
+        requires some { 1 ≤ times }
+        ensures steps { AreSteps (event_reply core) (event_left core) self.old times result }
+        ensures ended { HaveEnded times result }
+        ensures world { self.new ≡ world_after self.old (replicate result.taken (Event.Step core)) }
+        ensures run { (s : SetupOf) (es : List Event) → IsRun s es self.old →
+            IsRun s (es ++ replicate result.taken (Event.Step core)) self.new }
+    {
+        self.state.take_steps(core, times)
     }
 
     /// The serialisation points so far. The plain and recorded spheres and the devices are those of doing them one at a time.

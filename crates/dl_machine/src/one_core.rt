@@ -4,17 +4,21 @@ ghost use Rattle.spec_engine.specs.Signatures.{is_size, nothing};
 ghost use Rattle.spec_engine.specs.Flights.{passes};
 ghost use Rattle.spec_protocol.specs.machine.Asking.{was_interrupted as interrupted_since};
 ghost use Rattle.spec_protocol.specs.machine.Flying.{squashed, squashed_younger, younger_of};
+ghost use Rattle.spec_protocol.specs.machine.Stepping.{reply_of_step as step_named};
 ghost use Rattle.spec_protocol.specs.machine.World.{runs};
-ghost use Rattle.dl_chunk.specs.Pairs.{pair_cut, pair_step};
+ghost use Rattle.dl_chunk.specs.Pairs.{pair_cut};
 ghost use Rattle.dl_sphere.specs.Setups.{standard_in};
-ghost use Rattle.dl_machine.specs.Cores.{is_whole as is_whole_if, stays};
+ghost use Rattle.dl_machine.specs.Cores.{CanStep, is_whole as is_whole_if, stays};
+ghost use Rattle.dl_machine.specs.Steps.{HaveEnded, HeldSteps, PairSteps, held_after, pair_after};
 
+use crate::steps::Steps;
 use dl_chunk::{Chunk, CutReply, How, Pair, Stepped, Which};
 use dl_fly::Flights;
 use dl_mem::Memory;
 use dl_sig::Sig;
 use dl_sphere::Sphere;
 use dl_thread::{Thread, ThreadStatus};
+use spec_protocol::Reply;
 use std::alloc::{AllocError, Global};
 use std::marker::Model;
 
@@ -137,21 +141,24 @@ impl<G: Sig> Core<G> {
         }
     }
 
-    /// Runs one instruction of a chunk, as the core of that number. A younger chunk that begins for that has this limit.
-    pub(crate) fn step(
+    /// Runs up to `times` instructions of a chunk, as the core of that number, until one doesn't run. A younger chunk that begins
+    /// for that has this limit.
+    pub(crate) fn steps(
         &mut self,
         memory: &Memory,
         flights: &Flights<G>,
         core: u8,
         limit: u32,
-    ) -> Stepped
-        requires { CanStepHeld limit self.old self.old.held }
-        ensures reply { let f = pair_step memory.now flights.now.slots core limit in
-            Some result ≡ option_map (λ h. (f (pair_in self.old h)).reply) self.old.held }
-        ensures core { let f = pair_step memory.now flights.now.slots core limit in
-            self.new ≡ holding (option_map (λ h. with_pair h (f (pair_in self.old h)).pair) self.old.held) self.old }
+        times: u32,
+    ) -> Steps
+        requires runs { CanStepHeld limit self.old self.old.held }
+        requires some { 1 ≤ times }
+        ensures steps { HeldSteps memory.now flights.now.slots core limit self.old self.old.held times result }
+        ensures ended { HaveEnded times result }
+        ensures core { let held = held_after memory.now flights.now.slots core limit result.taken self.old self.old.held in
+            self.new ≡ holding held self.old }
     {
-        self.pair.step(memory, flights, core, limit)
+        steps_of(&mut self.pair, memory, flights, core, limit, times)
     }
 
     /// Cuts off its younger chunk, or the older where there is no younger.
@@ -242,6 +249,41 @@ impl<G: Sig> Core<G> {
             return false;
         };
         state.status() == ThreadStatus::Live && !was_interrupted(younger, state)
+    }
+}
+
+// The pair takes up to `times` steps, while its instructions run.
+fn steps_of<G: Sig>(
+    pair: &mut Pair<G>,
+    memory: &Memory,
+    flights: &Flights<G>,
+    core: u8,
+    limit: u32,
+    times: u32,
+) -> Steps
+    requires runs { CanStep limit pair.old }
+    requires some { 1 ≤ times }
+    ensures steps { PairSteps memory.now flights.now.slots core limit pair.old times result }
+    ensures ended { HaveEnded times result }
+    ensures pair { pair.new ≡ pair_after memory.now flights.now.slots core limit result.taken pair.old }
+{
+    let mut reply = reply_of_step(pair.step(memory, flights, core, limit));
+    let mut taken = 1;
+    while taken < times && matches!(reply, Reply::Ran) {
+        reply = reply_of_step(pair.step(memory, flights, core, limit));
+        taken += 1;
+    }
+    Steps { taken, reply }
+}
+
+// The machine's answer to a step of a chunk.
+fn reply_of_step(stepped: Stepped) -> Reply
+    ensures { result ≡ step_named stepped }
+{
+    match stepped {
+        Stepped::Ran => Reply::Ran,
+        Stepped::Closed(how) => Reply::Closed(how),
+        Stepped::Bounced(k) => Reply::Bounced(k),
     }
 }
 

@@ -1,7 +1,8 @@
 //! The state of the machine, with one method for each event.
-ghost use Rattle.std.specs.Prelude.{◌≡◌, ◌<◌, ◌%◌, ◌^◌, List, false, true, IfOk, IfSome, IsOk, OnErr, OnOk, All, length, option_map};
+ghost use Rattle.std.specs.Fn.{iterate};
+ghost use Rattle.std.specs.Prelude.{◌≡◌, ◌≤◌, ◌<◌, ◌%◌, ◌^◌, List, false, true, IfOk, IfSome, IsOk, OnErr, OnOk, All, length, option_map};
 ghost use Rattle.spec_engine.specs.Flights.{IsInside, at};
-ghost use Rattle.spec_protocol.specs.machine.Machine.{act, happens, world_of, Setup as SetupOf};
+ghost use Rattle.spec_protocol.specs.machine.Machine.{act, core_no, happens, world_of, Setup as SetupOf};
 ghost use Rattle.spec_protocol.specs.declared.event.Event.{Event as EventOf};
 ghost use Rattle.spec_protocol.specs.promises.Alike.{AreAlike};
 ghost use Rattle.spec_protocol.specs.promises.Kept.{NoneIsDue, Shows};
@@ -12,11 +13,13 @@ ghost use Rattle.dl_machine.specs.Setups.{IsWithin, setup_in};
 ghost use Rattle.dl_machine.specs.Events.{IsWanted, wants_memory};
 ghost use Rattle.dl_machine.specs.Ready.{HasRoom, IsReady};
 ghost use Rattle.dl_machine.specs.States.{left};
+ghost use Rattle.dl_machine.specs.Steps.{AreSteps, HaveEnded, event_left, event_reply};
 
 use crate::cores::Cores;
 use crate::one_core::Held;
 use crate::setup::Setup;
 use crate::spheres::Spheres;
+use crate::steps::Steps;
 use dl_dev::Devices;
 use dl_entry::{Bytes, Counts, OutOfMemory, Point};
 use dl_fly::Flights;
@@ -119,6 +122,31 @@ impl<G: Sig> State<G> {
         Ok(reply)
     }
 
+    // Takes up to `times` steps of a core, until one answers otherwise than Ran, and counts them.
+    #[inline(always)]
+    pub(crate) fn take_steps(&mut self, core: u8, times: u32) -> Steps
+        requires ready { IsReady self.old }
+        requires room { HasRoom self.old }
+        requires events { self.old.counts.events < 2 ^ 63 }
+        requires some { 1 ≤ times }
+        ensures steps { AreSteps (event_reply core) (event_left core) self.old times result }
+        ensures ended { HaveEnded times result }
+        ensures world { self.new ≡ iterate (event_left core) result.taken self.old }
+    {
+        let number = self.core_no(core);
+        let steps = self.steps(number, times);
+        self.count_steps(steps);
+        steps
+    }
+
+    // The core of that number, which is taken modulo how many there are.
+    fn core_no(&self, number: u8) -> u8
+        ensures value { result ≡ core_no self.now number }
+        ensures within { result < length self.now.cores }
+    {
+        wrapped(number, self.cores.len())
+    }
+
     // What the event answers and leaves, before it is counted. Numbers are taken modulo how many there are.
     #[inline(always)]
     #[tactic(auto, unfolding(spec_protocol::specs::machine::Machine::act))]
@@ -134,7 +162,7 @@ impl<G: Sig> State<G> {
     {
         let (cores, spheres, slots) = (self.cores.len(), self.spheres.len(), self.flights.window());
         match event {
-            Event::Step(core) => Ok(self.step(wrapped(core, cores))),
+            Event::Step(core) => Ok(self.steps(wrapped(core, cores), 1).reply),
             Event::Cut(core) => Ok(self.cut(wrapped(core, cores))),
             Event::Ask(core) => self.ask(wrapped(core, cores)),
             Event::Drain(slot) => Ok(self.drain(wrapped(slot, slots))),

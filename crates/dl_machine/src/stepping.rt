@@ -1,49 +1,52 @@
 //! The events of a running chunk: Step and Cut.
+ghost use Rattle.std.specs.Fn.{iterate};
 ghost use Rattle.std.specs.Prelude.{◌≡◌, ◌≤◌, ◌<◌, max, true, false, length, slice_get, Some};
 ghost use Rattle.spec_isa.specs.declared.thread.Parts.{Parts};
 ghost use Rattle.spec_play.specs.Effects.{counted};
 ghost use Rattle.spec_sphere.specs.sphere.Spheres.{is_stopped, limit_after};
-ghost use Rattle.spec_protocol.specs.machine.Stepping.{cutting, reply_of_cut as cut_named, reply_of_step as step_named, stepping};
+ghost use Rattle.spec_protocol.specs.machine.Stepping.{cutting, reply_of_cut as cut_named, stepping};
 ghost use Rattle.spec_protocol.specs.machine.World.{sphere_at};
 ghost use Rattle.dl_sphere.specs.Setups.{standard_in};
 ghost use Rattle.dl_machine.specs.Held.{IsOf};
 ghost use Rattle.dl_machine.specs.Ready.{HasRoom, IsReady};
 ghost use Rattle.dl_machine.specs.Requests.{Holds, Runs};
 ghost use Rattle.dl_machine.specs.States.{left};
+ghost use Rattle.dl_machine.specs.Steps.{AreSteps, HaveEnded, step_left, step_reply};
 
 use crate::one_core::Held;
 use crate::state::State;
-use dl_chunk::{CutReply, How, Stepped};
+use crate::steps::Steps;
+use dl_chunk::{CutReply, How};
 use dl_sig::Sig;
 use spec_protocol::Reply;
 
 impl<G: Sig> State<G> {
-    // The core runs one instruction.
-    #[inline(always)]
-    #[tactic(auto, using(crate::proofs::Steps::step_waits), unfolding(spec_protocol::specs::machine::Stepping::stepping))]
-    pub(crate) fn step(&mut self, core: u8) -> Reply
+    // The core takes up to `times` steps, until one answers otherwise than Ran. None is counted.
+    #[tactic(auto, using(crate::proofs::OneStep::step_waits), unfolding(spec_protocol::specs::machine::Stepping::stepping))]
+    pub(crate) fn steps(&mut self, core: u8, times: u32) -> Steps
         requires core { core < length self.old.cores }
         requires ready { IsReady self.old }
         requires room { HasRoom self.old }
-        ensures reply { result ≡ (stepping self.old core).reply }
-        ensures world { self.new ≡ left (stepping self.old core) }
+        requires some { 1 ≤ times }
+        ensures steps { AreSteps (step_reply core) (step_left core) self.old times result }
+        ensures ended { HaveEnded times result }
+        ensures world { self.new ≡ iterate (step_left core) result.taken self.old }
     {
         let Some(held) = self.held(core) else {
-            return Reply::Idle;
+            return Steps::one(Reply::Idle);
         };
         let sphere = self.spheres.get(held.sphere);
         if sphere.stopped() {
-            return Reply::Stopped;
+            return Steps::one(Reply::Stopped);
         }
         if held.closed && self.cores.waits(core, sphere.replays()) {
-            return Reply::Waiting;
+            return Steps::one(Reply::Waiting);
         }
-        self.step_chunk(core, held)
+        self.step_chunk(core, held, times)
     }
 
-    // The core runs one instruction of the chunk that Step speaks of.
-    #[inline(always)]
-    fn step_chunk(&mut self, core: u8, held: Held) -> Reply
+    // The core runs up to `times` instructions of the chunk that Step speaks of.
+    fn step_chunk(&mut self, core: u8, held: Held, times: u32) -> Steps
         requires core { core < length self.old.cores }
         requires ready { IsReady self.old }
         requires room { HasRoom self.old }
@@ -51,13 +54,14 @@ impl<G: Sig> State<G> {
         requires good { IsOf self.old held }
         requires going { is_stopped (sphere_at self.old held.sphere).role ≡ false }
         requires runs { Runs self.old core held }
-        ensures reply { result ≡ (stepping self.old core).reply }
-        ensures world { self.new ≡ left (stepping self.old core) }
+        requires some { 1 ≤ times }
+        ensures steps { AreSteps (step_reply core) (step_left core) self.old times result }
+        ensures ended { HaveEnded times result }
+        ensures world { self.new ≡ iterate (step_left core) result.taken self.old }
     {
         let limit = self.younger_limit(held);
         let memory = self.spheres.get(held.sphere).memory();
-        let stepped = self.cores.step(core, memory, &self.flights, limit);
-        reply_of_step(stepped)
+        self.cores.steps(core, memory, &self.flights, limit, times)
     }
 
     // The limit of a younger chunk that begins, which nothing looks at where the older is open.
@@ -104,16 +108,6 @@ impl<G: Sig> State<G> {
     {
         let reply = self.cores.cut(core);
         reply_of_cut(reply)
-    }
-}
-
-fn reply_of_step(stepped: Stepped) -> Reply
-    ensures { result ≡ step_named stepped }
-{
-    match stepped {
-        Stepped::Ran => Reply::Ran,
-        Stepped::Closed(how) => Reply::Closed(how),
-        Stepped::Bounced(k) => Reply::Bounced(k),
     }
 }
 

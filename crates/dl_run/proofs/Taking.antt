@@ -1,5 +1,5 @@
 -- A machine that takes a schedule one event at a time has room before each, and has taken it once none is left.
-use Rattle.std.proofs.Common.{◌≡◌, ℕ, suc, ◌^◌, ◌<◌, ◌≤◌, ◌+◌, ◌-◌, List, [], ◌∷◌, ◌++◌, length, drop, get_or, refl, sym, ap, ◌∙◌, subst, arith, append_assoc}
+use Rattle.std.proofs.Common.{◌≡◌, ℕ, zero, suc, ◌^◌, ◌<◌, ◌≤◌, ◌+◌, ◌-◌, List, [], ◌∷◌, ◌++◌, length, drop, get_or, refl, sym, ap, ◌∙◌, subst, arith, append_assoc}
 use Rattle.std.specs.Prelude.{replicate}
 use Rattle.std.proofs.Math.Seq.{drop-cons}
 use Rattle.std.proofs.Math.ListN.{length-append}
@@ -20,7 +20,7 @@ use Rattle.dl_machine.specs.Runs.{IsRun}
 use Rattle.dl_machine.proofs.Worlds.Promised.{room_alike}
 use Rattle.dl_finish.specs.Runs.{HasEnded}
 use Rattle.dl_run.specs.Ran.{IsOver}
-use Rattle.dl_run.specs.Taken.{IsNew, HasTaken}
+use Rattle.dl_run.specs.Taken.{IsNew, HasTaken, HasTakenMore}
 
 -- ---- runs
 
@@ -94,24 +94,33 @@ driving_end all new now d =
 -- ---- events that are held with how often each comes in a row
 
 -- at an index within them the events go on with what is held there, as often as it comes
-pub repeated_here : (rs : List Repeated) (i : ℕ) (d : Repeated) → i < length rs → expanded (drop i rs) ≡ replicate ((get_or rs i d).times - 0) (get_or rs i d).event ++ expanded (drop (i + 1) rs)
+pub repeated_here : (rs : List Repeated) (i : ℕ) (d : Repeated) → i < length rs → expanded (drop i rs) ≡ replicate (get_or rs i d).times (get_or rs i d).event ++ expanded (drop (i + 1) rs)
 repeated_here rs i d l =
     let next : suc i ≡ i + 1 = omega arith in
     let r : Repeated = get_or rs i d in
-    let all : r.times ≡ r.times - 0 = omega arith in
-    ap expanded (drop-cons rs i d l) ∙ (λ j. replicate (all j) r.event ++ expanded (drop (next j) rs))
-
--- if it still comes, it comes next
-pub one_of : (times n : ℕ) (e : Event) (rest : List Event) → n < times → replicate (times - n) e ++ rest ≡ e ∷ (replicate (times - (n + 1)) e ++ rest)
-one_of times n e rest l =
-    let more : times - n ≡ suc (times - (n + 1)) = omega arith in
-    ap (λ (m : ℕ). replicate m e ++ rest) more
+    ap expanded (drop-cons rs i d l) ∙ (λ j. replicate r.times r.event ++ expanded (drop (next j) rs))
 
 -- if it comes no more, the others are left
-pub none_of : (times n : ℕ) (e : Event) (rest : List Event) → times ≤ n → replicate (times - n) e ++ rest ≡ rest
-none_of times n e rest l =
-    let none : times - n ≡ 0 = omega arith in
-    ap (λ (m : ℕ). replicate m e ++ rest) none
+pub none_of : (left : ℕ) (e : Event) (rest : List Event) → left ≡ 0 → replicate left e ++ rest ≡ rest
+none_of left e rest none = ap (λ (m : ℕ). replicate m e ++ rest) none
+
+replicate_both : (n k : ℕ) (e : Event) → replicate (n + k) e ≡ replicate n e ++ replicate k e
+replicate_both zero k e = let same : 0 + k ≡ k = omega arith in ap (λ (m : ℕ). replicate m e) same
+replicate_both (suc n) k e = let same : suc n + k ≡ suc (n + k) = omega arith in ap (λ (m : ℕ). replicate m e) same ∙ ap (λ (es : List Event). e ∷ es) (replicate_both n k e)
+
+-- of an event that still comes so often, n have been taken: it comes n times less
+pub driving_some : (all rest : List Event) (e : Event) (left n : ℕ) (new now next : World) → Driving all (replicate left e ++ rest) new now → n ≤ left → HasTakenMore (replicate n e) now next → Driving all (replicate (left - n) e ++ rest) new next
+driving_some all rest e left n new now next d most on =
+    let parts : left ≡ n + (left - n) = omega (arith, most) in
+    let split : replicate left e ≡ replicate n e ++ replicate (left - n) e = ap (λ (m : ℕ). replicate m e) parts ∙ replicate_both n (left - n) e in
+    let behind : replicate left e ++ rest ≡ replicate n e ++ (replicate (left - n) e ++ rest) = ap (λ (es : List Event). es ++ rest) split ∙ append_assoc (replicate n e) (replicate (left - n) e) rest in
+    record {
+      setup = d.setup;
+      first = d.first;
+      done = d.done ++ replicate n e;
+      both = append_assoc d.done (replicate n e) (replicate (left - n) e ++ rest) ∙ ap (λ (es : List Event). d.done ++ es) (sym behind) ∙ d.both;
+      taken = λ s run. on s d.done (d.taken s run);
+    }
 
 -- ---- events that are drawn
 

@@ -1,7 +1,8 @@
 //! The machine takes a schedule, from its first event to its last.
-ghost use Rattle.std.specs.Prelude.{OnOk};
+ghost use Rattle.std.specs.Prelude.{◌≤◌, ◌<◌, ◌^◌, IfOk, OnOk, replicate};
 ghost use Rattle.dl_event.specs.Seeded.{schedule as drawn_from, seeded};
-ghost use Rattle.dl_run.specs.Taken.{HasTaken, IsNew};
+ghost use Rattle.dl_machine.specs.Ready.{HasRoom};
+ghost use Rattle.dl_run.specs.Taken.{HasTaken, HasTakenMore, IsNew};
 ghost use Rattle.dl_run.specs.Schedules.{AreFew, events_in};
 
 use crate::schedule::Schedule;
@@ -9,6 +10,7 @@ use dl_entry::OutOfMemory;
 use dl_event::{Events, Seeded};
 use dl_machine::Machine;
 use dl_sig::Sig;
+use spec_protocol::Event;
 
 // A new machine takes the schedule.
 pub(crate) fn drive<G: Sig>(
@@ -31,11 +33,29 @@ fn take_listed<G: Sig>(machine: &mut Machine<G>, events: &Events) -> Result<(), 
     ensures { OnOk result (HasTaken events.now machine.old machine.new) }
 {
     for repeated in events.repeated() {
-        for _ in 0..repeated.times {
-            machine.apply(repeated.event)?;
+        let mut left = repeated.times;
+        while left > 0 {
+            left -= take_some(machine, repeated.event, left)?;
         }
     }
     Ok(())
+}
+
+// Takes an event at least once and at most `times` times: a step while its instruction runs, any other event once. The answer is
+// how often.
+fn take_some<G: Sig>(machine: &mut Machine<G>, event: Event, times: u32) -> Result<u32, OutOfMemory>
+    requires events { machine.old.counts.events < 2 ^ 63 }
+    requires commits { HasRoom machine.old }
+    requires some { 1 ≤ times }
+    ensures least { IfOk result (λ n. 1 ≤ n) }
+    ensures most { IfOk result (λ n. n ≤ times) }
+    ensures taken { IfOk result (λ n. HasTakenMore (replicate n event) machine.old machine.new) }
+{
+    if let Event::Step(core) = event {
+        return Ok(machine.step_on(core, times).taken);
+    }
+    machine.apply(event)?;
+    Ok(1)
 }
 
 // The events are never held all at once.

@@ -6,7 +6,7 @@ use Rattle.spec_protocol.specs.machine.Stepping.{cutting, reply_of_cut}
 use Rattle.spec_protocol.specs.machine.World.{World, sphere_at}
 use Rattle.dl_machine.specs.Cores.{seen}
 use Rattle.dl_machine.specs.States.{left, world_in}
-use Rattle.dl_machine.proofs.Steps.{cut_of_pair, cut_pair, named, reply_done, world_done}
+use Rattle.dl_machine.proofs.OneStep.{cut_of_pair, cut_pair, named, reply_done, world_done}
 use Rattle.dl_machine.proofs.state.State.cut_chunk.Goals as goal
 
 pub returns-clause-reply : goal.returns-clause-reply

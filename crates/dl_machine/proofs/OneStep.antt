@@ -93,18 +93,19 @@ stepped_pair most w c limit m h = pair_step m w.slots c limit (pair_in (core_her
 abbrev pub pair_stepped : (most : ℕ) → World → (core limit : ℕ) → List ℕ → Occupant → EventOutcome
 pair_stepped most w c limit m = done_to w c (λ h. reply_of_step (stepped_pair most w c limit m h).reply) (λ h. (stepped_pair most w c limit m h).pair)
 
-younger_runs : (w : World) (c : ℕ) (h : Occupant) (limit : ℕ) (y : Option Chunk) → let p = sphere_at w h.chunk.sphere in waits_for w.numbers.depth (replays p.role) h y ≡ false → younger_afresh w.numbers p.role h ≡ following limit h.chunk
+younger_runs : (w : World) (c : ℕ) (h : Occupant) (limit : ℕ) (y : Option Chunk) → let p = sphere_at w h.chunk.sphere in waits_for w.numbers.depth (replays p.role) h y ≡ false → (y ≡ None → younger_afresh w.numbers p.role h ≡ following limit h.chunk)
     → step_younger w c h (younger_for w.numbers p.role h y)
     ≡ (let s = step w.numbers.capacity (lays p.memory h.chunk.done.words) w.slots c (younger_or limit h.chunk y) in answered (with_core w c (Some (record h { younger = Some s.chunk }))) (reply_of_step s.reply))
 younger_runs w c h limit None e follows =
     let p = sphere_at w h.chunk.sphere in
     let some = not_false (nat_lt 1 w.numbers.depth && may_follow (replays p.role) h.chunk.closed) e in
     rw some
-    (ap (λ (y : Chunk). let s = step w.numbers.capacity (lays p.memory h.chunk.done.words) w.slots c y in answered (with_core w c (Some (record h { younger = Some s.chunk }))) (reply_of_step s.reply)) follows)
+    (ap (λ (y : Chunk). let s = step w.numbers.capacity (lays p.memory h.chunk.done.words) w.slots c y in answered (with_core w c (Some (record h { younger = Some s.chunk }))) (reply_of_step s.reply)) (follows refl))
 younger_runs w c h limit (Some y) e follows = rw (not_false (is_open y) e) refl
 
-step_by : (most : ℕ) (w : World) (c : ℕ) (h : Occupant) (limit : ℕ) → let p = sphere_at w h.chunk.sphere in is_stopped p.role ≡ false → (is_open h.chunk ≡ false → waits w.numbers.depth (replays p.role) h ≡ false)
-    → (is_open h.chunk ≡ false → younger_afresh w.numbers p.role h ≡ following limit h.chunk) → step_held w c (Some h) ≡ pair_stepped most w c limit (sphere_at w h.chunk.sphere).memory h
+-- the step of a core whose sphere goes on, and that doesn't wait, is the step of its pair
+pub step_by : (most : ℕ) (w : World) (c : ℕ) (h : Occupant) (limit : ℕ) → let p = sphere_at w h.chunk.sphere in is_stopped p.role ≡ false → (is_open h.chunk ≡ false → waits w.numbers.depth (replays p.role) h ≡ false)
+    → (is_open h.chunk ≡ false → h.younger ≡ None → younger_afresh w.numbers p.role h ≡ following limit h.chunk) → step_held w c (Some h) ≡ pair_stepped most w c limit (sphere_at w h.chunk.sphere).memory h
 step_by most w c h limit going runs follows =
     elim (cases_Bool (is_open h.chunk)) [
       | inl open_ ↦ rw (going, open_) refl
@@ -183,7 +184,7 @@ step_of_pair most w c (Some h) held limit m ready is eh going runs has em =
     let limit_of : HasLimit w (seen h) limit = subst (λ (s : Seen). HasLimit w s limit) same has in
     ap (λ (a : EventOutcome). Some a)
     (ap (step_held w c) is
-    ∙ step_by most w c h limit goes (runs_of w c h held is same runs) (λ shut. follows_as w c h limit ready is (limit_of (ap not shut)))
+    ∙ step_by most w c h limit goes (runs_of w c h held is same runs) (λ shut _. follows_as w c h limit ready is (limit_of (ap not shut)))
     ∙ ap (λ (n : List ℕ). pair_stepped most w c limit n h) (sym (em ∙ ap (λ (s : Seen). (sphere_at w s.sphere).memory) same)))
 
 -- ---- Cut
