@@ -66,7 +66,7 @@ module _ (most : ℕ) (w : World) (c limit : ℕ) (m : List ℕ) (h : Occupant) 
   goes zero l = going_on m w.slots c limit (core_here most w c) h (nth 0) refl refl can (steps.before 0 l)
   goes (suc k) l =
       let before = goes k (omega (arith, l)) in
-      subst (Going (core_here most w c) h) (sym (nth_suc (suc k))) (going_on m w.slots c limit (core_here most w c) h (nth (suc k)) before.whole before.sphere (goes_can _ before.goes) (steps.before (suc k) l))
+      subst (Going (core_here most w c) h) (sym (nth_suc (suc k))) (going_on m w.slots c limit (core_here most w c) h (nth (suc k)) before.whole before.sphere (goes_can (nth (suc k)) before.goes) (steps.before (suc k) l))
 
   -- the world is that of the pair's steps
   worlds : (k : ℕ) → k < s.taken → iterate (step_left c) (suc k) w ≡ with_chunks w c h (nth (suc k))
