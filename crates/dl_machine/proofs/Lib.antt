@@ -8,3 +8,4 @@ pub mod Repeating
 pub mod Going
 pub mod InARow
 pub mod Counted
+pub mod Stretch

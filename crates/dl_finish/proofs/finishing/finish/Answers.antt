@@ -1,7 +1,8 @@
-use Rattle.std.proofs.Common.{◌≡◌, Bool, true, false, refl, ◌+◌, subst, sym, ap, ◌∙◌, arith, List}
+use Rattle.std.proofs.Common.{◌≡◌, Bool, true, false, refl, ◌+◌, subst, sym, ap, ◌∙◌, arith, List, Some}
 use Rattle.std.proofs.lemmas.Result.{err_from_is_err_and}
 use Rattle.spec_protocol.specs.declared.event.Event.{Event}
 use Rattle.spec_protocol.specs.machine.World.{World}
+use Rattle.spec_protocol.specs.machine.Finishing.{next}
 use Rattle.dl_machine.specs.Events.{wants_memory}
 use Rattle.dl_finish.proofs.Going.{Going, going_start, going_next, going_finished, going_ended, going_begun, going_steps, begun_alike, happens_events, steps_events}
 use Rattle.dl_finish.proofs.finishing.finish.Goals as goal
@@ -31,8 +32,15 @@ pub loop-preserved-in-Step : goal.loop-preserved-in-Step
 loop-preserved-in-Step g c =
     let from = c.args.machine.now in
     let now = c.loop.machine in
-    let is : Some (Event.Step c.in-Step.core) ≡ next now = ? in
+    let is : Some (Event.Step c.in-Step.core) ≡ next now = ap (λ (e : Event). Some e) (sym c.in-Step.is) ∙ c.in-Some.ensures in
     going_steps from now c.in-Step.core _ c.step_on.result c.loop.invariant is c.step_on.ensures.steps c.step_on.new.self c.step_on.ensures.world
+
+pub loop-smaller-in-Step : goal.loop-smaller-in-Step
+loop-smaller-in-Step g c =
+    let more = steps_events c.loop.machine c.step_on.new.self c.in-Step.core c.step_on.result.taken c.step_on.ensures.world in
+    let some = c.step_on.ensures.steps.some in
+    let few = c.loop.invariant.few in
+    omega (arith, more, some, few)
 
 pub returns-in_err-apply-clause-refused : goal.returns-in_err-apply-clause-refused
 returns-in_err-apply-clause-refused g c =
