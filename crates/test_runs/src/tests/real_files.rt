@@ -1,5 +1,6 @@
 //! The recording over real files, which std's own calls write before it and read after it.
-use super::recording::{IMAGE, PLAN, RECORDED, SCRIPT};
+use super::recording::{READ, WRITTEN};
+use super::short::whole;
 use super::{RUN, answer};
 use dl_files::{MemSink, RealFiles, StdSink};
 use spec_program::status::Status;
@@ -10,23 +11,24 @@ use std::test::Fail;
 #[test]
 fn real_files_are_read_and_written(rt: HostRuntime) -> Result<(), Fail> {
     let alloc = rt.alloc();
-    for (name, bytes) in FILES {
-        fs::write(&rt, name, *bytes)?;
+    for (name, text) in READ {
+        fs::write(&rt, name, whole(alloc, text)?.as_slice())?;
     }
     let mut files = RealFiles::new(rt.clone()?);
     let mut out = StdSink::new(rt.clone()?);
     assert!(rt; answer(alloc, RUN, &mut files, &mut out) == Status::Done);
-    for (name, want) in RECORDED {
+    for (name, text) in WRITTEN {
         let found = fs::read(&rt, name)?;
-        assert!(rt; found.as_slice() == *want, "{name}");
+        assert!(rt;
+            found.as_slice() == whole(alloc, text)?.as_slice(),
+            "{name}"
+        );
     }
     let mut said = MemSink::new(alloc, &[])?;
     assert!(rt; answer(alloc, INSPECT, &mut files, &mut said) == Status::Done);
     assert!(rt; said.taken() == INSPECTION);
     Ok(())
 }
-
-const FILES: &[(&str, &[u8])] = &[("plan.toml", PLAN), ("s.txt", SCRIPT), ("a.elf", IMAGE)];
 
 const INSPECT: &[&str] = &["inspect", "a.log"];
 

@@ -1,12 +1,15 @@
-//! Texts in short, so that a row shows what it is about. A text that begins with one of these words stands for a longer one, and
-//! any other for itself:
+//! Texts in short, so that a row shows what it is about:
 //!
-//! - `lines: step 0 x3, ask 0` for lines, of which one may come several times;
+//! - `step 0 x3, ask 0` for lines, of which one may come several times;
+//! - `times: 2000 step 0, ask 0` for so many times these lines;
+//! - `source: addi x10, x0, 7; ecall` for the lines of a source;
 //! - `plan: cores = 2; record, mode = "picolog"` for the usual plan with these lines in place of its own: those of the machine, if
 //!   any, and then those of each sphere, which begin with `record`, `replay` or `strata`;
 //! - `account: t 0 0000000C live 00000000 0 x5=9, m 00000000 93, end complete 1` for the lines of an account, whose registers and
 //!   last bytes of a row are 0 where they aren't there;
-//! - `code: 00000893 00000073` for the image of these words, which is loaded at 0 and begins there.
+//! - `code: 00000893 00000073` for the image of these words, which is loaded at 0 and begins there;
+//! - `hex: 444C524E 00*12` for these bytes, of which some may come several times;
+//! - `text: A` for what comes after the colon, with no end of a line.
 use std::alloc::Global;
 use std::str;
 use std::test::Fail;
@@ -55,25 +58,24 @@ const BEFORE_SIZE: &[u8] =
 const AFTER_SIZE: &[u8] = b"\x07\0\0\0\x04\0\0\0";
 
 /// The bytes that a text stands for.
-pub(super) fn whole(alloc: Global, text: &[u8]) -> Result<Vec<u8>, Fail> {
-    match str::from_utf8(text) {
-        Ok(short) => spelled(alloc, short),
-        Err(_) => Ok(Vec::from_slice(alloc, text)?),
-    }
-}
-
-fn spelled(alloc: Global, text: &str) -> Result<Vec<u8>, Fail> {
+pub(super) fn whole(alloc: Global, text: &str) -> Result<Vec<u8>, Fail> {
     match text.split_once(": ") {
-        Some(("lines", items)) => lines(alloc, items),
+        Some(("times", items)) => times(alloc, items),
+        Some(("source", rows)) => source(alloc, rows),
         Some(("plan", tables)) => plan(alloc, tables),
         Some(("account", items)) => account(alloc, items),
         Some(("code", words)) => image(alloc, words),
-        _ => Ok(Vec::from_slice(alloc, text.as_bytes())?),
+        Some(("hex", groups)) => bytes(alloc, groups),
+        Some(("text", text)) => Ok(Vec::from_slice(alloc, text.as_bytes())?),
+        _ => lines(alloc, text),
     }
 }
 
 fn lines(alloc: Global, items: &str) -> Result<Vec<u8>, Fail> {
     let mut whole = Vec::new(alloc);
+    if items == "" {
+        return Ok(whole);
+    }
     for item in items.split(", ") {
         let (line, times) = match item.split_once(" x") {
             Some((line, times)) => (line, times.parse::<u8>()?),
@@ -82,6 +84,24 @@ fn lines(alloc: Global, items: &str) -> Result<Vec<u8>, Fail> {
         for _ in 0..times {
             put_line(&mut whole, line)?;
         }
+    }
+    Ok(whole)
+}
+
+fn times(alloc: Global, items: &str) -> Result<Vec<u8>, Fail> {
+    let (times, items) = parted(items, " ");
+    let once = lines(alloc, items)?;
+    let mut whole = Vec::new(alloc);
+    for _ in 0..times.parse::<u16>()? {
+        whole.extend_from_slice(once.as_slice())?;
+    }
+    Ok(whole)
+}
+
+fn source(alloc: Global, rows: &str) -> Result<Vec<u8>, Fail> {
+    let mut whole = Vec::new(alloc);
+    for row in rows.split("; ") {
+        put_line(&mut whole, row)?;
     }
     Ok(whole)
 }
@@ -148,7 +168,7 @@ fn key(line: &str) -> &str {
 }
 
 // What comes before the first of these marks, and after it; nothing, if there is none.
-fn parted<'a>(text: &'a str, mark: &str) -> (&'a str, &'a str) {
+pub(super) fn parted<'a>(text: &'a str, mark: &str) -> (&'a str, &'a str) {
     match text.split_once(mark) {
         Some(parts) => parts,
         None => (text, ""),
@@ -224,4 +244,25 @@ fn image(alloc: Global, words: &str) -> Result<Vec<u8>, Fail> {
     whole.extend_from_slice(AFTER_SIZE)?;
     whole.extend_from_slice(code.as_slice())?;
     Ok(whole)
+}
+
+fn bytes(alloc: Global, groups: &str) -> Result<Vec<u8>, Fail> {
+    let mut whole = Vec::new(alloc);
+    for group in groups.split(' ') {
+        let (digits, times) = match group.split_once('*') {
+            Some((digits, times)) => (digits, times.parse::<u16>()?),
+            None => (group, 1),
+        };
+        for _ in 0..times {
+            put_bytes(&mut whole, digits)?;
+        }
+    }
+    Ok(whole)
+}
+
+fn put_bytes(to: &mut Vec<u8>, digits: &str) -> Result<(), Fail> {
+    for pair in digits.as_bytes().chunks(2) {
+        to.push(u8::from_str_radix(str::from_utf8(pair)?, 16)?)?;
+    }
+    Ok(())
 }
