@@ -5,96 +5,48 @@ ghost use Rattle.dl_sphere.specs.Setups.{HasBegun, IsRecordableIf, begun_as, rol
 ghost use Rattle.dl_machine.specs.Setups.{IsWithin};
 
 use dl_elf::{Image, load};
-use dl_entry::{Actor, Bytes, Commit, Counts, End, Load, OutOfMemory, Sequence};
+use dl_entry::{Actor, Bytes, Commit, Counts, End, OutOfMemory, Sequence};
 use dl_finish::{finish, next_event};
 use dl_logfmt::{read_log, write_log};
 use dl_machine::{Machine, Setup};
 use dl_sig::Banked;
 use dl_sphere::{Begun, Interval, Memory, Replay, Role, Sphere, SphereSetup, State};
-use spec_log::{Log, ModeName};
+use rows::{Life, Lived, Row, answered};
+use spec_log::Log;
 use spec_protocol::{Event, Reply};
-use std::alloc::{AllocError, Global};
+use std::alloc::Global;
 use std::process::Abort;
 use std::test::Fail;
 
 mod programs;
 mod recordings;
 mod replays;
+mod rows;
 mod two_chunks;
-
-/// A machine with signatures of 64 bits: its events and those that then finish it, with their replies, and what it then
-/// holds.
-#[derive(Clone, Copy)]
-struct Row {
-    name: &'static str,
-    cores: u8,
-    depth: u8,
-    window: u8,
-    s: u32,
-    capacity: u32,
-    input: &'static [u8],
-    spheres: &'static [Life],
-    events: &'static [(Event, Reply)],
-    finishing: &'static [(Event, Reply)],
-    console: &'static [u8],
-}
-
-/// A sphere: its code and role, and its commits at the end by their actors and sizes, with all that they loaded.
-#[derive(Clone, Copy)]
-struct Life {
-    code: &'static [u32],
-    role: Lived,
-    commits: &'static [(Actor, u32)],
-    loads: &'static [Load],
-}
-
-/// A role, with the log that is recorded or replayed, and the end of a replay.
-#[derive(Clone, Copy)]
-enum Lived {
-    Plain,
-    Recorded {
-        mode: ModeName,
-        log: &'static [u8],
-    },
-    Replayed {
-        log: &'static [u8],
-        end: Option<End>,
-    },
-    /// The first `to` commits of the log, and no more.
-    Cut {
-        log: &'static [u8],
-        to: u32,
-        end: Option<End>,
-    },
-}
 
 // The bytes of every memory.
 const MEMORY: u32 = 12_288;
 
-const T0: Actor = Actor::Thread(0);
-
-const T1: Actor = Actor::Thread(1);
-
 #[test]
 fn recordings_go_as_they_were_worked(rt: HostRuntime) -> Result<(), Fail> {
-    for row in recordings::ROWS {
-        goes_as_worked(&rt, rt.alloc(), row)?;
-    }
-    Ok(())
+    go_as_worked(&rt, rt.alloc(), recordings::ROWS)
 }
 
 #[test]
 fn replays_go_as_they_were_worked(rt: HostRuntime) -> Result<(), Fail> {
-    for row in replays::ROWS {
-        goes_as_worked(&rt, rt.alloc(), row)?;
-    }
-    Ok(())
+    go_as_worked(&rt, rt.alloc(), replays::ROWS)
 }
 
 #[test]
 fn two_chunks_of_a_core_go_as_they_were_worked(rt: HostRuntime) -> Result<(), Fail> {
-    for row in two_chunks::ROWS {
-        goes_as_worked(&rt, rt.alloc(), row)?;
+    go_as_worked(&rt, rt.alloc(), two_chunks::ROWS)
+}
+
+fn go_as_worked(rt: &impl Abort, alloc: Global, rows: &'static str) -> Result<(), Fail> {
+    for text in rows.split("\n# ") {
+        if text != "" {
+            goes_as_worked(rt, alloc, &Row::read(alloc, text)?)?;
+        }
     }
     Ok(())
 }
@@ -115,22 +67,71 @@ fn goes(
     stepped: &mut Machine<Banked>,
     row: &Row,
 ) -> Result<(), Fail> {
-    for &(event, reply) in row.events {
-        let answered = take(stepped, event)?;
-        assert!(rt; answered == Some(reply), "{}: {event:?}", row.name);
+    for item in row.events.split("; ") {
+        does(rt, alloc, stepped, row.name, item)?;
     }
-    for &(event, reply) in row.finishing {
-        assert!(rt;
-            next_event(stepped) == Some(event),
-            "{}: {event:?}",
-            row.name
-        );
-        let answered = take(stepped, event)?;
-        assert!(rt; answered == Some(reply), "{}: {event:?}", row.name);
+    for item in row.finishing.split("; ") {
+        finishes(rt, alloc, stepped, row.name, item)?;
     }
     assert!(rt; next_event(stepped).is_none(), "{}", row.name);
     assert!(rt; finished(alloc, row)? == *stepped.counts(), "{}", row.name);
     have_lived(rt, alloc, stepped, row)
+}
+
+// Takes the item's event, and replies as it says.
+fn does(
+    rt: &impl Abort,
+    alloc: Global,
+    machine: &mut Machine<Banked>,
+    name: &str,
+    item: &str,
+) -> Result<(), Fail> {
+    if item == "" {
+        return Ok(());
+    }
+    let (times, event, reply) = answered(item)?;
+    for _ in 0..times {
+        let found = take(machine, event)?;
+        assert!(rt;
+            is_reply(alloc, found, reply)?,
+            "{name}: {item}, but {found:?}"
+        );
+    }
+    Ok(())
+}
+
+// The same, if the item's event is the next that finishes the machine.
+fn finishes(
+    rt: &impl Abort,
+    alloc: Global,
+    machine: &mut Machine<Banked>,
+    name: &str,
+    item: &str,
+) -> Result<(), Fail> {
+    if item == "" {
+        return Ok(());
+    }
+    let (times, event, reply) = answered(item)?;
+    for _ in 0..times {
+        let next = next_event(machine);
+        assert!(rt; next == Some(event), "{name}: {item}, but {next:?}");
+        let found = take(machine, event)?;
+        assert!(rt;
+            is_reply(alloc, found, reply)?,
+            "{name}: {item}, but {found:?}"
+        );
+    }
+    Ok(())
+}
+
+fn is_reply(alloc: Global, found: Option<Reply>, reply: &str) -> Result<bool, Fail> {
+    match found {
+        Some(found) => {
+            let text = format!(in alloc; "{found:?}")?;
+            Ok(text.as_str() == reply)
+        }
+        None => Ok(false),
+    }
 }
 
 // What the machine has counted once its events are taken and it is finished.
@@ -144,13 +145,24 @@ fn finished(alloc: Global, row: &Row) -> Result<Counts, Fail> {
 }
 
 fn take_all(machine: &mut Machine<Banked>, row: &Row) -> Result<(), Fail> {
-    for &(event, _) in row.events {
-        take(machine, event)?;
+    for item in row.events.split("; ") {
+        take_times(machine, item)?;
     }
     if machine.counts().events >= 1 << 24 {
         return Err("too many events".into());
     }
     Ok(finish(machine)?)
+}
+
+fn take_times(machine: &mut Machine<Banked>, item: &str) -> Result<(), Fail> {
+    if item == "" {
+        return Ok(());
+    }
+    let (times, event, _) = answered(item)?;
+    for _ in 0..times {
+        take(machine, event)?;
+    }
+    Ok(())
 }
 
 // The reply, if the machine may still take events.
@@ -167,26 +179,56 @@ fn have_lived(
     machine: &Machine<Banked>,
     row: &Row,
 ) -> Result<(), Fail> {
-    assert!(rt; machine.console() == row.console, "{}", row.name);
+    assert!(rt; machine.console() == row.console.as_bytes(), "{}", row.name);
     for (i, life) in row.spheres.iter().enumerate() {
         let number = (i % 8) as u8;
         if number >= machine.spheres() {
             return Err("a sphere is missing".into());
         }
-        let sphere = machine.sphere(number);
-        assert!(rt; has_lived(alloc, sphere, life)?, "{} {i}", row.name);
+        has_lived(rt, alloc, machine.sphere(number), row.name, life)?;
     }
     Ok(())
 }
 
-// Whether the sphere has become what is said of it.
-fn has_lived(alloc: Global, sphere: &Sphere, life: &Life) -> Result<bool, OutOfMemory> {
-    let has_ended = match life.role {
-        Lived::Plain => sphere.end().is_none(),
-        Lived::Recorded { log, .. } => log_of(alloc, sphere)?.as_slice() == log,
-        Lived::Replayed { end, .. } | Lived::Cut { end, .. } => sphere.end() == end,
-    };
-    Ok(has_ended && has_done(alloc, sphere.commits().whole(), life)?)
+// The sphere has become what is said of it.
+fn has_lived(
+    rt: &impl Abort,
+    alloc: Global,
+    sphere: &Sphere,
+    name: &str,
+    life: &Life,
+) -> Result<(), Fail> {
+    if let Lived::Recorded(_) = life.role {
+        let log = log_of(alloc, sphere)?;
+        assert!(rt;
+            log.as_slice() == life.log.as_slice(),
+            "{name}: {:?}",
+            log.as_slice()
+        );
+    } else {
+        let end = sphere.end();
+        assert!(rt;
+            is_end(alloc, end, life.end)?,
+            "{name}: {}, but {end:?}",
+            life.end
+        );
+    }
+    let commits = commits(alloc, sphere.commits().whole())?;
+    assert!(rt; commits.as_str() == life.commits, "{name}: {commits}");
+    let loads = loads(alloc, sphere.commits().whole())?;
+    assert!(rt; loads.as_str() == life.loads, "{name}: {loads}");
+    Ok(())
+}
+
+// No text is no end.
+fn is_end(alloc: Global, found: Option<End>, end: &str) -> Result<bool, Fail> {
+    match found {
+        Some(found) => {
+            let text = format!(in alloc; "{found:?}")?;
+            Ok(text.as_str() == end)
+        }
+        None => Ok(end == ""),
+    }
 }
 
 // The bytes of its log, if it is recorded.
@@ -203,14 +245,37 @@ fn written(alloc: Global, log: Log) -> Result<Vec<u8>, OutOfMemory> {
     bytes
 }
 
-fn has_done(alloc: Global, commits: &[Commit], life: &Life) -> Result<bool, AllocError> {
-    let mut done = Vec::new(alloc);
-    let mut loads = Vec::new(alloc);
+// The commits by their actors and sizes.
+fn commits(alloc: Global, commits: &[Commit]) -> Result<String, Fail> {
+    let mut text = String::new(alloc);
     for commit in commits {
-        done.push((commit.actor, commit.size))?;
-        loads.extend_from_slice(commit.loads.as_slice())?;
+        let item = match commit.actor {
+            Actor::Thread(thread) => format!(in alloc; "{thread}:{}", commit.size)?,
+            Actor::Dma => format!(in alloc; "dma:{}", commit.size)?,
+        };
+        put_item(&mut text, item.as_str())?;
     }
-    Ok(done.as_slice() == life.commits && loads.as_slice() == life.loads)
+    Ok(text)
+}
+
+// What all of them loaded.
+fn loads(alloc: Global, commits: &[Commit]) -> Result<String, Fail> {
+    let mut text = String::new(alloc);
+    for commit in commits {
+        for load in commit.loads.as_slice() {
+            let item = format!(in alloc; "{:X}={:X}", load.address, load.value)?;
+            put_item(&mut text, item.as_str())?;
+        }
+    }
+    Ok(text)
+}
+
+fn put_item(to: &mut String, item: &str) -> Result<(), Fail> {
+    if !to.is_empty() {
+        to.push(' ')?;
+    }
+    to.push_str(item)?;
+    Ok(())
 }
 
 fn machine_of(alloc: Global, row: &Row) -> Result<Machine<Banked>, Fail> {
@@ -277,9 +342,9 @@ fn are_few(count: usize) -> bool
 fn setup_of(alloc: Global, row: &Row) -> Result<Setup, Fail>
     ensures { IfOk result (λ setup. All HasBegun setup.spheres) }
 {
-    let input = Bytes::from_slice(alloc, row.input)?;
+    let input = Bytes::from_slice(alloc, row.input.as_bytes())?;
     let mut spheres = Sequence::new(alloc);
-    for life in row.spheres {
+    for life in row.spheres.as_slice() {
         spheres.push(sphere_of(alloc, life)?)?;
     }
     Ok(Setup {
@@ -300,27 +365,27 @@ fn sphere_of(alloc: Global, life: &Life) -> Result<SphereSetup, Fail>
     ensures { IfOk result HasBegun }
 {
     let image = load(alloc, &file_of(alloc, life.code)?, MEMORY)?;
-    if let Lived::Cut { log, to, .. } = life.role {
-        return cut(alloc, image, read_log(alloc, log)?, to);
+    if let Lived::Cut = life.role {
+        return cut(alloc, image, read_log(alloc, life.log.as_slice())?, life.to);
     }
-    let role = role_of(alloc, life.role)?;
+    let role = role_of(alloc, life)?;
     Ok(SphereSetup { image, role })
 }
 
 // A role without an interval.
-fn role_of(alloc: Global, lived: Lived) -> Result<Role, Fail>
+fn role_of(alloc: Global, life: &Life) -> Result<Role, Fail>
     ensures begun { IfOk result (λ role. begun_as role ≡ None) }
     ensures strata { IfOk result (λ role. strata_as role ≡ None) }
 {
-    match lived {
+    match life.role {
         Lived::Plain => Ok(Role::Plain),
-        Lived::Recorded { mode, .. } => Ok(Role::Record {
+        Lived::Recorded(mode) => Ok(Role::Record {
             version: 1,
             mode,
             epochs: None,
         }),
-        Lived::Replayed { log, .. } | Lived::Cut { log, .. } => Ok(Role::Replay(Replay::Log {
-            log: read_log(alloc, log)?,
+        Lived::Replayed | Lived::Cut => Ok(Role::Replay(Replay::Log {
+            log: read_log(alloc, life.log.as_slice())?,
             begun: None,
         })),
     }
@@ -352,11 +417,13 @@ const HEAD: [u8; 84] = [
 ];
 
 // The file of that code, with zeros after it.
-fn file_of(alloc: Global, code: &[u32]) -> Result<Vec<u8>, AllocError> {
+fn file_of(alloc: Global, code: &str) -> Result<Vec<u8>, Fail> {
     let mut file = Vec::from_slice(alloc, &HEAD)?;
-    for i in 0..16 {
-        let word = code.get(i).copied().unwrap_or(0);
-        file.extend_from_slice(&word.to_le_bytes())?;
+    for word in code.split(' ') {
+        file.extend_from_slice(&u32::from_str_radix(word, 16)?.to_le_bytes())?;
+    }
+    for _ in file.len()..HEAD.len() + 64 {
+        file.push(0)?;
     }
     Ok(file)
 }

@@ -1,1066 +1,192 @@
 //! Worked machines whose cores have two chunks each.
-use super::programs::{
-    EXITS, HANDLES_AND_RETURNS, LOADS_AND_STORES, LOADS_LATER_AND_STORES, RACE, RESERVES,
-    SETS_REGISTERS, SHARES_WORDS, STORES_AHEAD, STORES_IN_PARTS, STORES_THREE_WORDS,
-};
-use super::{Life, Lived, Row, T0, T1};
-use dl_entry::{End, Load};
-use spec_engine::answers::How::{self, Limit, Overflow, Serial};
-use spec_log::ModeName;
-use spec_protocol::Event::{Ask, Cut, Deliver, Drain, Place, Raise, Retire, Step};
-use spec_protocol::Reply::{
-    Bounced, Closed, Delivered, Denied, Drained, Granted, NotClosed, NothingRun, Piece, Placed,
-    Raised, Ran, Retired, Squashed, Waiting,
-};
 
-pub(crate) const ROWS: &[Row] = &[
-    TWO_CHUNKS,
-    ONE_CHUNK,
-    OLDER_HIT,
-    YOUNGER_HIT_FOUR_TIMES,
-    HIT_AS_YOUNGER_AND_AS_OLDER,
-    BOTH_HIT,
-    BEGUN_BY_A_BOUNCE,
-    STORES_OF_BOTH,
-    TWO_BUFFERS,
-    TWO_BUFFERS_OF_A_PLAIN_SPHERE,
-    INTERRUPT,
-    INTERRUPT_OF_THE_LOG,
-    ANOTHER_PLACED,
-    NONE_AFTER_A_PIECE,
-    SIZE_OF_THE_NEXT_COMMIT,
-    TWO_THREADS,
-    TWO_THREADS_ON_EIGHT_CORES,
-];
-
-// A chunk that is cut is followed by a younger one, and each is granted in turn.
-const TWO_CHUNKS: Row = Row {
-    name: "two chunks",
-    cores: 1,
-    depth: 2,
-    window: 2,
-    s: 100,
-    capacity: 16,
-    input: b"",
-    spheres: &[Life {
-        code: EXITS,
-        role: Lived::Recorded {
-            mode: ModeName::OrderSize,
-            log: b"\x44\x4C\x52\x4E\x01\x00\x00\x00\x64\x00\x00\x00\x03\x00\x00\x00\
-                  \x03\x00\x00\x00\x00\x00\x03\x00\x00\x00\x01\x00\x01\x00\x00\x00\
-                  \x00\x00\x00\x00\x00\x00\x00\x00\x00\x00\x00\x00",
-        },
-        commits: &[(T0, 1), (T0, 1), (T0, 0)],
-        loads: &[],
-    }],
-    events: &[
-        (Step(0), Ran),
-        (Cut(0), Closed(How::Cut)),
-        (Step(0), Ran),
-        (Step(0), Closed(Serial)),
-        (Ask(0), Granted),
-        (Ask(0), Granted),
-        (Step(0), Closed(Serial)),
-        (Ask(0), Granted),
-    ],
-    finishing: &[],
-    console: b"",
-};
-
-// The same events on a core that has one chunk at a time.
-const ONE_CHUNK: Row = Row {
-    name: "one chunk",
-    cores: 1,
-    depth: 1,
-    window: 2,
-    s: 100,
-    capacity: 16,
-    input: b"",
-    spheres: &[Life {
-        code: EXITS,
-        role: Lived::Recorded {
-            mode: ModeName::OrderSize,
-            log: b"\x44\x4C\x52\x4E\x01\x00\x00\x00\x64\x00\x00\x00\x01\x00\x00\x00\
-                  \x01\x00\x00\x00\x00\x01\x00\x00\x00\x01\x00\x00\x00\x00\x00\x00\
-                  \x00\x00\x00\x00\x00\x00\x00",
-        },
-        commits: &[(T0, 1)],
-        loads: &[],
-    }],
-    events: &[
-        (Step(0), Ran),
-        (Cut(0), Closed(How::Cut)),
-        (Step(0), Waiting),
-        (Step(0), Waiting),
-        (Ask(0), Granted),
-        (Ask(0), NotClosed),
-        (Step(0), Ran),
-        (Ask(0), NotClosed),
-    ],
-    finishing: &[],
-    console: b"",
-};
-
-// A store to what the older chunk loaded: the older is squashed, and the younger is gone. So the next step is the older's
-// first again, which is bounced, and then loads what was stored.
-const OLDER_HIT: Row = Row {
-    name: "older hit",
-    cores: 2,
-    depth: 2,
-    window: 2,
-    s: 100,
-    capacity: 16,
-    input: b"",
-    spheres: &[Life {
-        code: RACE,
-        role: Lived::Recorded {
-            mode: ModeName::OrderSize,
-            log: b"\x44\x4C\x52\x4E\x01\x00\x00\x00\x64\x00\x00\x00\x03\x00\x00\x00\
-                  \x03\x00\x00\x00\x00\x01\x03\x00\x00\x00\x03\x00\x00\x00\x03\x00\
-                  \x00\x00\x00\x00\x00\x00\x00\x00\x00\x00\x00\x00",
-        },
-        commits: &[(T0, 3), (T0, 0), (T1, 3)],
-        loads: &[],
-    }],
-    events: &[
-        (Step(0), Ran),
-        (Step(0), Ran),
-        (Step(0), Ran),
-        (Step(0), Closed(Serial)),
-        (Ask(0), Granted),
-        (Step(0), Closed(Serial)),
-        (Ask(0), Granted),
-        (Place(1, 0, 1), Placed),
-        (Step(1), Ran),
-        (Step(1), Ran),
-        (Step(1), Ran),
-        (Step(1), Closed(Serial)),
-        (Ask(1), Granted),
-        (Step(0), Ran),
-        (Cut(0), Closed(How::Cut)),
-        (Step(0), Ran),
-        (Deliver(0, 0), Squashed),
-        (Step(0), Bounced(0)),
-        (Drain(0), Drained),
-        (Retire(0), Retired),
-        (Step(0), Ran),
-    ],
-    finishing: &[],
-    console: b"",
-};
-
-// Four stores to what the younger chunk alone loaded: the older is granted as it is, and the younger keeps its halved limit
-// as the older.
-const YOUNGER_HIT_FOUR_TIMES: Row = Row {
-    name: "younger hit four times",
-    cores: 2,
-    depth: 2,
-    window: 2,
-    s: 16,
-    capacity: 16,
-    input: b"",
-    spheres: &[Life {
-        code: LOADS_LATER_AND_STORES,
-        role: Lived::Recorded {
-            mode: ModeName::OrderOnly,
-            log: b"\x44\x4C\x52\x4E\x01\x01\x00\x00\x10\x00\x00\x00\x08\x00\x00\x00\
-                  \x08\x00\x00\x00\x00\x11\x11\x00\x06\x00\x00\x00\x00\x02\x00\x00\
-                  \x00\x01\x00\x00\x03\x00\x00\x00\x08\x00\x01\x00\x00\x00\x00\x02\
-                  \x00\x01\x01\x00\x00\x00\x02\x00\x01\x02\x00\x00\x00\x02\x00\x01\
-                  \x03\x00\x00\x00\x02\x00\x00\x00\x00\x00\x00\x00\x00\x00\x00\x00\
-                  \x00\x00",
-        },
-        commits: &[
-            (T0, 3),
-            (T0, 0),
-            (T1, 2),
-            (T1, 2),
-            (T1, 2),
-            (T1, 2),
-            (T0, 1),
-            (T0, 8),
-        ],
-        loads: &[
-            Load {
-                address: 0x100,
-                value: 0,
-            },
-            Load {
-                address: 0x100,
-                value: 0,
-            },
-            Load {
-                address: 0x100,
-                value: 0,
-            },
-            Load {
-                address: 0x100,
-                value: 0,
-            },
-        ],
-    }],
-    events: &[
-        (Step(0), Ran),
-        (Step(0), Ran),
-        (Step(0), Ran),
-        (Step(0), Closed(Serial)),
-        (Ask(0), Granted),
-        (Step(0), Closed(Serial)),
-        (Ask(0), Granted),
-        (Place(1, 0, 1), Placed),
-        (Step(0), Ran),
-        (Cut(0), Closed(How::Cut)),
-        (Step(0), Ran),
-        (Step(1), Ran),
-        (Step(1), Ran),
-        (Cut(1), Closed(How::Cut)),
-        (Ask(1), Granted),
-        (Deliver(0, 0), Squashed),
-        (Drain(0), Drained),
-        (Retire(0), Retired),
-        (Step(0), Ran),
-        (Step(1), Ran),
-        (Step(1), Ran),
-        (Cut(1), Closed(How::Cut)),
-        (Ask(1), Granted),
-        (Deliver(0, 0), Squashed),
-        (Drain(0), Drained),
-        (Retire(0), Retired),
-        (Step(0), Ran),
-        (Step(1), Ran),
-        (Step(1), Ran),
-        (Cut(1), Closed(How::Cut)),
-        (Ask(1), Granted),
-        (Deliver(0, 0), Squashed),
-        (Drain(0), Drained),
-        (Retire(0), Retired),
-        (Step(0), Ran),
-        (Step(1), Ran),
-        (Step(1), Ran),
-        (Cut(1), Closed(How::Cut)),
-        (Ask(1), Granted),
-        (Deliver(0, 0), Squashed),
-        (Drain(0), Drained),
-        (Retire(0), Retired),
-        (Ask(0), Granted),
-        (Step(0), Ran),
-        (Step(0), Ran),
-        (Step(0), Ran),
-        (Step(0), Ran),
-        (Step(0), Ran),
-        (Step(0), Ran),
-        (Step(0), Ran),
-        (Step(0), Closed(Limit)),
-        (Step(0), Ran),
-        (Ask(0), Granted),
-    ],
-    finishing: &[],
-    console: b"",
-};
-
-// Two hits while it is the younger and two while it is the older: the fourth halves its limit.
-const HIT_AS_YOUNGER_AND_AS_OLDER: Row = Row {
-    name: "hit as younger and as older",
-    cores: 2,
-    depth: 2,
-    window: 2,
-    s: 16,
-    capacity: 16,
-    input: b"",
-    spheres: &[Life {
-        code: LOADS_LATER_AND_STORES,
-        role: Lived::Recorded {
-            mode: ModeName::OrderOnly,
-            log: b"\x44\x4C\x52\x4E\x01\x01\x00\x00\x10\x00\x00\x00\x08\x00\x00\x00\
-                  \x08\x00\x00\x00\x00\x11\x10\x01\x06\x00\x00\x00\x00\x02\x00\x00\
-                  \x00\x01\x00\x00\x03\x00\x00\x00\x08\x00\x01\x00\x00\x00\x00\x02\
-                  \x00\x01\x01\x00\x00\x00\x02\x00\x01\x02\x00\x00\x00\x02\x00\x01\
-                  \x03\x00\x00\x00\x02\x00\x00\x00\x00\x00\x00\x00\x00\x00\x00\x00\
-                  \x00\x00",
-        },
-        commits: &[
-            (T0, 3),
-            (T0, 0),
-            (T1, 2),
-            (T1, 2),
-            (T0, 1),
-            (T1, 2),
-            (T1, 2),
-            (T0, 8),
-        ],
-        loads: &[
-            Load {
-                address: 0x100,
-                value: 0,
-            },
-            Load {
-                address: 0x100,
-                value: 0,
-            },
-            Load {
-                address: 0x100,
-                value: 0,
-            },
-            Load {
-                address: 0x100,
-                value: 0,
-            },
-        ],
-    }],
-    events: &[
-        (Step(0), Ran),
-        (Step(0), Ran),
-        (Step(0), Ran),
-        (Step(0), Closed(Serial)),
-        (Ask(0), Granted),
-        (Step(0), Closed(Serial)),
-        (Ask(0), Granted),
-        (Place(1, 0, 1), Placed),
-        (Step(0), Ran),
-        (Cut(0), Closed(How::Cut)),
-        (Step(0), Ran),
-        (Step(1), Ran),
-        (Step(1), Ran),
-        (Cut(1), Closed(How::Cut)),
-        (Ask(1), Granted),
-        (Deliver(0, 0), Squashed),
-        (Drain(0), Drained),
-        (Retire(0), Retired),
-        (Step(0), Ran),
-        (Step(1), Ran),
-        (Step(1), Ran),
-        (Cut(1), Closed(How::Cut)),
-        (Ask(1), Granted),
-        (Deliver(0, 0), Squashed),
-        (Drain(0), Drained),
-        (Retire(0), Retired),
-        (Ask(0), Granted),
-        (Step(0), Ran),
-        (Step(1), Ran),
-        (Step(1), Ran),
-        (Cut(1), Closed(How::Cut)),
-        (Ask(1), Granted),
-        (Deliver(0, 0), Squashed),
-        (Drain(0), Drained),
-        (Retire(0), Retired),
-        (Step(0), Ran),
-        (Step(1), Ran),
-        (Step(1), Ran),
-        (Cut(1), Closed(How::Cut)),
-        (Ask(1), Granted),
-        (Deliver(0, 0), Squashed),
-        (Drain(0), Drained),
-        (Retire(0), Retired),
-        (Step(0), Ran),
-        (Step(0), Ran),
-        (Step(0), Ran),
-        (Step(0), Ran),
-        (Step(0), Ran),
-        (Step(0), Ran),
-        (Step(0), Ran),
-        (Step(0), Closed(Limit)),
-        (Ask(0), Granted),
-    ],
-    finishing: &[],
-    console: b"",
-};
-
-// A store to a word that both chunks loaded: one squash of the older, and the younger is gone.
-const BOTH_HIT: Row = Row {
-    name: "both hit",
-    cores: 2,
-    depth: 2,
-    window: 2,
-    s: 100,
-    capacity: 16,
-    input: b"",
-    spheres: &[Life {
-        code: LOADS_AND_STORES,
-        role: Lived::Recorded {
-            mode: ModeName::OrderSize,
-            log: b"\x44\x4C\x52\x4E\x01\x00\x00\x00\x64\x00\x00\x00\x04\x00\x00\x00\
-                  \x04\x00\x00\x00\x00\x01\x04\x00\x00\x00\x03\x00\x00\x00\x01\x00\
-                  \x01\x00\x00\x00\x00\x00\x00\x00\x00\x00\x00\x00\x00\x00",
-        },
-        commits: &[(T0, 3), (T0, 0), (T1, 1), (T0, 1)],
-        loads: &[Load {
-            address: 0x100,
-            value: 0,
-        }],
-    }],
-    events: &[
-        (Step(0), Ran),
-        (Step(0), Ran),
-        (Step(0), Ran),
-        (Step(0), Closed(Serial)),
-        (Ask(0), Granted),
-        (Step(0), Closed(Serial)),
-        (Ask(0), Granted),
-        (Place(1, 0, 1), Placed),
-        (Step(1), Ran),
-        (Cut(1), Closed(How::Cut)),
-        (Ask(1), Granted),
-        (Step(0), Ran),
-        (Step(0), Ran),
-        (Cut(0), Closed(How::Cut)),
-        (Cut(0), Waiting),
-        (Step(0), Ran),
-        (Step(0), Ran),
-        (Deliver(0, 0), Squashed),
-        (Cut(0), NothingRun),
-        (Ask(0), NotClosed),
-        (Step(0), Bounced(0)),
-        (Drain(0), Drained),
-        (Retire(0), Retired),
-        (Step(0), Ran),
-        (Cut(0), Closed(How::Cut)),
-        (Ask(0), Granted),
-    ],
-    finishing: &[],
-    console: b"",
-};
-
-// A step that is bounced has begun the younger chunk all the same: a cut then says that nothing was run, and not that it
-// waits.
-const BEGUN_BY_A_BOUNCE: Row = Row {
-    name: "begun by a bounce",
-    cores: 1,
-    depth: 2,
-    window: 2,
-    s: 100,
-    capacity: 16,
-    input: b"",
-    spheres: &[Life {
-        code: STORES_AHEAD,
-        role: Lived::Recorded {
-            mode: ModeName::OrderSize,
-            log: b"\x44\x4C\x52\x4E\x01\x00\x00\x00\x64\x00\x00\x00\x04\x00\x00\x00\
-                  \x04\x00\x00\x00\x00\x00\x04\x00\x00\x00\x01\x00\x02\x00\x02\x00\
-                  \x00\x00\x00\x00\x00\x00\x00\x00\x00\x00\x00\x00\x00\x00",
-        },
-        commits: &[(T0, 1), (T0, 2), (T0, 2), (T0, 0)],
-        loads: &[],
-    }],
-    events: &[
-        (Step(0), Ran),
-        (Cut(0), Closed(How::Cut)),
-        (Ask(0), Granted),
-        (Step(0), Ran),
-        (Step(0), Ran),
-        (Cut(0), Closed(How::Cut)),
-        (Cut(0), Waiting),
-        (Step(0), Bounced(0)),
-        (Cut(0), NothingRun),
-        (Ask(0), Granted),
-        (Drain(0), Drained),
-        (Retire(0), Retired),
-        (Step(0), Ran),
-        (Step(0), Ran),
-        (Step(0), Closed(Serial)),
-        (Ask(0), Granted),
-        (Step(0), Closed(Serial)),
-        (Ask(0), Granted),
-    ],
-    finishing: &[],
-    console: b"",
-};
-
-// The younger chunk loads its own bytes over the older's, and these over what is in memory.
-const STORES_OF_BOTH: Row = Row {
-    name: "stores of both",
-    cores: 1,
-    depth: 2,
-    window: 2,
-    s: 100,
-    capacity: 16,
-    input: b"",
-    spheres: &[Life {
-        code: STORES_IN_PARTS,
-        role: Lived::Recorded {
-            mode: ModeName::OrderSize,
-            log: b"\x44\x4C\x52\x4E\x01\x00\x00\x00\x64\x00\x00\x00\x04\x00\x00\x00\
-                  \x04\x00\x00\x00\x00\x00\x04\x00\x00\x00\x02\x00\x02\x00\x04\x00\
-                  \x00\x00\x00\x00\x00\x00\x00\x00\x00\x00\x00\x00\x00\x00",
-        },
-        commits: &[(T0, 2), (T0, 2), (T0, 4), (T0, 0)],
-        loads: &[
-            Load {
-                address: 0x100,
-                value: 0xAB01,
-            },
-            Load {
-                address: 0x100,
-                value: 0xABAB01,
-            },
-        ],
-    }],
-    events: &[
-        (Step(0), Ran),
-        (Step(0), Ran),
-        (Cut(0), Closed(How::Cut)),
-        (Ask(0), Granted),
-        (Drain(0), Drained),
-        (Retire(0), Retired),
-        (Step(0), Ran),
-        (Step(0), Ran),
-        (Cut(0), Closed(How::Cut)),
-        (Step(0), Ran),
-        (Step(0), Ran),
-        (Step(0), Ran),
-        (Step(0), Ran),
-        (Step(0), Closed(Serial)),
-        (Ask(0), Granted),
-        (Ask(0), Denied(0)),
-        (Drain(0), Drained),
-        (Retire(0), Retired),
-        (Ask(0), Granted),
-        (Step(0), Closed(Serial)),
-        (Drain(0), Drained),
-        (Retire(0), Retired),
-        (Ask(0), Granted),
-    ],
-    finishing: &[],
-    console: b"",
-};
-
-// Each of the two chunks has room for one word. The second store overflows the older and begins the younger, and the third
-// overflows that.
-const TWO_BUFFERS: Row = Row {
-    name: "two buffers",
-    cores: 1,
-    depth: 2,
-    window: 2,
-    s: 100,
-    capacity: 1,
-    input: b"",
-    spheres: &[Life {
-        code: STORES_THREE_WORDS,
-        role: Lived::Recorded {
-            mode: ModeName::OrderSize,
-            log: b"\x44\x4C\x52\x4E\x01\x00\x00\x00\x64\x00\x00\x00\x02\x00\x00\x00\
-                  \x02\x00\x00\x00\x00\x02\x00\x00\x00\x01\x00\x01\x00\x00\x00\x00\
-                  \x00\x00\x00\x00\x00\x00\x00\x00\x00",
-        },
-        commits: &[(T0, 1), (T0, 1)],
-        loads: &[],
-    }],
-    events: &[
-        (Step(0), Ran),
-        (Step(0), Closed(Overflow)),
-        (Step(0), Ran),
-        (Step(0), Closed(Overflow)),
-        (Step(0), Waiting),
-        (Ask(0), Granted),
-        (Step(0), Ran),
-        (Step(0), Ran),
-        (Step(0), Closed(Serial)),
-        (Ask(0), Denied(0)),
-        (Drain(0), Drained),
-        (Retire(0), Retired),
-        (Ask(0), Granted),
-    ],
-    finishing: &[(Drain(0), Drained), (Retire(0), Retired)],
-    console: b"",
-};
-
-// The same in a sphere that isn't recorded.
-const TWO_BUFFERS_OF_A_PLAIN_SPHERE: Row = Row {
-    name: "two buffers of a plain sphere",
-    cores: 1,
-    depth: 2,
-    window: 2,
-    s: 100,
-    capacity: 1,
-    input: b"",
-    spheres: &[Life {
-        code: STORES_THREE_WORDS,
-        role: Lived::Plain,
-        commits: &[(T0, 1), (T0, 1)],
-        loads: &[],
-    }],
-    events: &[
-        (Step(0), Ran),
-        (Step(0), Closed(Overflow)),
-        (Step(0), Ran),
-        (Step(0), Closed(Overflow)),
-        (Step(0), Waiting),
-        (Ask(0), Granted),
-        (Step(0), Ran),
-        (Step(0), Ran),
-        (Step(0), Closed(Serial)),
-        (Ask(0), Denied(0)),
-        (Drain(0), Drained),
-        (Retire(0), Retired),
-        (Ask(0), Granted),
-    ],
-    finishing: &[(Drain(0), Drained), (Retire(0), Retired)],
-    console: b"",
-};
-
-// An interrupt is raised over two chunks: both are gone, and the handler runs.
-const INTERRUPT: Row = Row {
-    name: "interrupt",
-    cores: 1,
-    depth: 2,
-    window: 2,
-    s: 100,
-    capacity: 16,
-    input: b"",
-    spheres: &[Life {
-        code: HANDLES_AND_RETURNS,
-        role: Lived::Recorded {
-            mode: ModeName::OrderSize,
-            log: b"\x44\x4C\x52\x4E\x01\x00\x00\x00\x64\x00\x00\x00\x06\x00\x00\x00\
-                  \x06\x00\x00\x00\x00\x00\x00\x06\x00\x00\x00\x02\x00\x00\x00\x01\
-                  \x00\x01\x00\x00\x00\x01\x00\x01\x00\x00\x00\x00\x03\x00\x00\x00\
-                  \x05\x00\x00\x00\x00\x00\x00\x00\x00\x00\x00\x00",
-        },
-        commits: &[(T0, 2), (T0, 0), (T0, 1), (T0, 1), (T0, 0), (T0, 1)],
-        loads: &[],
-    }],
-    events: &[
-        (Step(0), Ran),
-        (Step(0), Ran),
-        (Step(0), Closed(Serial)),
-        (Ask(0), Granted),
-        (Step(0), Closed(Serial)),
-        (Ask(0), Granted),
-        (Step(0), Ran),
-        (Cut(0), Closed(How::Cut)),
-        (Ask(0), Granted),
-        (Step(0), Ran),
-        (Cut(0), Closed(How::Cut)),
-        (Step(0), Ran),
-        (Raise(0, 0, 5), Raised),
-        (Ask(0), NotClosed),
-        (Step(0), Ran),
-        (Step(0), Closed(Serial)),
-        (Ask(0), Granted),
-        (Step(0), Closed(Serial)),
-        (Ask(0), Granted),
-        (Step(0), Ran),
-        (Cut(0), Closed(How::Cut)),
-        (Ask(0), Granted),
-    ],
-    finishing: &[],
-    console: b"",
-};
-
-// Its replay: the commit that the interrupt comes with is granted, and the younger chunk after it is gone.
-const INTERRUPT_OF_THE_LOG: Row = Row {
-    name: "interrupt of the log",
-    cores: 1,
-    depth: 2,
-    window: 2,
-    s: 100,
-    capacity: 16,
-    input: b"",
-    spheres: &[Life {
-        code: HANDLES_AND_RETURNS,
-        role: Lived::Replayed {
-            log: b"\x44\x4C\x52\x4E\x01\x00\x00\x00\x64\x00\x00\x00\x06\x00\x00\x00\
-                  \x06\x00\x00\x00\x00\x00\x00\x06\x00\x00\x00\x02\x00\x00\x00\x01\
-                  \x00\x01\x00\x00\x00\x01\x00\x01\x00\x00\x00\x00\x03\x00\x00\x00\
-                  \x05\x00\x00\x00\x00\x00\x00\x00\x00\x00\x00\x00",
-            end: Some(End::Complete(6)),
-        },
-        commits: &[(T0, 2), (T0, 0), (T0, 1), (T0, 1), (T0, 0), (T0, 1)],
-        loads: &[],
-    }],
-    events: &[
-        (Step(0), Ran),
-        (Step(0), Closed(Limit)),
-        (Step(0), Closed(Serial)),
-        (Ask(0), Granted),
-        (Step(0), Waiting),
-        (Ask(0), Granted),
-        (Step(0), Closed(Limit)),
-        (Step(0), Closed(Limit)),
-        (Ask(0), Granted),
-        (Step(0), Closed(Limit)),
-        (Step(0), Closed(Serial)),
-        (Cut(0), Waiting),
-    ],
-    finishing: &[
-        (Ask(0), Granted),
-        (Ask(0), Granted),
-        (Step(0), Closed(Limit)),
-        (Ask(0), Granted),
-    ],
-    console: b"",
-};
-
-// Another thread is placed on a core with two chunks: both are gone.
-const ANOTHER_PLACED: Row = Row {
-    name: "another placed",
-    cores: 1,
-    depth: 2,
-    window: 2,
-    s: 100,
-    capacity: 16,
-    input: b"",
-    spheres: &[Life {
-        code: RACE,
-        role: Lived::Recorded {
-            mode: ModeName::OrderSize,
-            log: b"\x44\x4C\x52\x4E\x01\x00\x00\x00\x64\x00\x00\x00\x02\x00\x00\x00\
-                  \x02\x00\x00\x00\x00\x02\x00\x00\x00\x03\x00\x00\x00\x00\x00\x00\
-                  \x00\x00\x00\x00\x00\x00\x00\x00\x00",
-        },
-        commits: &[(T0, 3), (T0, 0)],
-        loads: &[],
-    }],
-    events: &[
-        (Step(0), Ran),
-        (Step(0), Ran),
-        (Step(0), Ran),
-        (Step(0), Closed(Serial)),
-        (Ask(0), Granted),
-        (Step(0), Closed(Serial)),
-        (Ask(0), Granted),
-        (Step(0), Ran),
-        (Cut(0), Closed(How::Cut)),
-        (Step(0), Ran),
-        (Place(0, 0, 1), Placed),
-        (Ask(0), NotClosed),
-        (Step(0), Ran),
-        (Step(0), Ran),
-    ],
-    finishing: &[],
-    console: b"",
-};
-
-// In a replay a chunk that is cut or overflows is a piece of a commit, and no younger one follows it.
-const NONE_AFTER_A_PIECE: Row = Row {
-    name: "none after a piece",
-    cores: 1,
-    depth: 2,
-    window: 2,
-    s: 100,
-    capacity: 1,
-    input: b"",
-    spheres: &[Life {
-        code: RESERVES,
-        role: Lived::Replayed {
-            log: b"\x44\x4C\x52\x4E\x01\x01\x00\x00\x64\x00\x00\x00\x02\x00\x00\x00\
-                  \x02\x00\x00\x00\x00\x00\x00\x00\x00\x00\x00\x00\x00\x00\x00\x00\
-                  \x00\x00\x00\x00\x00",
-            end: Some(End::Complete(2)),
-        },
-        commits: &[(T0, 5), (T0, 0)],
-        loads: &[Load {
-            address: 0x104,
-            value: 0,
-        }],
-    }],
-    events: &[
-        (Step(0), Ran),
-        (Cut(0), Closed(How::Cut)),
-        (Step(0), Waiting),
-        (Cut(0), Waiting),
-        (Ask(0), Piece),
-        (Step(0), Ran),
-        (Step(0), Ran),
-        (Step(0), Closed(Overflow)),
-        (Step(0), Waiting),
-        (Ask(0), Piece),
-    ],
-    finishing: &[
-        (Drain(0), Drained),
-        (Retire(0), Retired),
-        (Step(0), Ran),
-        (Step(0), Ran),
-        (Step(0), Closed(Serial)),
-        (Ask(0), Granted),
-        (Drain(0), Drained),
-        (Retire(0), Retired),
-        (Step(0), Closed(Serial)),
-        (Ask(0), Granted),
-    ],
-    console: b"",
-};
-
-// In a replay the younger chunk has the size of the commit after the older's: they run 1 and 2 instructions.
-const SIZE_OF_THE_NEXT_COMMIT: Row = Row {
-    name: "size of the next commit",
-    cores: 1,
-    depth: 2,
-    window: 2,
-    s: 100,
-    capacity: 16,
-    input: b"",
-    spheres: &[Life {
-        code: SETS_REGISTERS,
-        role: Lived::Replayed {
-            log: b"\x44\x4C\x52\x4E\x01\x00\x00\x00\x64\x00\x00\x00\x04\x00\x00\x00\
-                  \x04\x00\x00\x00\x00\x00\x04\x00\x00\x00\x01\x00\x02\x00\x01\x00\
-                  \x00\x00\x00\x00\x00\x00\x00\x00\x00\x00\x00\x00\x00\x00",
-            end: Some(End::Complete(4)),
-        },
-        commits: &[(T0, 1), (T0, 2), (T0, 1), (T0, 0)],
-        loads: &[],
-    }],
-    events: &[
-        (Step(0), Closed(Limit)),
-        (Step(0), Ran),
-        (Step(0), Closed(Limit)),
-        (Step(0), Waiting),
-        (Step(0), Waiting),
-        (Ask(0), Granted),
-        (Step(0), Closed(Limit)),
-        (Step(0), Waiting),
-        (Ask(0), Granted),
-    ],
-    finishing: &[
-        (Ask(0), Granted),
-        (Step(0), Closed(Serial)),
-        (Ask(0), Granted),
-    ],
-    console: b"",
-};
-
-// Two threads store to words of one line and load them, each with two chunks: the second thread's younger is squashed alone,
-// and later its older.
-const TWO_THREADS: Row = Row {
-    name: "two threads",
-    cores: 2,
-    depth: 2,
-    window: 2,
-    s: 100,
-    capacity: 16,
-    input: b"",
-    spheres: &[Life {
-        code: SHARES_WORDS,
-        role: Lived::Recorded {
-            mode: ModeName::OrderSize,
-            log: b"\x44\x4C\x52\x4E\x01\x00\x00\x00\x64\x00\x00\x00\x0A\x00\x00\x00\
-                  \x0A\x00\x00\x00\x00\x10\x10\x11\x00\x0A\x00\x00\x00\x03\x00\x00\
-                  \x00\x02\x00\x01\x00\x03\x00\x03\x00\x02\x00\x00\x00\x01\x00\x00\
-                  \x00\x00\x00\x00\x00\x00\x00\x00\x00\x00\x00\x00\x00",
-        },
-        commits: &[
-            (T0, 3),
-            (T0, 0),
-            (T0, 2),
-            (T1, 1),
-            (T0, 3),
-            (T1, 3),
-            (T1, 2),
-            (T1, 0),
-            (T0, 1),
-            (T0, 0),
-        ],
-        loads: &[
-            Load {
-                address: 0x100,
-                value: 1,
-            },
-            Load {
-                address: 0x104,
-                value: 0,
-            },
-            Load {
-                address: 0x100,
-                value: 1,
-            },
-        ],
-    }],
-    events: &[
-        (Step(0), Ran),
-        (Step(0), Ran),
-        (Step(0), Ran),
-        (Step(0), Closed(Serial)),
-        (Ask(0), Granted),
-        (Step(0), Closed(Serial)),
-        (Ask(0), Granted),
-        (Place(1, 0, 1), Placed),
-        (Step(1), Ran),
-        (Cut(1), Closed(How::Cut)),
-        (Step(1), Ran),
-        (Step(1), Ran),
-        (Step(1), Ran),
-        (Cut(1), Closed(How::Cut)),
-        (Step(0), Ran),
-        (Step(0), Ran),
-        (Cut(0), Closed(How::Cut)),
-        (Step(0), Ran),
-        (Step(0), Ran),
-        (Step(0), Ran),
-        (Cut(0), Closed(How::Cut)),
-        (Ask(0), Granted),
-        (Drain(0), Drained),
-        (Drain(0), Drained),
-        (Deliver(1, 0), Squashed),
-        (Retire(0), Retired),
-        (Ask(1), Granted),
-        (Step(1), Ran),
-        (Step(1), Ran),
-        (Step(1), Ran),
-        (Cut(1), Closed(How::Cut)),
-        (Ask(0), Granted),
-        (Drain(0), Drained),
-        (Deliver(1, 0), Squashed),
-        (Retire(0), Retired),
-        (Step(1), Ran),
-        (Step(1), Ran),
-        (Step(1), Ran),
-        (Cut(1), Closed(How::Cut)),
-        (Step(1), Ran),
-        (Step(1), Ran),
-        (Step(1), Closed(Serial)),
-        (Ask(1), Granted),
-        (Drain(0), Drained),
-        (Drain(0), Drained),
-        (Deliver(0, 0), Delivered),
-        (Retire(0), Retired),
-        (Ask(1), Granted),
-        (Step(1), Closed(Serial)),
-        (Ask(1), Granted),
-        (Step(0), Ran),
-        (Step(0), Closed(Serial)),
-        (Ask(0), Granted),
-        (Step(0), Closed(Serial)),
-        (Ask(0), Granted),
-    ],
-    finishing: &[],
-    console: b"",
-};
-
-// What they did, replayed on eight cores through buffers of one word: commits are done in pieces, no younger chunk follows a
-// piece, and a younger that overflows becomes a piece once it is the older.
-const TWO_THREADS_ON_EIGHT_CORES: Row = Row {
-    name: "two threads on eight cores",
-    cores: 8,
-    depth: 2,
-    window: 2,
-    s: 100,
-    capacity: 1,
-    input: b"",
-    spheres: &[Life {
-        code: SHARES_WORDS,
-        role: Lived::Replayed {
-            log: b"\x44\x4C\x52\x4E\x01\x00\x00\x00\x64\x00\x00\x00\x0A\x00\x00\x00\
-                  \x0A\x00\x00\x00\x00\x10\x10\x11\x00\x0A\x00\x00\x00\x03\x00\x00\
-                  \x00\x02\x00\x01\x00\x03\x00\x03\x00\x02\x00\x00\x00\x01\x00\x00\
-                  \x00\x00\x00\x00\x00\x00\x00\x00\x00\x00\x00\x00\x00",
-            end: Some(End::Complete(10)),
-        },
-        commits: &[
-            (T0, 3),
-            (T0, 0),
-            (T0, 2),
-            (T1, 1),
-            (T0, 3),
-            (T1, 3),
-            (T1, 2),
-            (T1, 0),
-            (T0, 1),
-            (T0, 0),
-        ],
-        loads: &[
-            Load {
-                address: 0x100,
-                value: 1,
-            },
-            Load {
-                address: 0x104,
-                value: 0,
-            },
-            Load {
-                address: 0x100,
-                value: 1,
-            },
-        ],
-    }],
-    events: &[
-        (Step(0), Ran),
-        (Step(0), Ran),
-        (Step(0), Closed(Limit)),
-        (Step(0), Closed(Serial)),
-        (Step(0), Waiting),
-        (Ask(0), Granted),
-        (Ask(0), Granted),
-        (Place(7, 0, 1), Placed),
-        (Step(7), Closed(Limit)),
-        (Step(7), Ran),
-        (Step(7), Closed(Overflow)),
-        (Step(7), Waiting),
-        (Step(0), Ran),
-        (Step(0), Closed(Overflow)),
-        (Step(0), Waiting),
-        (Ask(0), Piece),
-        (Drain(0), Drained),
-        (Deliver(7, 0), Squashed),
-        (Deliver(1, 0), Delivered),
-        (Deliver(2, 0), Delivered),
-        (Deliver(3, 0), Delivered),
-        (Deliver(4, 0), Delivered),
-        (Deliver(5, 0), Delivered),
-        (Deliver(6, 0), Delivered),
-        (Retire(0), Retired),
-        (Step(0), Closed(Limit)),
-        (Step(0), Ran),
-        (Step(0), Ran),
-        (Step(0), Closed(Limit)),
-        (Step(0), Waiting),
-        (Ask(0), Granted),
-        (Drain(0), Drained),
-        (Deliver(1, 0), Delivered),
-        (Deliver(2, 0), Delivered),
-        (Deliver(3, 0), Delivered),
-        (Deliver(4, 0), Delivered),
-        (Deliver(5, 0), Delivered),
-        (Deliver(6, 0), Delivered),
-        (Deliver(7, 0), Delivered),
-        (Retire(0), Retired),
-        (Step(7), Ran),
-        (Step(7), Closed(Overflow)),
-        (Ask(7), Granted),
-        (Ask(0), Granted),
-        (Drain(0), Drained),
-        (Deliver(1, 0), Delivered),
-        (Deliver(2, 0), Delivered),
-        (Deliver(3, 0), Delivered),
-        (Deliver(4, 0), Delivered),
-        (Deliver(5, 0), Delivered),
-        (Deliver(6, 0), Delivered),
-        (Deliver(7, 0), Delivered),
-        (Retire(0), Retired),
-        (Ask(7), Piece),
-        (Step(7), Ran),
-        (Step(7), Bounced(0)),
-        (Drain(0), Drained),
-        (Deliver(0, 0), Delivered),
-        (Deliver(1, 0), Delivered),
-        (Deliver(2, 0), Delivered),
-        (Deliver(3, 0), Delivered),
-        (Deliver(4, 0), Delivered),
-        (Deliver(5, 0), Delivered),
-        (Deliver(6, 0), Delivered),
-        (Retire(0), Retired),
-        (Step(7), Closed(Limit)),
-        (Step(7), Ran),
-        (Step(7), Closed(Limit)),
-        (Ask(7), Granted),
-        (Drain(0), Drained),
-        (Deliver(0, 0), Delivered),
-        (Deliver(1, 0), Delivered),
-        (Deliver(2, 0), Delivered),
-        (Deliver(3, 0), Delivered),
-        (Deliver(4, 0), Delivered),
-        (Deliver(5, 0), Delivered),
-        (Deliver(6, 0), Delivered),
-        (Retire(0), Retired),
-        (Step(7), Closed(Serial)),
-        (Step(7), Waiting),
-        (Ask(7), Granted),
-    ],
-    finishing: &[
-        (Ask(7), Granted),
-        (Step(0), Closed(Limit)),
-        (Ask(0), Granted),
-        (Step(0), Closed(Serial)),
-        (Ask(0), Granted),
-    ],
-    console: b"",
-};
+pub(crate) const ROWS: &str = "
+# two chunks: A chunk that is cut is followed by a younger one, and each is granted in turn.
+machine depth 2
+order-size exits
+log 444C524E 01000000 64000000 03000000 03000000 0000 03000000 0100 0100 0000 00000000 00000000 00000000
+commits 0:1 0:1 0:0
+events step 0: Ran; cut 0: Closed(Cut); step 0: Ran; step 0: Closed(Serial); ask 0: Granted x2; \
+    step 0: Closed(Serial); ask 0: Granted
+# one chunk: The same events on a core that has one chunk at a time.
+order-size exits
+log 444C524E 01000000 64000000 01000000 01000000 00 01000000 0100 00000000 00000000 00000000
+commits 0:1
+events step 0: Ran; cut 0: Closed(Cut); step 0: Waiting x2; ask 0: Granted; ask 0: NotClosed; step 0: Ran; \
+    ask 0: NotClosed
+# older hit: A store to what the older chunk loaded: the older is squashed, and the younger is gone. So the next step \
+    is the older's first again, which is bounced, and then loads what was stored.
+machine cores 2, depth 2
+order-size race
+log 444C524E 01000000 64000000 03000000 03000000 0001 03000000 0300 0000 0300 00000000 00000000 00000000
+commits 0:3 0:0 1:3
+events step 0: Ran x3; step 0: Closed(Serial); ask 0: Granted; step 0: Closed(Serial); ask 0: Granted; \
+    place 1 0 1: Placed; step 1: Ran x3; step 1: Closed(Serial); ask 1: Granted; step 0: Ran; cut 0: Closed(Cut); \
+    step 0: Ran; deliver 0 0: Squashed; step 0: Bounced(0); drain 0: Drained; retire 0: Retired; step 0: Ran
+# younger hit four times: Four stores to what the younger chunk alone loaded: the older is granted as it is, and the \
+    younger keeps its halved limit as the older.
+machine cores 2, depth 2, chunk 16
+order-only loads-later-and-stores
+log 444C524E 01010000 10000000 08000000 08000000 00111100 06000000 00020000000100 00030000000800 01000000000200 \
+    01010000000200 01020000000200 01030000000200 00000000 00000000 00000000
+commits 0:3 0:0 1:2 1:2 1:2 1:2 0:1 0:8
+loads 100=0 100=0 100=0 100=0
+events step 0: Ran x3; step 0: Closed(Serial); ask 0: Granted; step 0: Closed(Serial); ask 0: Granted; \
+    place 1 0 1: Placed; step 0: Ran; cut 0: Closed(Cut); step 0: Ran; step 1: Ran x2; cut 1: Closed(Cut); \
+    ask 1: Granted; deliver 0 0: Squashed; drain 0: Drained; retire 0: Retired; step 0: Ran; step 1: Ran x2; \
+    cut 1: Closed(Cut); ask 1: Granted; deliver 0 0: Squashed; drain 0: Drained; retire 0: Retired; step 0: Ran; \
+    step 1: Ran x2; cut 1: Closed(Cut); ask 1: Granted; deliver 0 0: Squashed; drain 0: Drained; retire 0: Retired; \
+    step 0: Ran; step 1: Ran x2; cut 1: Closed(Cut); ask 1: Granted; deliver 0 0: Squashed; drain 0: Drained; \
+    retire 0: Retired; ask 0: Granted; step 0: Ran x7; step 0: Closed(Limit); step 0: Ran; ask 0: Granted
+# hit as younger and as older: Two hits while it is the younger and two while it is the older: the fourth halves its \
+    limit.
+machine cores 2, depth 2, chunk 16
+order-only loads-later-and-stores
+log 444C524E 01010000 10000000 08000000 08000000 00111001 06000000 00020000000100 00030000000800 01000000000200 \
+    01010000000200 01020000000200 01030000000200 00000000 00000000 00000000
+commits 0:3 0:0 1:2 1:2 0:1 1:2 1:2 0:8
+loads 100=0 100=0 100=0 100=0
+events step 0: Ran x3; step 0: Closed(Serial); ask 0: Granted; step 0: Closed(Serial); ask 0: Granted; \
+    place 1 0 1: Placed; step 0: Ran; cut 0: Closed(Cut); step 0: Ran; step 1: Ran x2; cut 1: Closed(Cut); \
+    ask 1: Granted; deliver 0 0: Squashed; drain 0: Drained; retire 0: Retired; step 0: Ran; step 1: Ran x2; \
+    cut 1: Closed(Cut); ask 1: Granted; deliver 0 0: Squashed; drain 0: Drained; retire 0: Retired; ask 0: Granted; \
+    step 0: Ran; step 1: Ran x2; cut 1: Closed(Cut); ask 1: Granted; deliver 0 0: Squashed; drain 0: Drained; \
+    retire 0: Retired; step 0: Ran; step 1: Ran x2; cut 1: Closed(Cut); ask 1: Granted; deliver 0 0: Squashed; \
+    drain 0: Drained; retire 0: Retired; step 0: Ran x7; step 0: Closed(Limit); ask 0: Granted
+# both hit: A store to a word that both chunks loaded: one squash of the older, and the younger is gone.
+machine cores 2, depth 2
+order-size loads-and-stores
+log 444C524E 01000000 64000000 04000000 04000000 0001 04000000 0300 0000 0100 0100 00000000 00000000 00000000
+commits 0:3 0:0 1:1 0:1
+loads 100=0
+events step 0: Ran x3; step 0: Closed(Serial); ask 0: Granted; step 0: Closed(Serial); ask 0: Granted; \
+    place 1 0 1: Placed; step 1: Ran; cut 1: Closed(Cut); ask 1: Granted; step 0: Ran x2; cut 0: Closed(Cut); \
+    cut 0: Waiting; step 0: Ran x2; deliver 0 0: Squashed; cut 0: NothingRun; ask 0: NotClosed; step 0: Bounced(0); \
+    drain 0: Drained; retire 0: Retired; step 0: Ran; cut 0: Closed(Cut); ask 0: Granted
+# begun by a bounce: A step that is bounced has begun the younger chunk all the same: a cut then says that nothing \
+    was run, and not that it waits.
+machine depth 2
+order-size stores-ahead
+log 444C524E 01000000 64000000 04000000 04000000 0000 04000000 0100 0200 0200 0000 00000000 00000000 00000000
+commits 0:1 0:2 0:2 0:0
+events step 0: Ran; cut 0: Closed(Cut); ask 0: Granted; step 0: Ran x2; cut 0: Closed(Cut); cut 0: Waiting; \
+    step 0: Bounced(0); cut 0: NothingRun; ask 0: Granted; drain 0: Drained; retire 0: Retired; step 0: Ran x2; \
+    step 0: Closed(Serial); ask 0: Granted; step 0: Closed(Serial); ask 0: Granted
+# stores of both: The younger chunk loads its own bytes over the older's, and these over what is in memory.
+machine depth 2
+order-size stores-in-parts
+log 444C524E 01000000 64000000 04000000 04000000 0000 04000000 0200 0200 0400 0000 00000000 00000000 00000000
+commits 0:2 0:2 0:4 0:0
+loads 100=AB01 100=ABAB01
+events step 0: Ran x2; cut 0: Closed(Cut); ask 0: Granted; drain 0: Drained; retire 0: Retired; step 0: Ran x2; \
+    cut 0: Closed(Cut); step 0: Ran x4; step 0: Closed(Serial); ask 0: Granted; ask 0: Denied(0); drain 0: Drained; \
+    retire 0: Retired; ask 0: Granted; step 0: Closed(Serial); drain 0: Drained; retire 0: Retired; ask 0: Granted
+# two buffers: Each of the two chunks has room for one word. The second store overflows the older and begins the \
+    younger, and the third overflows that.
+machine depth 2, buffer 1
+order-size stores-three-words
+log 444C524E 01000000 64000000 02000000 02000000 00 02000000 0100 0100 00000000 00000000 00000000
+commits 0:1 0:1
+events step 0: Ran; step 0: Closed(Overflow); step 0: Ran; step 0: Closed(Overflow); step 0: Waiting; ask 0: Granted; \
+    step 0: Ran x2; step 0: Closed(Serial); ask 0: Denied(0); drain 0: Drained; retire 0: Retired; ask 0: Granted
+finish drain 0: Drained; retire 0: Retired
+# two buffers of a plain sphere: The same in a sphere that isn't recorded.
+machine depth 2, buffer 1
+plain stores-three-words
+commits 0:1 0:1
+events step 0: Ran; step 0: Closed(Overflow); step 0: Ran; step 0: Closed(Overflow); step 0: Waiting; ask 0: Granted; \
+    step 0: Ran x2; step 0: Closed(Serial); ask 0: Denied(0); drain 0: Drained; retire 0: Retired; ask 0: Granted
+finish drain 0: Drained; retire 0: Retired
+# interrupt: An interrupt is raised over two chunks: both are gone, and the handler runs.
+machine depth 2
+order-size handles-and-returns
+log 444C524E 01000000 64000000 06000000 06000000 000000 06000000 0200 0000 0100 0100 0000 0100 01000000 \
+    000300000005000000 00000000 00000000
+commits 0:2 0:0 0:1 0:1 0:0 0:1
+events step 0: Ran x2; step 0: Closed(Serial); ask 0: Granted; step 0: Closed(Serial); ask 0: Granted; step 0: Ran; \
+    cut 0: Closed(Cut); ask 0: Granted; step 0: Ran; cut 0: Closed(Cut); step 0: Ran; raise 0 0 5: Raised; \
+    ask 0: NotClosed; step 0: Ran; step 0: Closed(Serial); ask 0: Granted; step 0: Closed(Serial); ask 0: Granted; \
+    step 0: Ran; cut 0: Closed(Cut); ask 0: Granted
+# interrupt of the log: Its replay: the commit that the interrupt comes with is granted, and the younger chunk after \
+    it is gone.
+machine depth 2
+replay handles-and-returns
+log 444C524E 01000000 64000000 06000000 06000000 000000 06000000 0200 0000 0100 0100 0000 0100 01000000 \
+    000300000005000000 00000000 00000000
+end Complete(6)
+commits 0:2 0:0 0:1 0:1 0:0 0:1
+events step 0: Ran; step 0: Closed(Limit); step 0: Closed(Serial); ask 0: Granted; step 0: Waiting; ask 0: Granted; \
+    step 0: Closed(Limit) x2; ask 0: Granted; step 0: Closed(Limit); step 0: Closed(Serial); cut 0: Waiting
+finish ask 0: Granted x2; step 0: Closed(Limit); ask 0: Granted
+# another placed: Another thread is placed on a core with two chunks: both are gone.
+machine depth 2
+order-size race
+log 444C524E 01000000 64000000 02000000 02000000 00 02000000 0300 0000 00000000 00000000 00000000
+commits 0:3 0:0
+events step 0: Ran x3; step 0: Closed(Serial); ask 0: Granted; step 0: Closed(Serial); ask 0: Granted; step 0: Ran; \
+    cut 0: Closed(Cut); step 0: Ran; place 0 0 1: Placed; ask 0: NotClosed; step 0: Ran x2
+# none after a piece: In a replay a chunk that is cut or overflows is a piece of a commit, and no younger one follows \
+    it.
+machine depth 2, buffer 1
+replay reserves
+log 444C524E 01010000 64000000 02000000 02000000 00 00000000*4
+end Complete(2)
+commits 0:5 0:0
+loads 104=0
+events step 0: Ran; cut 0: Closed(Cut); step 0: Waiting; cut 0: Waiting; ask 0: Piece; step 0: Ran x2; \
+    step 0: Closed(Overflow); step 0: Waiting; ask 0: Piece
+finish drain 0: Drained; retire 0: Retired; step 0: Ran x2; step 0: Closed(Serial); ask 0: Granted; drain 0: Drained; \
+    retire 0: Retired; step 0: Closed(Serial); ask 0: Granted
+# size of the next commit: In a replay the younger chunk has the size of the commit after the older's: they run 1 and \
+    2 instructions.
+machine depth 2
+replay sets-registers
+log 444C524E 01000000 64000000 04000000 04000000 0000 04000000 0100 0200 0100 0000 00000000 00000000 00000000
+end Complete(4)
+commits 0:1 0:2 0:1 0:0
+events step 0: Closed(Limit); step 0: Ran; step 0: Closed(Limit); step 0: Waiting x2; ask 0: Granted; \
+    step 0: Closed(Limit); step 0: Waiting; ask 0: Granted
+finish ask 0: Granted; step 0: Closed(Serial); ask 0: Granted
+# two threads: Two threads store to words of one line and load them, each with two chunks: the second thread's \
+    younger is squashed alone, and later its older.
+machine cores 2, depth 2
+order-size shares-words
+log 444C524E 01000000 64000000 0A000000 0A000000 0010101100 0A000000 0300 0000 0200 0100 0300 0300 0200 0000 0100 \
+    0000 00000000 00000000 00000000
+commits 0:3 0:0 0:2 1:1 0:3 1:3 1:2 1:0 0:1 0:0
+loads 100=1 104=0 100=1
+events step 0: Ran x3; step 0: Closed(Serial); ask 0: Granted; step 0: Closed(Serial); ask 0: Granted; \
+    place 1 0 1: Placed; step 1: Ran; cut 1: Closed(Cut); step 1: Ran x3; cut 1: Closed(Cut); step 0: Ran x2; \
+    cut 0: Closed(Cut); step 0: Ran x3; cut 0: Closed(Cut); ask 0: Granted; drain 0: Drained x2; \
+    deliver 1 0: Squashed; retire 0: Retired; ask 1: Granted; step 1: Ran x3; cut 1: Closed(Cut); ask 0: Granted; \
+    drain 0: Drained; deliver 1 0: Squashed; retire 0: Retired; step 1: Ran x3; cut 1: Closed(Cut); step 1: Ran x2; \
+    step 1: Closed(Serial); ask 1: Granted; drain 0: Drained x2; deliver 0 0: Delivered; retire 0: Retired; \
+    ask 1: Granted; step 1: Closed(Serial); ask 1: Granted; step 0: Ran; step 0: Closed(Serial); ask 0: Granted; \
+    step 0: Closed(Serial); ask 0: Granted
+# two threads on eight cores: What they did, replayed on eight cores through buffers of one word: commits are done in \
+    pieces, no younger chunk follows a piece, and a younger that overflows becomes a piece once it is the older.
+machine cores 8, depth 2, buffer 1
+replay shares-words
+log 444C524E 01000000 64000000 0A000000 0A000000 0010101100 0A000000 0300 0000 0200 0100 0300 0300 0200 0000 0100 \
+    0000 00000000 00000000 00000000
+end Complete(10)
+commits 0:3 0:0 0:2 1:1 0:3 1:3 1:2 1:0 0:1 0:0
+loads 100=1 104=0 100=1
+events step 0: Ran x2; step 0: Closed(Limit); step 0: Closed(Serial); step 0: Waiting; ask 0: Granted x2; \
+    place 7 0 1: Placed; step 7: Closed(Limit); step 7: Ran; step 7: Closed(Overflow); step 7: Waiting; step 0: Ran; \
+    step 0: Closed(Overflow); step 0: Waiting; ask 0: Piece; drain 0: Drained; deliver 7 0: Squashed; \
+    deliver 1 0: Delivered; deliver 2 0: Delivered; deliver 3 0: Delivered; deliver 4 0: Delivered; \
+    deliver 5 0: Delivered; deliver 6 0: Delivered; retire 0: Retired; step 0: Closed(Limit); step 0: Ran x2; \
+    step 0: Closed(Limit); step 0: Waiting; ask 0: Granted; drain 0: Drained; deliver 1 0: Delivered; \
+    deliver 2 0: Delivered; deliver 3 0: Delivered; deliver 4 0: Delivered; deliver 5 0: Delivered; \
+    deliver 6 0: Delivered; deliver 7 0: Delivered; retire 0: Retired; step 7: Ran; step 7: Closed(Overflow); \
+    ask 7: Granted; ask 0: Granted; drain 0: Drained; deliver 1 0: Delivered; deliver 2 0: Delivered; \
+    deliver 3 0: Delivered; deliver 4 0: Delivered; deliver 5 0: Delivered; deliver 6 0: Delivered; \
+    deliver 7 0: Delivered; retire 0: Retired; ask 7: Piece; step 7: Ran; step 7: Bounced(0); drain 0: Drained; \
+    deliver 0 0: Delivered; deliver 1 0: Delivered; deliver 2 0: Delivered; deliver 3 0: Delivered; \
+    deliver 4 0: Delivered; deliver 5 0: Delivered; deliver 6 0: Delivered; retire 0: Retired; step 7: Closed(Limit); \
+    step 7: Ran; step 7: Closed(Limit); ask 7: Granted; drain 0: Drained; deliver 0 0: Delivered; \
+    deliver 1 0: Delivered; deliver 2 0: Delivered; deliver 3 0: Delivered; deliver 4 0: Delivered; \
+    deliver 5 0: Delivered; deliver 6 0: Delivered; retire 0: Retired; step 7: Closed(Serial); step 7: Waiting; \
+    ask 7: Granted
+finish ask 7: Granted; step 0: Closed(Limit); ask 0: Granted; step 0: Closed(Serial); ask 0: Granted";
