@@ -5,6 +5,7 @@ mod inputs;
 mod modes;
 mod recording;
 mod replaying;
+mod short;
 mod spheres;
 mod strata;
 mod tails;

@@ -2,6 +2,7 @@
 ghost use Rattle.std.specs.Prelude.{◌<◌, length};
 ghost use Rattle.spec_isa.specs.Threads.{IsThread};
 
+use super::short::file;
 use dl_dev::Devices;
 use dl_entry::{Bytes, Input, MOST_THREADS, OutOfMemory, PLAIN_THREADS, Request};
 use dl_kernel::{Injected, inject, outside_call, sphere_call};
@@ -10,16 +11,8 @@ use dl_thread::{Parts, Thread, ThreadStatus, Threads};
 use std::alloc::Global;
 use std::test::Fail;
 
-// A file whose code is `ecall`, `lw x6, 0(x5)`, `lw x6, 4(x5)` and `nop`.
-const FILE: &[u8] = &[
-    0x7f, 0x45, 0x4c, 0x46, 0x01, 0x01, 0x01, 0x00, 0x00, 0x00, 0x00, 0x00, 0x00, 0x00, 0x00, 0x00,
-    0x02, 0x00, 0xf3, 0x00, 0x01, 0x00, 0x00, 0x00, 0x00, 0x00, 0x00, 0x00, 0x34, 0x00, 0x00, 0x00,
-    0x00, 0x00, 0x00, 0x00, 0x00, 0x00, 0x00, 0x00, 0x34, 0x00, 0x20, 0x00, 0x01, 0x00, 0x00, 0x00,
-    0x00, 0x00, 0x00, 0x00, 0x01, 0x00, 0x00, 0x00, 0x54, 0x00, 0x00, 0x00, 0x00, 0x00, 0x00, 0x00,
-    0x00, 0x00, 0x00, 0x00, 0x10, 0x00, 0x00, 0x00, 0x10, 0x00, 0x00, 0x00, 0x07, 0x00, 0x00, 0x00,
-    0x04, 0x00, 0x00, 0x00, 0x73, 0x00, 0x00, 0x00, 0x03, 0xa3, 0x02, 0x00, 0x03, 0xa3, 0x42, 0x00,
-    0x13, 0x00, 0x00, 0x00,
-];
+// `ecall`, `lw x6, 0(x5)`, `lw x6, 4(x5)` and `nop`.
+const CODE: &str = "00000073 0002A303 0042A303 00000013";
 
 // The results that aren't numbers.
 const UNKNOWN_CALL: u32 = 0xFFFF_FFFF;
@@ -32,8 +25,8 @@ const REFUSED: u32 = 0xFFFF_FFFC;
 
 const MOMENT: u32 = 0x8000_0005;
 
-fn memory(alloc: Global, file: &[u8]) -> Result<Memory, Fail> {
-    let image = dl_elf::load(alloc, file, 4096)?;
+fn memory(alloc: Global, code: &str) -> Result<Memory, Fail> {
+    let image = dl_elf::load(alloc, &file(alloc, code)?, 4096)?;
     Ok(Memory::new(alloc, &image)?)
 }
 
@@ -187,7 +180,7 @@ fn a_dma_of_more_than_4096_bytes_is_cut(rt: HostRuntime) {
 
 #[test]
 fn devices_answer_in_turn(rt: HostRuntime) -> Result<(), Fail> {
-    let memory = memory(rt.alloc(), FILE)?;
+    let memory = memory(rt.alloc(), CODE)?;
     let mut devices = Devices::new(rt.alloc(), b"AB", 7)?;
     for (at, call, expected) in ANSWERS {
         let thread = Thread::from_parts(&caller(*at, *call));
@@ -257,7 +250,7 @@ const ANSWERS: &[(u8, [u32; 4], Option<Record>)] = &[
 
 #[test]
 fn records_fit_or_do_not(rt: HostRuntime) -> Result<(), Fail> {
-    let memory = memory(rt.alloc(), FILE)?;
+    let memory = memory(rt.alloc(), CODE)?;
     for (at, call, record, does_fit) in RECORDS {
         let thread = Thread::from_parts(&caller(*at, *call));
         let input = input(rt.alloc(), *record)?;

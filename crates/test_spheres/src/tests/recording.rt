@@ -4,6 +4,7 @@ ghost use Rattle.dl_entry.specs.Numbers.{plain_threads};
 ghost use Rattle.spec_log.specs.Log.{IsActor, IsInput, AreFewBytes, input_kinds};
 ghost use Rattle.dl_record.specs.Recording.{CanCommit};
 
+use super::short::bytes;
 use dl_entry::{Actor, Bytes, Commit, CommitKind, Input, Loads, OutOfMemory, Outputs};
 use dl_logfmt::write_log;
 use dl_mode::{Noting, OrderAndSize, OrderOnly, PicoLog};
@@ -17,7 +18,7 @@ use std::test::Fail;
 fn recordings_have_their_bytes(rt: HostRuntime) -> Result<(), Fail> {
     for row in ROWS {
         let log = logged(&rt, rt.alloc(), row)?;
-        assert!(rt; log.as_slice() == row.log);
+        assert!(rt; log.as_slice() == bytes(rt.alloc(), row.log)?.as_slice());
     }
     Ok(())
 }
@@ -48,7 +49,7 @@ struct Row {
     s: u32,
     steps: &'static [Step],
     interrupt: Option<(u8, u32, u32)>,
-    log: &'static [u8],
+    log: &'static str,
 }
 
 /// The bytes of a recording's log. A step that no recorder would take fails.
@@ -204,36 +205,21 @@ const ROWS: &[Row] = &[
         s: 100,
         steps: EXITS,
         interrupt: None,
-        log: b"\x44\x4C\x52\x4E\x01\x00\x00\x00\x64\x00\x00\x00\x02\x00\x00\x00\
-          \x02\x00\x00\x00\x00\
-          \x02\x00\x00\x00\x02\x00\x00\x00\
-          \x00\x00\x00\x00\
-          \x00\x00\x00\x00\
-          \x00\x00\x00\x00",
+        log: "444C524E 01000000 64000000 02000000 02000000 00 02000000 0200 0000 00000000 00000000 00000000",
     },
     Row {
         mode: ModeName::OrderOnly,
         s: 100,
         steps: EXITS,
         interrupt: None,
-        log: b"\x44\x4C\x52\x4E\x01\x01\x00\x00\x64\x00\x00\x00\x02\x00\x00\x00\
-          \x02\x00\x00\x00\x00\
-          \x00\x00\x00\x00\
-          \x00\x00\x00\x00\
-          \x00\x00\x00\x00\
-          \x00\x00\x00\x00",
+        log: "444C524E 01010000 64000000 02000000 02000000 00 00000000*4",
     },
     Row {
         mode: ModeName::Picolog,
         s: 100,
         steps: EXITS,
         interrupt: None,
-        log: b"\x44\x4C\x52\x4E\x01\x02\x00\x00\x64\x00\x00\x00\x02\x00\x00\x00\
-          \x00\x00\x00\x00\
-          \x00\x00\x00\x00\
-          \x00\x00\x00\x00\
-          \x00\x00\x00\x00\
-          \x00\x00\x00\x00",
+        log: "444C524E 01020000 64000000 02000000 00000000*5",
     },
     // The first chunk was closed after three instructions.
     Row {
@@ -245,12 +231,7 @@ const ROWS: &[Row] = &[
             (0, 0, false, Record::No),
         ],
         interrupt: None,
-        log: b"\x44\x4C\x52\x4E\x01\x01\x00\x00\x64\x00\x00\x00\x03\x00\x00\x00\
-          \x03\x00\x00\x00\x00\x00\
-          \x01\x00\x00\x00\x00\x00\x00\x00\x00\x03\x00\
-          \x00\x00\x00\x00\
-          \x00\x00\x00\x00\
-          \x00\x00\x00\x00",
+        log: "444C524E 01010000 64000000 03000000 03000000 0000 01000000 00000000000300 00000000 00000000 00000000",
     },
     // Two threads with chunks that were closed early.
     Row {
@@ -266,13 +247,8 @@ const ROWS: &[Row] = &[
             (0, 8, true, Record::No),
         ],
         interrupt: None,
-        log: b"\x44\x4C\x52\x4E\x01\x01\x00\x00\x10\x00\x00\x00\x07\x00\x00\x00\
-          \x07\x00\x00\x00\x00\x11\x11\x00\
-          \x05\x00\x00\x00\x00\x02\x00\x00\x00\x08\x00\
-          \x01\x00\x00\x00\x00\x02\x00\x01\x01\x00\x00\x00\x02\x00\x01\x02\x00\x00\x00\x02\x00\x01\x03\x00\x00\x00\x02\x00\
-          \x00\x00\x00\x00\
-          \x00\x00\x00\x00\
-          \x00\x00\x00\x00",
+        log: "444C524E 01010000 10000000 07000000 07000000 00111100 05000000 00020000000800 01000000000200 \
+             01010000000200 01020000000200 01030000000200 00000000 00000000 00000000",
     },
     // Two bytes are read from a pipe.
     Row {
@@ -285,12 +261,8 @@ const ROWS: &[Row] = &[
             (0, 0, false, Record::No),
         ],
         interrupt: None,
-        log: b"\x44\x4C\x52\x4E\x01\x00\x00\x00\x64\x00\x00\x00\x04\x00\x00\x00\
-          \x04\x00\x00\x00\x00\x00\
-          \x04\x00\x00\x00\x03\x00\x00\x00\x02\x00\x00\x00\
-          \x00\x00\x00\x00\
-          \x01\x00\x00\x00\x03\x02\x00\x00\x00\x02\x00\x93\x08\
-          \x00\x00\x00\x00",
+        log: "444C524E 01000000 64000000 04000000 04000000 0000 04000000 0300 0000 0200 0000 00000000 01000000 \
+             030200000002009308 00000000",
     },
     // A DMA is the third commit.
     Row {
@@ -304,12 +276,7 @@ const ROWS: &[Row] = &[
             (0, 0, false, Record::No),
         ],
         interrupt: None,
-        log: b"\x44\x4C\x52\x4E\x01\x02\x00\x00\x64\x00\x00\x00\x05\x00\x00\x00\
-          \x00\x00\x00\x00\
-          \x00\x00\x00\x00\
-          \x00\x00\x00\x00\
-          \x00\x00\x00\x00\
-          \x01\x00\x00\x00\x02\x00\x00\x00\x02\x00\x41\x42",
+        log: "444C524E 01020000 64000000 05000000 00000000*4 01000000 0200000002004142",
     },
     // An interrupt comes after two commits.
     Row {
@@ -317,12 +284,8 @@ const ROWS: &[Row] = &[
         s: 100,
         steps: EXITS,
         interrupt: Some((0, 2, 5)),
-        log: b"\x44\x4C\x52\x4E\x01\x00\x00\x00\x64\x00\x00\x00\x02\x00\x00\x00\
-          \x02\x00\x00\x00\x00\
-          \x02\x00\x00\x00\x02\x00\x00\x00\
-          \x01\x00\x00\x00\x00\x02\x00\x00\x00\x05\x00\x00\x00\
-          \x00\x00\x00\x00\
-          \x00\x00\x00\x00",
+        log: "444C524E 01000000 64000000 02000000 02000000 00 02000000 0200 0000 01000000 000200000005000000 00000000 \
+             00000000",
     },
     // The two device words that can be read.
     Row {
@@ -336,12 +299,8 @@ const ROWS: &[Row] = &[
             (0, 0, false, Record::No),
         ],
         interrupt: None,
-        log: b"\x44\x4C\x52\x4E\x01\x00\x00\x00\x64\x00\x00\x00\x05\x00\x00\x00\
-          \x05\x00\x00\x00\x00\x00\x00\
-          \x05\x00\x00\x00\x01\x00\x00\x00\x00\x00\x00\x00\x00\x00\
-          \x00\x00\x00\x00\
-          \x02\x00\x00\x00\x10\x04\x00\x00\x00\x00\x00\x11\x41\x00\x00\x00\x00\x00\
-          \x00\x00\x00\x00",
+        log: "444C524E 01000000 64000000 05000000 05000000 000000 05000000 0100 0000*4 00000000 02000000 \
+             10040000000000 11410000000000 00000000",
     },
 ];
 

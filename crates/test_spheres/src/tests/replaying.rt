@@ -5,6 +5,7 @@ ghost use Rattle.spec_play.specs.Turns.{Turn};
 ghost use Rattle.dl_replay.specs.Replays.{IsReplaying};
 ghost use Rattle.test_spheres.specs.Replaying.{IsFirst};
 
+use super::short::{bytes, file};
 use dl_entry::{Actor, End, OutOfMemory, Why};
 use dl_kernel::State;
 use dl_logfmt::read_log;
@@ -16,20 +17,13 @@ use spec_log::{Log, ModeName};
 use std::alloc::Global;
 use std::test::Fail;
 
-// A file whose code is `ecall`.
-const FILE: &[u8] = &[
-    0x7f, 0x45, 0x4c, 0x46, 0x01, 0x01, 0x01, 0x00, 0x00, 0x00, 0x00, 0x00, 0x00, 0x00, 0x00, 0x00,
-    0x02, 0x00, 0xf3, 0x00, 0x01, 0x00, 0x00, 0x00, 0x00, 0x00, 0x00, 0x00, 0x34, 0x00, 0x00, 0x00,
-    0x00, 0x00, 0x00, 0x00, 0x00, 0x00, 0x00, 0x00, 0x34, 0x00, 0x20, 0x00, 0x01, 0x00, 0x00, 0x00,
-    0x00, 0x00, 0x00, 0x00, 0x01, 0x00, 0x00, 0x00, 0x54, 0x00, 0x00, 0x00, 0x00, 0x00, 0x00, 0x00,
-    0x00, 0x00, 0x00, 0x00, 0x04, 0x00, 0x00, 0x00, 0x04, 0x00, 0x00, 0x00, 0x07, 0x00, 0x00, 0x00,
-    0x04, 0x00, 0x00, 0x00, 0x73, 0x00, 0x00, 0x00,
-];
+// `ecall`.
+const CODE: &str = "00000073";
 
-/// The bytes of a log, what its first actor asks, and the end.
+/// A log, what its first actor asks, and the end.
 #[derive(Clone, Copy)]
 struct Row {
-    log: &'static [u8],
+    log: &'static str,
     total: u32,
     serial: bool,
     end: End,
@@ -37,7 +31,7 @@ struct Row {
 
 #[test]
 fn replays_end_where_they_leave_their_logs(rt: HostRuntime) -> Result<(), Fail> {
-    let start = start(rt.alloc(), FILE)?;
+    let start = start(rt.alloc(), &file(rt.alloc(), CODE)?)?;
     for row in ROWS {
         let end = ended(rt.alloc(), row, &start)?;
         assert!(rt; end == Some(row.end));
@@ -55,7 +49,7 @@ fn start(alloc: Global, file: &[u8]) -> Result<State, Fail>
 fn ended(alloc: Global, row: &Row, start: &State) -> Result<Option<End>, Fail>
     requires { IsFirst start.now }
 {
-    let log = read_log(alloc, row.log)?;
+    let log = read_log(alloc, &bytes(alloc, row.log)?)?;
     match log.parts().mode {
         ModeName::OrderSize => ended_in::<OrderAndSize>(alloc, &log, row, start),
         ModeName::OrderOnly => ended_in::<OrderOnly>(alloc, &log, row, start),
@@ -111,109 +105,75 @@ fn ask<M: Noting>(
 const ROWS: &[Row] = &[
     // A chunk of two instructions is logged.
     Row {
-        log: b"\x44\x4C\x52\x4E\x01\x00\x00\x00\x64\x00\x00\x00\x01\x00\x00\x00\
-          \x01\x00\x00\x00\x00\
-          \x01\x00\x00\x00\x02\x00\
-          \x00\x00\x00\x00\x00\x00\x00\x00\x00\x00\x00\x00",
+        log: "444C524E 01000000 64000000 01000000 01000000 00 01000000 0200 00000000 00000000 00000000",
         total: 2,
         serial: true,
         end: End::Complete(1),
     },
     Row {
-        log: b"\x44\x4C\x52\x4E\x01\x01\x00\x00\x64\x00\x00\x00\x01\x00\x00\x00\
-          \x01\x00\x00\x00\x00\
-          \x01\x00\x00\x00\x00\x00\x00\x00\x00\x02\x00\
-          \x00\x00\x00\x00\x00\x00\x00\x00\x00\x00\x00\x00",
+        log: "444C524E 01010000 64000000 01000000 01000000 00 01000000 00000000000200 00000000 00000000 00000000",
         total: 2,
         serial: false,
         end: End::Complete(1),
     },
     Row {
-        log: b"\x44\x4C\x52\x4E\x01\x02\x00\x00\x64\x00\x00\x00\x01\x00\x00\x00\
-          \x00\x00\x00\x00\x00\x00\x00\x00\
-          \x00\x00\x00\x00\x00\x00\x00\x00\x00\x00\x00\x00",
+        log: "444C524E 01020000 64000000 01000000 00000000*5",
         total: 2,
         serial: true,
         end: End::Complete(1),
     },
     // Thread 5 is logged.
     Row {
-        log: b"\x44\x4C\x52\x4E\x01\x00\x00\x00\x64\x00\x00\x00\x01\x00\x00\x00\
-          \x01\x00\x00\x00\x05\
-          \x01\x00\x00\x00\x02\x00\
-          \x00\x00\x00\x00\x00\x00\x00\x00\x00\x00\x00\x00",
+        log: "444C524E 01000000 64000000 01000000 01000000 05 01000000 0200 00000000 00000000 00000000",
         total: 2,
         serial: true,
         end: End::Diverged(0, Why::NoThread),
     },
     // Three instructions are logged.
     Row {
-        log: b"\x44\x4C\x52\x4E\x01\x00\x00\x00\x64\x00\x00\x00\x01\x00\x00\x00\
-          \x01\x00\x00\x00\x00\
-          \x01\x00\x00\x00\x03\x00\
-          \x00\x00\x00\x00\x00\x00\x00\x00\x00\x00\x00\x00",
+        log: "444C524E 01000000 64000000 01000000 01000000 00 01000000 0300 00000000 00000000 00000000",
         total: 2,
         serial: true,
         end: End::Diverged(0, Why::Short(3, 2)),
     },
     // A serial step is logged: in the first row there is a chunk, and in the second a serial step.
     Row {
-        log: b"\x44\x4C\x52\x4E\x01\x00\x00\x00\x64\x00\x00\x00\x01\x00\x00\x00\
-          \x01\x00\x00\x00\x00\
-          \x01\x00\x00\x00\x00\x00\
-          \x00\x00\x00\x00\x00\x00\x00\x00\x00\x00\x00\x00",
+        log: "444C524E 01000000 64000000 01000000 01000000 00 01000000 0000 00000000 00000000 00000000",
         total: 1,
         serial: false,
         end: End::Diverged(0, Why::NotSerial),
     },
     Row {
-        log: b"\x44\x4C\x52\x4E\x01\x00\x00\x00\x64\x00\x00\x00\x01\x00\x00\x00\
-          \x01\x00\x00\x00\x00\
-          \x01\x00\x00\x00\x00\x00\
-          \x00\x00\x00\x00\x00\x00\x00\x00\x00\x00\x00\x00",
+        log: "444C524E 01000000 64000000 01000000 01000000 00 01000000 0000 00000000 00000000 00000000",
         total: 0,
         serial: true,
         end: End::Complete(1),
     },
     // An interrupt is logged after it, for a thread without a handler.
     Row {
-        log: b"\x44\x4C\x52\x4E\x01\x00\x00\x00\x64\x00\x00\x00\x01\x00\x00\x00\
-          \x01\x00\x00\x00\x00\
-          \x01\x00\x00\x00\x02\x00\
-          \x01\x00\x00\x00\x00\x01\x00\x00\x00\x05\x00\x00\x00\
-          \x00\x00\x00\x00\x00\x00\x00\x00",
+        log: "444C524E 01000000 64000000 01000000 01000000 00 01000000 0200 01000000 000100000005000000 00000000 \
+             00000000",
         total: 2,
         serial: true,
         end: End::Diverged(0, Why::Interrupt),
     },
     // A DMA is logged, and none is asked for.
     Row {
-        log: b"\x44\x4C\x52\x4E\x01\x01\x00\x00\x64\x00\x00\x00\x01\x00\x00\x00\
-          \x01\x00\x00\x00\x0F\
-          \x00\x00\x00\x00\
-          \x00\x00\x00\x00\x00\x00\x00\x00\
-          \x01\x00\x00\x00\x00\x00\x00\x00\x02\x00\x41\x42",
+        log: "444C524E 01010000 64000000 01000000 01000000 0F 00000000 00000000 00000000 01000000 0000000002004142",
         total: 0,
         serial: false,
         end: End::Diverged(0, Why::Dma),
     },
     // A size is logged, and the step is serial.
     Row {
-        log: b"\x44\x4C\x52\x4E\x01\x00\x00\x00\x64\x00\x00\x00\x01\x00\x00\x00\
-          \x01\x00\x00\x00\x00\
-          \x01\x00\x00\x00\x02\x00\
-          \x00\x00\x00\x00\x00\x00\x00\x00\x00\x00\x00\x00",
+        log: "444C524E 01000000 64000000 01000000 01000000 00 01000000 0200 00000000 00000000 00000000",
         total: 0,
         serial: true,
         end: End::Diverged(0, Why::SizeOfSerial(2)),
     },
     // An input is logged that nothing takes.
     Row {
-        log: b"\x44\x4C\x52\x4E\x01\x02\x00\x00\x64\x00\x00\x00\x01\x00\x00\x00\
-          \x00\x00\x00\x00\x00\x00\x00\x00\
-          \x00\x00\x00\x00\
-          \x01\x00\x00\x00\x05\x00\x00\x00\x00\x00\x00\
-          \x00\x00\x00\x00",
+        log: "444C524E 01020000 64000000 01000000 00000000 00000000 00000000 01000000 05000000000000 00000000",
         total: 2,
         serial: true,
         end: End::Diverged(1, Why::LeftOver),

@@ -6,6 +6,7 @@ ghost use Rattle.dl_sphere.specs.Setups.{IsRecordableIf, begun_as, role_setup, s
 mod beginnings;
 mod moves;
 
+use super::short::{bytes, file};
 use dl_logfmt::read_log;
 use dl_sphere::{Epochs, Replay, Role, Sphere, SphereSetup};
 use spec_log::ModeName;
@@ -18,15 +19,15 @@ enum Begins {
     Recorded(ModeName),
     /// In epochs of two commits, of which the last is kept.
     InEpochs(ModeName),
-    Replayed(&'static [u8]),
+    Replayed(&'static str),
 }
 
 #[tactic(auto, using(dl_sphere::proofs::Standing::Start::unless_begun))]
-fn begin(alloc: Global, file: &[u8], begins: Begins, s: u32) -> Result<Sphere, Fail>
+fn begin(alloc: Global, code: &str, begins: Begins, s: u32) -> Result<Sphere, Fail>
     requires { IsStandard 1 s }
     ensures { IfOk result (λ p. length p.sphere.threads ≡ 1) }
 {
-    let image = dl_elf::load(alloc, file, 4096)?;
+    let image = dl_elf::load(alloc, &file(alloc, code)?, 4096)?;
     let role = role(alloc, begins)?;
     let setup = SphereSetup { image, role };
     let sphere = Sphere::new(alloc, &setup, s);
@@ -51,8 +52,8 @@ fn role(alloc: Global, begins: Begins) -> Result<Role, Fail>
             mode,
             epochs: Some(Epochs { size: 2, keep: 1 }),
         }),
-        Begins::Replayed(bytes) => Ok(Role::Replay(Replay::Log {
-            log: read_log(alloc, bytes)?,
+        Begins::Replayed(log) => Ok(Role::Replay(Replay::Log {
+            log: read_log(alloc, &bytes(alloc, log)?)?,
             begun: None,
         })),
     }

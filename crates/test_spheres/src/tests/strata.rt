@@ -1,5 +1,6 @@
 //! Strata that worked logs are cut into, and strata checked on images.
-use crate::tests::trails::{FILE, LOG};
+use super::short::{bytes, file};
+use super::trails::{CODE, LOG};
 use dl_elf::Image;
 use dl_entry::Why;
 use dl_logfmt::read_log;
@@ -7,35 +8,30 @@ use dl_strata::{CheckError, Log, Stratified, check_strata, read_strata, stratify
 use std::alloc::Global;
 use std::test::Fail;
 
-/// The code of an image, the bytes of a log of it, and those of the strata that it is cut into.
-struct Cut {
-    code: &'static [u8],
-    log: &'static [u8],
-    strata: &'static [u8],
-}
+/// The code of an image, a log of it, and the strata that it is cut into.
+type Cut = (&'static str, &'static str, &'static str);
 
-/// The code of an image, the bytes of strata, and what their check on the image answers.
-struct Check {
-    code: &'static [u8],
-    strata: &'static [u8],
-    error: Option<CheckError>,
-}
+/// The code of an image, strata, and what their check on the image answers.
+type Check = (&'static str, &'static str, Option<CheckError>);
 
 #[test]
 fn logs_are_cut_where_chunks_conflict(rt: HostRuntime) -> Result<(), Fail> {
-    for row in CUTS {
-        let image = image(rt.alloc(), row.code)?;
-        let log = read_log(rt.alloc(), row.log)?;
+    for (i, (code, log, want)) in CUTS.iter().enumerate() {
+        let image = image(rt.alloc(), code)?;
+        let log = read_log(rt.alloc(), &bytes(rt.alloc(), log)?)?;
         let strata = cut_of(rt.alloc(), &image, &log)?;
-        assert!(rt; strata.as_slice() == row.strata);
+        assert!(rt;
+            strata.as_slice() == bytes(rt.alloc(), want)?.as_slice(),
+            "{i}"
+        );
     }
     Ok(())
 }
 
 #[test]
 fn a_log_that_diverges_is_not_cut(rt: HostRuntime) -> Result<(), Fail> {
-    let image = dl_elf::load(rt.alloc(), FILE, 4096)?;
-    let log = read_log(rt.alloc(), LOG)?;
+    let image = dl_elf::load(rt.alloc(), &file(rt.alloc(), CODE)?, 4096)?;
+    let log = read_log(rt.alloc(), &bytes(rt.alloc(), LOG)?)?;
     let stratified = stratify(rt.alloc(), &image, &log)?;
     assert!(rt; matches!(&stratified, Stratified::Diverged(3, Why::Short(3, 2))));
     Ok(())
@@ -43,11 +39,11 @@ fn a_log_that_diverges_is_not_cut(rt: HostRuntime) -> Result<(), Fail> {
 
 #[test]
 fn the_first_commit_that_is_wrong_is_named(rt: HostRuntime) -> Result<(), Fail> {
-    for (i, row) in CHECKS.iter().enumerate() {
-        let image = image(rt.alloc(), row.code)?;
-        let strata = read_strata(rt.alloc(), row.strata)?;
+    for (i, (code, strata, error)) in CHECKS.iter().enumerate() {
+        let image = image(rt.alloc(), code)?;
+        let strata = read_strata(rt.alloc(), &bytes(rt.alloc(), strata)?)?;
         assert!(rt;
-            check_strata(rt.alloc(), &image, &strata).err() == row.error,
+            check_strata(rt.alloc(), &image, &strata).err() == *error,
             "{i}"
         );
     }
@@ -62,203 +58,97 @@ fn cut_of(alloc: Global, image: &Image, log: &Log) -> Result<Vec<u8>, Fail> {
     }
 }
 
-// An image in 12,288 bytes of memory, with the header of `FILE`.
-fn image(alloc: Global, code: &[u8]) -> Result<Image, Fail> {
-    let mut file = Vec::new(alloc);
-    file.extend_from_slice(&FILE[..84])?;
-    file.extend_from_slice(code)?;
-    Ok(dl_elf::load(alloc, &file, 12288)?)
+// An image in 12,288 bytes of memory.
+fn image(alloc: Global, code: &str) -> Result<Image, Fail> {
+    Ok(dl_elf::load(alloc, &file(alloc, code)?, 12288)?)
 }
 
 // Codes. Thread 0 spawns a thread. It loads the word at 256, and the other stores to it, or to another word; or it loads
 // nothing, and the other stores over its `ecall`.
-const RACE: &[u8] = b"\x93\x08\x10\x00\x13\x05\x00\x02\x13\x06\x00\x00\x73\x00\x00\x00\
-  \x83\x22\x00\x10\x93\x08\x00\x00\x73\x00\x00\x00\x13\x00\x00\x00\
-  \x13\x03\x90\x00\x23\x20\x60\x10\x93\x08\x00\x00\x73\x00\x00\x00";
+const RACE: &str =
+    "00100893 02000513 00000613 00000073 10002283 00000893 00000073 00000013 00900313 10602023 00000893 \
+     00000073";
 
-const NO_RACE: &[u8] = b"\x93\x08\x10\x00\x13\x05\x00\x02\x13\x06\x00\x00\x73\x00\x00\x00\
-  \x83\x22\x00\x10\x93\x08\x00\x00\x73\x00\x00\x00\x13\x00\x00\x00\
-  \x37\x23\x00\x00\x23\x20\x63\x50\x93\x08\x00\x00\x73\x00\x00\x00";
+const NO_RACE: &str =
+    "00100893 02000513 00000613 00000073 10002283 00000893 00000073 00000013 00002337 50632023 00000893 \
+     00000073";
 
-const STORES_CODE: &[u8] = b"\x93\x08\x10\x00\x13\x05\x00\x02\x13\x06\x00\x00\x73\x00\x00\x00\
-  \x93\x02\x10\x00\x93\x08\x00\x00\x73\x00\x00\x00\x13\x00\x00\x00\
-  \x13\x03\x30\x07\x23\x2C\x60\x00\x93\x08\x00\x00\x73\x00\x00\x00";
+const STORES_CODE: &str =
+    "00100893 02000513 00000613 00000073 00100293 00000893 00000073 00000013 07300313 00602C23 00000893 \
+     00000073";
 
 // Logs: of both threads' chunks with their sizes, of which thread 1's is first, or second; and the second without sizes.
-const FIRST: &[u8] = b"\x44\x4C\x52\x4E\x01\x00\x00\x00\x64\x00\x00\x00\x06\x00\x00\x00\
-  \x06\x00\x00\x00\x00\x01\x10\x06\x00\x00\x00\x03\x00\x00\x00\x03\
-  \x00\x02\x00\x00\x00\x00\x00\x00\x00\x00\x00\x00\x00\x00\x00\x00\x00\x00\x00";
+const FIRST: &str =
+    "444C524E 01000000 64000000 06000000 06000000 000110 06000000 0300 0000 0300 0200 0000 0000 00000000 \
+     00000000 00000000";
 
-const SECOND: &[u8] = b"\x44\x4C\x52\x4E\x01\x00\x00\x00\x64\x00\x00\x00\x06\x00\x00\x00\
-  \x06\x00\x00\x00\x00\x10\x10\x06\x00\x00\x00\x03\x00\x00\x00\x02\
-  \x00\x03\x00\x00\x00\x00\x00\x00\x00\x00\x00\x00\x00\x00\x00\x00\x00\x00\x00";
+const SECOND: &str =
+    "444C524E 01000000 64000000 06000000 06000000 001010 06000000 0300 0000 0200 0300 0000 0000 00000000 \
+     00000000 00000000";
 
-const SECOND_UNSIZED: &[u8] = b"\x44\x4C\x52\x4E\x01\x01\x00\x00\x64\x00\x00\x00\x06\x00\x00\x00\
-  \x06\x00\x00\x00\x00\x10\x10\x00\x00\x00\x00\x00\x00\x00\x00\x00\
-  \x00\x00\x00\x00\x00\x00\x00";
+const SECOND_UNSIZED: &str = "444C524E 01010000 64000000 06000000 06000000 001010 00000000*4";
 
 // Strata with both threads' chunks in one, each with its size.
-const TOGETHER: &[u8] = b"\x44\x4C\x52\x53\x01\x02\x0F\x00\x64\x00\x00\x00\x05\x00\x00\x00\
-  \x00\x01\x00\x01\x00\x00\x01\x01\x01\x00\x01\x01\
-  \x03\x00\x00\x00\
-  \x00\x00\x00\x00\x00\x03\x00\x00\x00\
-  \x00\x02\x00\x00\x00\x02\x00\x00\x00\
-  \x01\x00\x00\x00\x00\x03\x00\x00\x00\
-  \x00\x00\x00\x00\
-  \x00\x00\x00\x00\x00\x00\x00\x00";
+const TOGETHER: &str =
+    "444C5253 01020F00 64000000 05000000 000100 0100 000101 0100 0101 03000000 000000000003000000 \
+     000200000002000000 010000000003000000 00000000 00000000 00000000";
 
 // Those of `FIRST` and of `SECOND_UNSIZED`, if they conflict.
-const FIRST_ALONE: &[u8] = b"\x44\x4C\x52\x53\x01\x02\x0F\x00\x64\x00\x00\x00\x06\x00\x00\x00\
-  \x00\x01\x00\x01\x00\x00\x00\x01\x00\x01\x00\x01\x00\x01\x01\
-  \x03\x00\x00\x00\
-  \x00\x00\x00\x00\x00\x03\x00\x00\x00\
-  \x00\x02\x00\x00\x00\x02\x00\x00\x00\
-  \x01\x00\x00\x00\x00\x03\x00\x00\x00\
-  \x00\x00\x00\x00\
-  \x00\x00\x00\x00\x00\x00\x00\x00";
+const FIRST_ALONE: &str =
+    "444C5253 01020F00 64000000 06000000 000100 0100 000001 000100 0100 0101 03000000 000000000003000000 \
+     000200000002000000 010000000003000000 00000000 00000000 00000000";
 
-const SECOND_ALONE: &[u8] = b"\x44\x4C\x52\x53\x01\x02\x0F\x00\x64\x00\x00\x00\x06\x00\x00\x00\
-  \x00\x01\x00\x01\x00\x00\x01\x00\x00\x00\x01\x01\x00\x01\x01\
-  \x00\x00\x00\x00\
-  \x00\x00\x00\x00\
-  \x00\x00\x00\x00\x00\x00\x00\x00";
+const SECOND_ALONE: &str =
+    "444C5253 01020F00 64000000 06000000 000100 0100 000100 000001 0100 0101 00000000 00000000 00000000 \
+     00000000";
 
 // `TOGETHER` without sizes, so that the word of each `ecall` is in the footprint of the chunk before it.
-const UNSIZED: &[u8] = b"\x44\x4C\x52\x53\x01\x02\x0F\x00\x64\x00\x00\x00\x05\x00\x00\x00\
-  \x00\x01\x00\x01\x00\x00\x01\x01\x01\x00\x01\x01\
-  \x00\x00\x00\x00\
-  \x00\x00\x00\x00\
-  \x00\x00\x00\x00\x00\x00\x00\x00";
+const UNSIZED: &str =
+    "444C5253 01020F00 64000000 05000000 000100 0100 000101 0100 0101 00000000 00000000 00000000 00000000";
 
 // `TOGETHER` with a size that no commit has.
-const LEFT_OVER: &[u8] = b"\x44\x4C\x52\x53\x01\x02\x0F\x00\x64\x00\x00\x00\x05\x00\x00\x00\
-  \x00\x01\x00\x01\x00\x00\x01\x01\x01\x00\x01\x01\
-  \x04\x00\x00\x00\
-  \x00\x00\x00\x00\x00\x03\x00\x00\x00\
-  \x00\x02\x00\x00\x00\x02\x00\x00\x00\
-  \x01\x00\x00\x00\x00\x03\x00\x00\x00\
-  \x01\x05\x00\x00\x00\x01\x00\x00\x00\
-  \x00\x00\x00\x00\
-  \x00\x00\x00\x00\x00\x00\x00\x00";
+const LEFT_OVER: &str =
+    "444C5253 01020F00 64000000 05000000 000100 0100 000101 0100 0101 04000000 000000000003000000 \
+     000200000002000000 010000000003000000 010500000001000000 00000000 00000000 00000000";
 
 // With a serial step among the chunks.
-const SERIAL_IN_CHUNKS: &[u8] = b"\x44\x4C\x52\x53\x01\x02\x0F\x00\x64\x00\x00\x00\x04\x00\x00\x00\
-  \x00\x02\x00\x00\x01\x01\x01\x00\x01\x01\
-  \x03\x00\x00\x00\
-  \x00\x00\x00\x00\x00\x03\x00\x00\x00\
-  \x00\x02\x00\x00\x00\x02\x00\x00\x00\
-  \x01\x00\x00\x00\x00\x03\x00\x00\x00\
-  \x00\x00\x00\x00\
-  \x00\x00\x00\x00\x00\x00\x00\x00";
+const SERIAL_IN_CHUNKS: &str =
+    "444C5253 01020F00 64000000 04000000 000200 000101 0100 0101 03000000 000000000003000000 \
+     000200000002000000 010000000003000000 00000000 00000000 00000000";
 
 // With a chunk alone, as if it were a serial step.
-const CHUNK_ALONE: &[u8] = b"\x44\x4C\x52\x53\x01\x02\x0F\x00\x64\x00\x00\x00\x05\x00\x00\x00\
-  \x01\x00\x01\x00\x00\x01\x01\x01\x00\x01\x01\
-  \x03\x00\x00\x00\
-  \x00\x00\x00\x00\x00\x03\x00\x00\x00\
-  \x00\x02\x00\x00\x00\x02\x00\x00\x00\
-  \x01\x00\x00\x00\x00\x03\x00\x00\x00\
-  \x00\x00\x00\x00\
-  \x00\x00\x00\x00\x00\x00\x00\x00";
+const CHUNK_ALONE: &str =
+    "444C5253 01020F00 64000000 05000000 0100 0100 000101 0100 0101 03000000 000000000003000000 \
+     000200000002000000 010000000003000000 00000000 00000000 00000000";
 
 // With a DMA that nobody asked for.
-const NO_REQUEST: &[u8] = b"\x44\x4C\x52\x53\x01\x02\x0F\x00\x64\x00\x00\x00\x06\x00\x00\x00\
-  \x00\x01\x00\x01\x00\x02\x00\x01\x01\x01\x00\x01\x01\
-  \x03\x00\x00\x00\
-  \x00\x00\x00\x00\x00\x03\x00\x00\x00\
-  \x00\x02\x00\x00\x00\x02\x00\x00\x00\
-  \x01\x00\x00\x00\x00\x03\x00\x00\x00\
-  \x00\x00\x00\x00\
-  \x00\x00\x00\x00\x00\x00\x00\x00";
+const NO_REQUEST: &str =
+    "444C5253 01020F00 64000000 06000000 000100 0100 02 000101 0100 0101 03000000 000000000003000000 \
+     000200000002000000 010000000003000000 00000000 00000000 00000000";
 
 // With an instruction too many in the second chunk of the stratum.
-const TOO_LONG: &[u8] = b"\x44\x4C\x52\x53\x01\x02\x0F\x00\x64\x00\x00\x00\x05\x00\x00\x00\
-  \x00\x01\x00\x01\x00\x00\x01\x01\x01\x00\x01\x01\
-  \x03\x00\x00\x00\
-  \x00\x00\x00\x00\x00\x03\x00\x00\x00\
-  \x00\x02\x00\x00\x00\x02\x00\x00\x00\
-  \x01\x00\x00\x00\x00\x04\x00\x00\x00\
-  \x00\x00\x00\x00\
-  \x00\x00\x00\x00\x00\x00\x00\x00";
+const TOO_LONG: &str =
+    "444C5253 01020F00 64000000 05000000 000100 0100 000101 0100 0101 03000000 000000000003000000 \
+     000200000002000000 010000000004000000 00000000 00000000 00000000";
 
 const CUTS: &[Cut] = &[
-    Cut {
-        code: NO_RACE,
-        log: FIRST,
-        strata: TOGETHER,
-    },
-    Cut {
-        code: RACE,
-        log: FIRST,
-        strata: FIRST_ALONE,
-    },
-    Cut {
-        code: STORES_CODE,
-        log: SECOND,
-        strata: TOGETHER,
-    },
-    Cut {
-        code: STORES_CODE,
-        log: SECOND_UNSIZED,
-        strata: SECOND_ALONE,
-    },
+    (NO_RACE, FIRST, TOGETHER),
+    (RACE, FIRST, FIRST_ALONE),
+    (STORES_CODE, SECOND, TOGETHER),
+    (STORES_CODE, SECOND_UNSIZED, SECOND_ALONE),
 ];
 
 // Where a commit doesn't fit, that is answered although another conflicts.
 const CHECKS: &[Check] = &[
-    Check {
-        code: NO_RACE,
-        strata: TOGETHER,
-        error: None,
-    },
-    Check {
-        code: RACE,
-        strata: FIRST_ALONE,
-        error: None,
-    },
-    Check {
-        code: STORES_CODE,
-        strata: TOGETHER,
-        error: None,
-    },
-    Check {
-        code: STORES_CODE,
-        strata: SECOND_ALONE,
-        error: None,
-    },
-    Check {
-        code: RACE,
-        strata: TOGETHER,
-        error: Some(CheckError::Conflict(3)),
-    },
-    Check {
-        code: STORES_CODE,
-        strata: UNSIZED,
-        error: Some(CheckError::Conflict(3)),
-    },
-    Check {
-        code: RACE,
-        strata: LEFT_OVER,
-        error: Some(CheckError::Unfit(6)),
-    },
-    Check {
-        code: RACE,
-        strata: SERIAL_IN_CHUNKS,
-        error: Some(CheckError::Unfit(1)),
-    },
-    Check {
-        code: RACE,
-        strata: CHUNK_ALONE,
-        error: Some(CheckError::Unfit(0)),
-    },
-    Check {
-        code: RACE,
-        strata: NO_REQUEST,
-        error: Some(CheckError::Unfit(2)),
-    },
-    Check {
-        code: RACE,
-        strata: TOO_LONG,
-        error: Some(CheckError::Unfit(3)),
-    },
+    (NO_RACE, TOGETHER, None),
+    (RACE, FIRST_ALONE, None),
+    (STORES_CODE, TOGETHER, None),
+    (STORES_CODE, SECOND_ALONE, None),
+    (RACE, TOGETHER, Some(CheckError::Conflict(3))),
+    (STORES_CODE, UNSIZED, Some(CheckError::Conflict(3))),
+    (RACE, LEFT_OVER, Some(CheckError::Unfit(6))),
+    (RACE, SERIAL_IN_CHUNKS, Some(CheckError::Unfit(1))),
+    (RACE, CHUNK_ALONE, Some(CheckError::Unfit(0))),
+    (RACE, NO_REQUEST, Some(CheckError::Unfit(2))),
+    (RACE, TOO_LONG, Some(CheckError::Unfit(3))),
 ];

@@ -1,30 +1,22 @@
 //! Trails of worked logs: which states are kept, and the slices between any two commits.
 ghost use Rattle.std.specs.Prelude.{◌≤◌};
 
-use crate::tests::walks::{EXIT, LEFT_OVER};
+use super::short::{bytes, file};
+use super::walks::{EXIT, LEFT_OVER};
 use dl_logfmt::read_log;
 use dl_trail::Trail;
 use std::alloc::Global;
 use std::test::Fail;
 
-// A file whose thread 0 spawns a thread that stores 9 to the word at 256.
-pub(super) const FILE: &[u8] = &[
-    0x7f, 0x45, 0x4c, 0x46, 0x01, 0x01, 0x01, 0x00, 0x00, 0x00, 0x00, 0x00, 0x00, 0x00, 0x00, 0x00,
-    0x02, 0x00, 0xf3, 0x00, 0x01, 0x00, 0x00, 0x00, 0x00, 0x00, 0x00, 0x00, 0x34, 0x00, 0x00, 0x00,
-    0x00, 0x00, 0x00, 0x00, 0x00, 0x00, 0x00, 0x00, 0x34, 0x00, 0x20, 0x00, 0x01, 0x00, 0x00, 0x00,
-    0x00, 0x00, 0x00, 0x00, 0x01, 0x00, 0x00, 0x00, 0x54, 0x00, 0x00, 0x00, 0x00, 0x00, 0x00, 0x00,
-    0x00, 0x00, 0x00, 0x00, 0x30, 0x00, 0x00, 0x00, 0x30, 0x00, 0x00, 0x00, 0x07, 0x00, 0x00, 0x00,
-    0x04, 0x00, 0x00, 0x00, 0x93, 0x08, 0x10, 0x00, 0x13, 0x05, 0x00, 0x02, 0x13, 0x06, 0x00, 0x00,
-    0x73, 0x00, 0x00, 0x00, 0x83, 0x22, 0x00, 0x10, 0x93, 0x08, 0x00, 0x00, 0x73, 0x00, 0x00, 0x00,
-    0x13, 0x00, 0x00, 0x00, 0x13, 0x03, 0x90, 0x00, 0x23, 0x20, 0x60, 0x10, 0x93, 0x08, 0x00, 0x00,
-    0x73, 0x00, 0x00, 0x00,
-];
+// Thread 0 spawns a thread that stores 9 to the word at 256.
+pub(super) const CODE: &str =
+    "00100893 02000513 00000613 00000073 10002283 00000893 00000073 00000013 00900313 10602023 00000893 \
+     00000073";
 
 // A log of it that asks for an instruction too many at commit 3, of 6.
-pub(super) const LOG: &[u8] = b"\x44\x4C\x52\x4E\x01\x00\x00\x00\x64\x00\x00\x00\x06\x00\x00\x00\
-      \x06\x00\x00\x00\x00\x01\x10\x06\x00\x00\x00\x03\x00\x00\x00\x03\
-      \x00\x03\x00\x00\x00\x00\x00\x00\x00\x00\x00\x00\x00\x00\x00\x00\
-      \x00\x00\x00";
+pub(super) const LOG: &str =
+    "444C524E 01000000 64000000 06000000 06000000 000110 06000000 0300 0000 0300 0300 0000 0000 00000000 \
+     00000000 00000000";
 
 // The lines of the commits before it, and the state before each of them and after the last, as a slice tells it.
 const COMMITS: &[&[u8]] = &[b"c 0 0 3\n", b"c 1 0 0\n", b"c 2 1 3\n"];
@@ -81,7 +73,7 @@ fn states_are_kept_up_to_the_divergence(rt: HostRuntime) -> Result<(), Fail> {
         (u32::MAX, &[0]),
     ];
     for (every, numbers) in kept {
-        let trail = trail(rt.alloc(), FILE, LOG, *every)?;
+        let trail = trail(rt.alloc(), CODE, LOG, *every)?;
         assert!(rt; trail.kept() == *numbers);
     }
     Ok(())
@@ -90,7 +82,7 @@ fn states_are_kept_up_to_the_divergence(rt: HostRuntime) -> Result<(), Fail> {
 #[test]
 fn slices_are_the_same_from_every_trail(rt: HostRuntime) -> Result<(), Fail> {
     for every in [1, 2, 3, 4] {
-        let trail = trail(rt.alloc(), FILE, LOG, every)?;
+        let trail = trail(rt.alloc(), CODE, LOG, every)?;
         for i in 0..8 {
             for more in 0..8 {
                 let text = trail.slice(i, i + more)?;
@@ -122,10 +114,10 @@ fn expected(alloc: Global, i: u32, j: u32) -> Result<Vec<u8>, Fail> {
     Ok(text)
 }
 
-fn trail(alloc: Global, file: &[u8], log: &[u8], every: u32) -> Result<Trail, Fail>
+fn trail(alloc: Global, code: &str, log: &str, every: u32) -> Result<Trail, Fail>
     requires { 1 ≤ every }
 {
-    let image = dl_elf::load(alloc, file, 4096)?;
-    let log = read_log(alloc, log)?;
+    let image = dl_elf::load(alloc, &file(alloc, code)?, 4096)?;
+    let log = read_log(alloc, &bytes(alloc, log)?)?;
     Ok(Trail::new(alloc, &image, &log, every)?)
 }

@@ -1,4 +1,5 @@
 //! Worked logs, walked on their images.
+use super::short::{bytes, file};
 use dl_entry::{Actor, End, Why};
 use dl_logfmt::read_log;
 use dl_mem::Memory;
@@ -8,42 +9,21 @@ use dl_thread::Thread;
 use std::alloc::Global;
 use std::test::Fail;
 
-// A file that exits: `addi x17, x0, 0`, `addi x10, x0, 7`, `ecall`.
-pub(super) const EXIT: &[u8] = &[
-    0x7f, 0x45, 0x4c, 0x46, 0x01, 0x01, 0x01, 0x00, 0x00, 0x00, 0x00, 0x00, 0x00, 0x00, 0x00, 0x00,
-    0x02, 0x00, 0xf3, 0x00, 0x01, 0x00, 0x00, 0x00, 0x00, 0x00, 0x00, 0x00, 0x34, 0x00, 0x00, 0x00,
-    0x00, 0x00, 0x00, 0x00, 0x00, 0x00, 0x00, 0x00, 0x34, 0x00, 0x20, 0x00, 0x01, 0x00, 0x00, 0x00,
-    0x00, 0x00, 0x00, 0x00, 0x01, 0x00, 0x00, 0x00, 0x54, 0x00, 0x00, 0x00, 0x00, 0x00, 0x00, 0x00,
-    0x00, 0x00, 0x00, 0x00, 0x0c, 0x00, 0x00, 0x00, 0x0c, 0x00, 0x00, 0x00, 0x07, 0x00, 0x00, 0x00,
-    0x04, 0x00, 0x00, 0x00, 0x93, 0x08, 0x00, 0x00, 0x13, 0x05, 0x70, 0x00, 0x73, 0x00, 0x00, 0x00,
-];
+// `addi x17, x0, 0`, `addi x10, x0, 7`, `ecall`: it exits.
+pub(super) const EXIT: &str = "00000893 00700513 00000073";
 
-// A file that asks for a DMA of 4 bytes to the buffer at 256, loads what came, and exits.
-const DMA: &[u8] = &[
-    0x7f, 0x45, 0x4c, 0x46, 0x01, 0x01, 0x01, 0x00, 0x00, 0x00, 0x00, 0x00, 0x00, 0x00, 0x00, 0x00,
-    0x02, 0x00, 0xf3, 0x00, 0x01, 0x00, 0x00, 0x00, 0x00, 0x00, 0x00, 0x00, 0x34, 0x00, 0x00, 0x00,
-    0x00, 0x00, 0x00, 0x00, 0x00, 0x00, 0x00, 0x00, 0x34, 0x00, 0x20, 0x00, 0x01, 0x00, 0x00, 0x00,
-    0x00, 0x00, 0x00, 0x00, 0x01, 0x00, 0x00, 0x00, 0x54, 0x00, 0x00, 0x00, 0x00, 0x00, 0x00, 0x00,
-    0x00, 0x00, 0x00, 0x00, 0x1c, 0x00, 0x00, 0x00, 0x1c, 0x00, 0x00, 0x00, 0x07, 0x00, 0x00, 0x00,
-    0x04, 0x00, 0x00, 0x00, 0x93, 0x08, 0x80, 0x00, 0x13, 0x05, 0x00, 0x10, 0x93, 0x05, 0x40, 0x00,
-    0x73, 0x00, 0x00, 0x00, 0x83, 0x22, 0x40, 0x10, 0x93, 0x08, 0x00, 0x00, 0x73, 0x00, 0x00, 0x00,
-];
+// It asks for a DMA of 4 bytes to the buffer at 256, loads what came, and exits.
+const DMA: &str = "00800893 10000513 00400593 00000073 10402283 00000893 00000073";
 
-/// The bytes of a file and of its log, the number of commits that is asked for, and the sizes of those done.
-struct Row {
-    file: &'static [u8],
-    log: &'static [u8],
-    to: u32,
-    sizes: &'static [u32],
-    end: WalkEnd,
-}
+/// A program, a log of it, the number of commits that is asked for, the sizes of those done, and how the walk ends.
+type Row = (&'static str, &'static str, u32, &'static [u32], WalkEnd);
 
 #[test]
 fn walks_end_where_their_logs_say(rt: HostRuntime) -> Result<(), Fail> {
-    for row in ROWS {
-        let walked = walked(rt.alloc(), row.file, row.log, row.to)?;
-        assert!(rt; has_sizes(walked.commits.as_slice(), row.sizes));
-        assert!(rt; walked.end == row.end);
+    for (i, (code, log, to, sizes, end)) in ROWS.iter().enumerate() {
+        let walked = walked(rt.alloc(), code, log, *to)?;
+        assert!(rt; has_sizes(walked.commits.as_slice(), sizes), "{i}");
+        assert!(rt; walked.end == *end, "{i}");
         drop(walked);
     }
     Ok(())
@@ -92,9 +72,9 @@ fn has_loaded(thread: Option<&Thread>) -> bool {
 }
 
 /// What a walk leaves in a memory of 4,096 bytes.
-fn walked(alloc: Global, file: &[u8], log: &[u8], to: u32) -> Result<Walked, Fail> {
-    let image = dl_elf::load(alloc, file, 4096)?;
-    let log = read_log(alloc, log)?;
+fn walked(alloc: Global, code: &str, log: &str, to: u32) -> Result<Walked, Fail> {
+    let image = dl_elf::load(alloc, &file(alloc, code)?, 4096)?;
+    let log = read_log(alloc, &bytes(alloc, log)?)?;
     let walked = walk(alloc, &image, &log, to);
     drop((image, log));
     Ok(walked?)
@@ -106,107 +86,70 @@ fn has_sizes(commits: &[Commit], sizes: &[u32]) -> bool {
 
 // Logs: of `EXIT` as it was recorded, in order-size and in order-only; of `EXIT` with a longer chunk, with a thread that
 // isn't there, and with a record that nothing takes; and of `DMA` in picolog.
-const RECORDED: &[u8] = b"\x44\x4C\x52\x4E\x01\x00\x00\x00\x64\x00\x00\x00\x02\x00\x00\x00\
-      \x02\x00\x00\x00\x00\x02\x00\x00\x00\x02\x00\x00\x00\x00\x00\x00\
-      \x00\x00\x00\x00\x00\x00\x00\x00\x00";
+const RECORDED: &str =
+    "444C524E 01000000 64000000 02000000 02000000 00 02000000 0200 0000 00000000 00000000 00000000";
 
-const ORDER_ONLY: &[u8] = b"\x44\x4C\x52\x4E\x01\x01\x00\x00\x64\x00\x00\x00\x02\x00\x00\x00\
-      \x02\x00\x00\x00\x00\x00\x00\x00\x00\x00\x00\x00\x00\x00\x00\x00\
-      \x00\x00\x00\x00\x00";
+const ORDER_ONLY: &str = "444C524E 01010000 64000000 02000000 02000000 00 00000000*4";
 
-const TOO_LONG: &[u8] = b"\x44\x4C\x52\x4E\x01\x00\x00\x00\x64\x00\x00\x00\x02\x00\x00\x00\
-      \x02\x00\x00\x00\x00\x02\x00\x00\x00\x03\x00\x00\x00\x00\x00\x00\
-      \x00\x00\x00\x00\x00\x00\x00\x00\x00";
+const TOO_LONG: &str =
+    "444C524E 01000000 64000000 02000000 02000000 00 02000000 0300 0000 00000000 00000000 00000000";
 
-const NO_THREAD: &[u8] = b"\x44\x4C\x52\x4E\x01\x00\x00\x00\x64\x00\x00\x00\x02\x00\x00\x00\
-      \x02\x00\x00\x00\x05\x02\x00\x00\x00\x02\x00\x00\x00\x00\x00\x00\
-      \x00\x00\x00\x00\x00\x00\x00\x00\x00";
+const NO_THREAD: &str =
+    "444C524E 01000000 64000000 02000000 02000000 05 02000000 0200 0000 00000000 00000000 00000000";
 
-pub(super) const LEFT_OVER: &[u8] =
-    b"\x44\x4C\x52\x4E\x01\x00\x00\x00\x64\x00\x00\x00\x02\x00\x00\x00\
-      \x02\x00\x00\x00\x00\x02\x00\x00\x00\x02\x00\x00\x00\x00\x00\x00\
-      \x00\x01\x00\x00\x00\x05\x00\x00\x00\x00\x00\x00\x00\x00\x00\x00";
+pub(super) const LEFT_OVER: &str =
+    "444C524E 01000000 64000000 02000000 02000000 00 02000000 0200 0000 00000000 01000000 05000000000000 \
+         00000000";
 
-const TRANSFERRED: &[u8] = b"\x44\x4C\x52\x4E\x01\x02\x00\x00\x64\x00\x00\x00\x05\x00\x00\x00\
-      \x00\x00\x00\x00\x00\x00\x00\x00\x00\x00\x00\x00\x00\x00\x00\x00\
-      \x01\x00\x00\x00\x02\x00\x00\x00\x02\x00\x41\x42";
+const TRANSFERRED: &str =
+    "444C524E 01020000 64000000 05000000 00000000*4 01000000 0200000002004142";
 
 const ROWS: &[Row] = &[
-    Row {
-        file: EXIT,
-        log: RECORDED,
-        to: 0,
-        sizes: &[],
-        end: WalkEnd::Reached(0),
-    },
-    Row {
-        file: EXIT,
-        log: RECORDED,
-        to: 1,
-        sizes: &[2],
-        end: WalkEnd::Reached(1),
-    },
-    Row {
-        file: EXIT,
-        log: RECORDED,
-        to: 2,
-        sizes: &[2, 0],
-        end: WalkEnd::Ended(End::Complete(2)),
-    },
-    Row {
-        file: EXIT,
-        log: RECORDED,
-        to: u32::MAX,
-        sizes: &[2, 0],
-        end: WalkEnd::Ended(End::Complete(2)),
-    },
-    Row {
-        file: EXIT,
-        log: ORDER_ONLY,
-        to: 2,
-        sizes: &[2, 0],
-        end: WalkEnd::Ended(End::Complete(2)),
-    },
-    Row {
-        file: EXIT,
-        log: TOO_LONG,
-        to: 0,
-        sizes: &[],
-        end: WalkEnd::Reached(0),
-    },
-    Row {
-        file: EXIT,
-        log: TOO_LONG,
-        to: 2,
-        sizes: &[],
-        end: WalkEnd::Ended(End::Diverged(0, Why::Short(3, 2))),
-    },
-    Row {
-        file: EXIT,
-        log: NO_THREAD,
-        to: 2,
-        sizes: &[],
-        end: WalkEnd::Ended(End::Diverged(0, Why::NoThread)),
-    },
-    Row {
-        file: EXIT,
-        log: LEFT_OVER,
-        to: 1,
-        sizes: &[2],
-        end: WalkEnd::Reached(1),
-    },
-    Row {
-        file: EXIT,
-        log: LEFT_OVER,
-        to: 2,
-        sizes: &[2, 0],
-        end: WalkEnd::Ended(End::Diverged(2, Why::LeftOver)),
-    },
-    Row {
-        file: DMA,
-        log: TRANSFERRED,
-        to: 5,
-        sizes: &[3, 0, 0, 2, 0],
-        end: WalkEnd::Ended(End::Complete(5)),
-    },
+    (EXIT, RECORDED, 0, &[], WalkEnd::Reached(0)),
+    (EXIT, RECORDED, 1, &[2], WalkEnd::Reached(1)),
+    (EXIT, RECORDED, 2, &[2, 0], WalkEnd::Ended(End::Complete(2))),
+    (
+        EXIT,
+        RECORDED,
+        u32::MAX,
+        &[2, 0],
+        WalkEnd::Ended(End::Complete(2)),
+    ),
+    (
+        EXIT,
+        ORDER_ONLY,
+        2,
+        &[2, 0],
+        WalkEnd::Ended(End::Complete(2)),
+    ),
+    (EXIT, TOO_LONG, 0, &[], WalkEnd::Reached(0)),
+    (
+        EXIT,
+        TOO_LONG,
+        2,
+        &[],
+        WalkEnd::Ended(End::Diverged(0, Why::Short(3, 2))),
+    ),
+    (
+        EXIT,
+        NO_THREAD,
+        2,
+        &[],
+        WalkEnd::Ended(End::Diverged(0, Why::NoThread)),
+    ),
+    (EXIT, LEFT_OVER, 1, &[2], WalkEnd::Reached(1)),
+    (
+        EXIT,
+        LEFT_OVER,
+        2,
+        &[2, 0],
+        WalkEnd::Ended(End::Diverged(2, Why::LeftOver)),
+    ),
+    (
+        DMA,
+        TRANSFERRED,
+        5,
+        &[3, 0, 0, 2, 0],
+        WalkEnd::Ended(End::Complete(5)),
+    ),
 ];

@@ -8,15 +8,8 @@ use spec_log::ModeName;
 use std::alloc::Global;
 use std::test::Fail;
 
-// A file whose code is `ecall`.
-const FILE: &[u8] = &[
-    0x7f, 0x45, 0x4c, 0x46, 0x01, 0x01, 0x01, 0x00, 0x00, 0x00, 0x00, 0x00, 0x00, 0x00, 0x00, 0x00,
-    0x02, 0x00, 0xf3, 0x00, 0x01, 0x00, 0x00, 0x00, 0x00, 0x00, 0x00, 0x00, 0x34, 0x00, 0x00, 0x00,
-    0x00, 0x00, 0x00, 0x00, 0x00, 0x00, 0x00, 0x00, 0x34, 0x00, 0x20, 0x00, 0x01, 0x00, 0x00, 0x00,
-    0x00, 0x00, 0x00, 0x00, 0x01, 0x00, 0x00, 0x00, 0x54, 0x00, 0x00, 0x00, 0x00, 0x00, 0x00, 0x00,
-    0x00, 0x00, 0x00, 0x00, 0x04, 0x00, 0x00, 0x00, 0x04, 0x00, 0x00, 0x00, 0x07, 0x00, 0x00, 0x00,
-    0x04, 0x00, 0x00, 0x00, 0x73, 0x00, 0x00, 0x00,
-];
+// `ecall`.
+const CODE: &str = "00000073";
 
 /// A role, with standard chunks of 1,000 instructions: the limit of thread 0, whose turn it is, and the end.
 #[derive(Clone, Copy)]
@@ -36,7 +29,7 @@ fn spheres_begin_in_their_roles(rt: HostRuntime) -> Result<(), Fail> {
 }
 
 fn begins(alloc: Global, row: &Row) -> Result<bool, Fail> {
-    Ok(stands(begin(alloc, FILE, row.role, 1000)?, row))
+    Ok(stands(begin(alloc, CODE, row.role, 1000)?, row))
 }
 
 fn stands(sphere: Sphere, row: &Row) -> bool
@@ -77,10 +70,7 @@ const ROWS: &[Row] = &[
     // A chunk of two instructions is logged.
     Row {
         role: Begins::Replayed(
-            b"\x44\x4C\x52\x4E\x01\x00\x00\x00\x64\x00\x00\x00\x01\x00\x00\x00\
-              \x01\x00\x00\x00\x00\
-              \x01\x00\x00\x00\x02\x00\
-              \x00\x00\x00\x00\x00\x00\x00\x00\x00\x00\x00\x00",
+            "444C524E 01000000 64000000 01000000 01000000 00 01000000 0200 00000000 00000000 00000000",
         ),
         limit: 2,
         head: Some(Actor::Thread(0)),
@@ -89,10 +79,7 @@ const ROWS: &[Row] = &[
     // A chunk of thread 5 is logged, and there is no such thread.
     Row {
         role: Begins::Replayed(
-            b"\x44\x4C\x52\x4E\x01\x00\x00\x00\x64\x00\x00\x00\x01\x00\x00\x00\
-              \x01\x00\x00\x00\x05\
-              \x01\x00\x00\x00\x02\x00\
-              \x00\x00\x00\x00\x00\x00\x00\x00\x00\x00\x00\x00",
+            "444C524E 01000000 64000000 01000000 01000000 05 01000000 0200 00000000 00000000 00000000",
         ),
         limit: 100,
         head: None,
@@ -100,12 +87,7 @@ const ROWS: &[Row] = &[
     },
     // Nothing is logged.
     Row {
-        role: Begins::Replayed(
-            b"\x44\x4C\x52\x4E\x01\x00\x00\x00\x64\x00\x00\x00\x00\x00\x00\x00\
-              \x00\x00\x00\x00\
-              \x00\x00\x00\x00\
-              \x00\x00\x00\x00\x00\x00\x00\x00\x00\x00\x00\x00",
-        ),
+        role: Begins::Replayed("444C524E 01000000 64000000 00000000*6"),
         limit: 100,
         head: None,
         end: Some(End::Complete(0)),

@@ -3,6 +3,7 @@ ghost use Rattle.std.specs.Prelude.{◌≡◌, Some, IfOk, slice_get};
 ghost use Rattle.spec_engine.specs.Closing.{is_piece};
 ghost use Rattle.dl_sphere.specs.Moving.{IsTurnOf, IsTurnOfDma};
 
+use super::super::short::bytes;
 use super::{Begins, begin};
 use dl_chunk::Chunk;
 use dl_dev::Devices;
@@ -20,50 +21,34 @@ use std::alloc::Global;
 use std::process::Abort;
 use std::test::Fail;
 
-// A file whose code asks for a DMA of 4 bytes to 0x100, loads a word of it and exits.
-const TRANSFERS: [u8; 112] = [
-    0x7f, 0x45, 0x4c, 0x46, 0x01, 0x01, 0x01, 0x00, 0x00, 0x00, 0x00, 0x00, 0x00, 0x00, 0x00, 0x00,
-    0x02, 0x00, 0xf3, 0x00, 0x01, 0x00, 0x00, 0x00, 0x00, 0x00, 0x00, 0x00, 0x34, 0x00, 0x00, 0x00,
-    0x00, 0x00, 0x00, 0x00, 0x00, 0x00, 0x00, 0x00, 0x34, 0x00, 0x20, 0x00, 0x01, 0x00, 0x00, 0x00,
-    0x00, 0x00, 0x00, 0x00, 0x01, 0x00, 0x00, 0x00, 0x54, 0x00, 0x00, 0x00, 0x00, 0x00, 0x00, 0x00,
-    0x00, 0x00, 0x00, 0x00, 0x1c, 0x00, 0x00, 0x00, 0x1c, 0x00, 0x00, 0x00, 0x07, 0x00, 0x00, 0x00,
-    0x04, 0x00, 0x00, 0x00, 0x93, 0x08, 0x80, 0x00, 0x13, 0x05, 0x00, 0x10, 0x93, 0x05, 0x40, 0x00,
-    0x73, 0x00, 0x00, 0x00, 0x83, 0x22, 0x40, 0x10, 0x93, 0x08, 0x00, 0x00, 0x73, 0x00, 0x00, 0x00,
-];
+// It asks for a DMA of 4 bytes to 0x100, loads a word of it and exits.
+const TRANSFERS: &str = "00800893 10000513 00400593 00000073 10402283 00000893 00000073";
 
-// A file whose code makes 0x14 its handler, and loops.
-const HANDLES: [u8; 108] = [
-    0x7f, 0x45, 0x4c, 0x46, 0x01, 0x01, 0x01, 0x00, 0x00, 0x00, 0x00, 0x00, 0x00, 0x00, 0x00, 0x00,
-    0x02, 0x00, 0xf3, 0x00, 0x01, 0x00, 0x00, 0x00, 0x00, 0x00, 0x00, 0x00, 0x34, 0x00, 0x00, 0x00,
-    0x00, 0x00, 0x00, 0x00, 0x00, 0x00, 0x00, 0x00, 0x34, 0x00, 0x20, 0x00, 0x01, 0x00, 0x00, 0x00,
-    0x00, 0x00, 0x00, 0x00, 0x01, 0x00, 0x00, 0x00, 0x54, 0x00, 0x00, 0x00, 0x00, 0x00, 0x00, 0x00,
-    0x00, 0x00, 0x00, 0x00, 0x18, 0x00, 0x00, 0x00, 0x18, 0x00, 0x00, 0x00, 0x07, 0x00, 0x00, 0x00,
-    0x04, 0x00, 0x00, 0x00, 0x93, 0x08, 0x60, 0x00, 0x13, 0x05, 0x40, 0x01, 0x73, 0x00, 0x00, 0x00,
-    0x6f, 0x00, 0x00, 0x00, 0x13, 0x00, 0x00, 0x00, 0x6f, 0x00, 0x00, 0x00,
-];
+// It makes 0x14 its handler, and loops.
+const HANDLES: &str = "00600893 01400513 00000073 0000006F 00000013 0000006F";
 
 /// A commit: its actor, its kind and its size.
 type Line = (Actor, CommitKind, u32);
 
-/// What a sphere of a file has done after a chunk, a serial step, and then the DMA that the step asks for or, unless the
+/// What a sphere of a program has done after a chunk, a serial step, and then the DMA that the step asks for or, unless the
 /// sphere is replayed, an interrupt with the value 5; in epochs one begins before each of them if it is due. Its commits, its
 /// thread's pc and x10, its log, and its end.
 #[derive(Clone, Copy)]
 struct Scene {
-    file: &'static [u8],
+    code: &'static str,
     role: Begins,
     closed: How,
     commits: &'static [Line],
     pc: u32,
     x10: u32,
-    log: Option<&'static [u8]>,
+    log: Option<&'static str>,
     end: Option<End>,
 }
 
 #[test]
 fn moves_are_done_in_each_role(rt: HostRuntime) -> Result<(), Fail> {
     for scene in SCENES {
-        let mut sphere = begin(rt.alloc(), scene.file, scene.role, 100)?;
+        let mut sphere = begin(rt.alloc(), scene.code, scene.role, 100)?;
         let moved = moves(&rt, rt.alloc(), &mut sphere, scene);
         drop(sphere);
         moved?;
@@ -92,7 +77,8 @@ fn moves(rt: &impl Abort, alloc: Global, sphere: &mut Sphere, scene: &Scene) -> 
     assert!(rt; sphere.end() == scene.end);
     if let Some(log) = scene.log {
         assert!(rt; sphere.halves());
-        assert!(rt; written(alloc, sphere.log()?)?.as_slice() == log);
+        let want = bytes(alloc, log)?;
+        assert!(rt; written(alloc, sphere.log()?)?.as_slice() == want.as_slice());
     }
     Ok(())
 }
@@ -258,32 +244,24 @@ const STEP: Line = (Actor::Thread(0), CommitKind::Serial, 0);
 
 const DMA: Line = (Actor::Dma, CommitKind::Dma, 0);
 
-const TRANSFERRED: &[u8] = b"\x44\x4C\x52\x4E\x01\x02\x00\x00\x64\x00\x00\x00\x03\x00\x00\x00\
-    \x00\x00\x00\x00\x00\x00\x00\x00\
-    \x00\x00\x00\x00\x00\x00\x00\x00\
-    \x01\x00\x00\x00\x02\x00\x00\x00\x02\x00\x41\x42";
+const TRANSFERRED: &str =
+    "444C524E 01020000 64000000 03000000 00000000*4 01000000 0200000002004142";
 
-const INTERRUPTED: &[u8] = b"\x44\x4C\x52\x4E\x01\x00\x00\x00\x64\x00\x00\x00\x02\x00\x00\x00\
-    \x02\x00\x00\x00\x00\
-    \x02\x00\x00\x00\x02\x00\x00\x00\
-    \x01\x00\x00\x00\x00\x02\x00\x00\x00\x05\x00\x00\x00\
-    \x00\x00\x00\x00\x00\x00\x00\x00";
+const INTERRUPTED: &str =
+    "444C524E 01000000 64000000 02000000 02000000 00 02000000 0200 0000 01000000 000200000005000000 00000000 \
+     00000000";
 
 // After the second commit an epoch begins, and the first is given up. The DMA is the third commit of the recording.
-const TRANSFERRED_SINCE: &[u8] = b"\x44\x4C\x52\x4E\x02\x02\x3F\x00\x64\x00\x00\x00\x01\x00\x00\x00\
-    \x00\x00\x00\x00\x00\x00\x00\x00\
-    \x00\x00\x00\x00\x00\x00\x00\x00\
-    \x01\x00\x00\x00\x02\x00\x00\x00\x02\x00\x41\x42";
+const TRANSFERRED_SINCE: &str =
+    "444C524E 02023F00 64000000 01000000 00000000*4 01000000 0200000002004142";
 
 // The interrupt is raised after it, before any commit.
-const INTERRUPTED_SINCE: &[u8] = b"\x44\x4C\x52\x4E\x02\x00\x3F\x00\x64\x00\x00\x00\x00\x00\x00\x00\
-    \x00\x00\x00\x00\x00\x00\x00\x00\
-    \x01\x00\x00\x00\x00\x02\x00\x00\x00\x05\x00\x00\x00\
-    \x00\x00\x00\x00\x00\x00\x00\x00";
+const INTERRUPTED_SINCE: &str =
+    "444C524E 02003F00 64000000 00000000 00000000 00000000 01000000 000200000005000000 00000000 00000000";
 
 const SCENES: &[Scene] = &[
     Scene {
-        file: &TRANSFERS,
+        code: TRANSFERS,
         role: Begins::Plain,
         closed: How::Serial,
         commits: &[CHUNK_OF_3, STEP, DMA],
@@ -293,7 +271,7 @@ const SCENES: &[Scene] = &[
         end: None,
     },
     Scene {
-        file: &TRANSFERS,
+        code: TRANSFERS,
         role: Begins::Recorded(ModeName::Picolog),
         closed: How::Serial,
         commits: &[CHUNK_OF_3, STEP, DMA],
@@ -303,7 +281,7 @@ const SCENES: &[Scene] = &[
         end: None,
     },
     Scene {
-        file: &TRANSFERS,
+        code: TRANSFERS,
         role: Begins::Replayed(TRANSFERRED),
         closed: How::Serial,
         commits: &[CHUNK_OF_3, STEP, DMA],
@@ -313,7 +291,7 @@ const SCENES: &[Scene] = &[
         end: Some(End::Complete(3)),
     },
     Scene {
-        file: &HANDLES,
+        code: HANDLES,
         role: Begins::Plain,
         closed: How::Serial,
         commits: &[CHUNK_OF_2, STEP],
@@ -323,7 +301,7 @@ const SCENES: &[Scene] = &[
         end: None,
     },
     Scene {
-        file: &HANDLES,
+        code: HANDLES,
         role: Begins::Recorded(ModeName::OrderSize),
         closed: How::Serial,
         commits: &[CHUNK_OF_2, STEP],
@@ -333,7 +311,7 @@ const SCENES: &[Scene] = &[
         end: None,
     },
     Scene {
-        file: &TRANSFERS,
+        code: TRANSFERS,
         role: Begins::InEpochs(ModeName::Picolog),
         closed: How::Serial,
         commits: &[DMA],
@@ -343,7 +321,7 @@ const SCENES: &[Scene] = &[
         end: None,
     },
     Scene {
-        file: &HANDLES,
+        code: HANDLES,
         role: Begins::InEpochs(ModeName::OrderSize),
         closed: How::Serial,
         commits: &[],
@@ -353,7 +331,7 @@ const SCENES: &[Scene] = &[
         end: None,
     },
     Scene {
-        file: &HANDLES,
+        code: HANDLES,
         role: Begins::Replayed(INTERRUPTED),
         closed: How::Limit,
         commits: &[CHUNK_OF_2, STEP],
