@@ -114,14 +114,27 @@ $ run plan.toml
     g 113 0 0 chunk 5, g 115 0 0 serial 0, g 122 0 0 chunk 5, g 124 0 0 serial 0, g 131 0 0 chunk 5, \
     g 133 0 0 serial 0, g 138 0 0 chunk 3, g 140 0 0 serial 0, r Ran 77, r Closed 32, r Granted 32, events 141, \
     commits 32, s 0 complete 32
+# The first log in version 2, with 15 threads still.
+< a.log hex: 444C524E 01010000 64000000 20000000 20000000 00000000000000000000000000000000 00000000*4
 $ migrate a.log b.log
 = Done migrated 68
 > b.log hex: 444C524E 02010F00 64000000 20000000 20000000 \
     0000000000000000000000000000000000000000000000000000000000000000 00000000*4
-# Replayed and walked in version 2, which says that the sphere has 15 threads.
+# Walked and replayed in version 2, which says that the sphere has 15 threads.
 < a.elf code: 00F00413 00100893 02400513 00000613 00000073 FFF40413 FE0416E3 00000893 00000073 00000893 00000073
 < a.log hex: 444C524E 02010F00 64000000 20000000 20000000 \
     0000000000000000000000000000000000000000000000000000000000000000 00000000*4
+$ walk a.elf 4096 a.log
+= Done account: c 0 0 4, c 1 0 0, c 2 0 5, c 3 0 0, c 4 0 5, c 5 0 0, c 6 0 5, c 7 0 0, c 8 0 5, c 9 0 0, c 10 0 5, \
+    c 11 0 0, c 12 0 5, c 13 0 0, c 14 0 5, c 15 0 0, c 16 0 5, c 17 0 0, c 18 0 5, c 19 0 0, c 20 0 5, c 21 0 0, \
+    c 22 0 5, c 23 0 0, c 24 0 5, c 25 0 0, c 26 0 5, c 27 0 0, c 28 0 5, c 29 0 0, c 30 0 3, c 31 0 0, \
+    t 0 00000024 ended:4294967292 00000000 0 x10=FFFFFFFC, t 1 00000024 live 00000000 0, \
+    t 2 00000024 live 00000000 0, t 3 00000024 live 00000000 0, t 4 00000024 live 00000000 0, \
+    t 5 00000024 live 00000000 0, t 6 00000024 live 00000000 0, t 7 00000024 live 00000000 0, \
+    t 8 00000024 live 00000000 0, t 9 00000024 live 00000000 0, t 10 00000024 live 00000000 0, \
+    t 11 00000024 live 00000000 0, t 12 00000024 live 00000000 0, t 13 00000024 live 00000000 0, \
+    t 14 00000024 live 00000000 0, m 00000000 1304F000930810001305400213060000730000001304F4FFE31604FE9308, \
+    m 00000020 730000009308000073, end complete 32
 < plan.toml plan: replay
 < s.txt
 $ run plan.toml
@@ -143,17 +156,6 @@ $ run plan.toml
     g 113 0 0 chunk 5, g 115 0 0 serial 0, g 122 0 0 chunk 5, g 124 0 0 serial 0, g 131 0 0 chunk 5, \
     g 133 0 0 serial 0, g 138 0 0 chunk 3, g 140 0 0 serial 0, r Ran 77, r Closed 32, r Granted 32, events 141, \
     commits 32, s 0 complete 32
-$ walk a.elf 4096 a.log
-= Done account: c 0 0 4, c 1 0 0, c 2 0 5, c 3 0 0, c 4 0 5, c 5 0 0, c 6 0 5, c 7 0 0, c 8 0 5, c 9 0 0, c 10 0 5, \
-    c 11 0 0, c 12 0 5, c 13 0 0, c 14 0 5, c 15 0 0, c 16 0 5, c 17 0 0, c 18 0 5, c 19 0 0, c 20 0 5, c 21 0 0, \
-    c 22 0 5, c 23 0 0, c 24 0 5, c 25 0 0, c 26 0 5, c 27 0 0, c 28 0 5, c 29 0 0, c 30 0 3, c 31 0 0, \
-    t 0 00000024 ended:4294967292 00000000 0 x10=FFFFFFFC, t 1 00000024 live 00000000 0, \
-    t 2 00000024 live 00000000 0, t 3 00000024 live 00000000 0, t 4 00000024 live 00000000 0, \
-    t 5 00000024 live 00000000 0, t 6 00000024 live 00000000 0, t 7 00000024 live 00000000 0, \
-    t 8 00000024 live 00000000 0, t 9 00000024 live 00000000 0, t 10 00000024 live 00000000 0, \
-    t 11 00000024 live 00000000 0, t 12 00000024 live 00000000 0, t 13 00000024 live 00000000 0, \
-    t 14 00000024 live 00000000 0, m 00000000 1304F000930810001305400213060000730000001304F4FFE31604FE9308, \
-    m 00000020 730000009308000073, end complete 32
 # Recorded in version 2, the last spawn answers 15.
 < a.elf code: 00F00413 00100893 02400513 00000613 00000073 FFF40413 FE0416E3 00000893 00000073 00000893 00000073
 < plan.toml plan: record, mode = \"order-only\", version = 2
