@@ -75,8 +75,8 @@ const TWO_PIECES: &str = "
 < loop.elf code: 0000006F
 $ run loop.toml
 = Done events 6000, commits 2000, s 0 record 2000
-> loop.log hex: 444C524E 01000000 64000000 D0070000 D0070000 00*1000 D0070000 0100*2000 00000000*3
 ! loop.toml loop.txt loop.txt loop.elf loop.log loop.log loop.log account.txt
+> loop.log hex: 444C524E 01000000 64000000 D0070000 D0070000 00*1000 D0070000 0100*2000 00000000*3
 # The log is read by three calls, the last at its end, and then by none.
 < loop.elf code: 0000006F
 < loop.log hex: 444C524E 01000000 64000000 D0070000 D0070000 00*1000 D0070000 0100*2000 00000000*3
